@@ -1,0 +1,5 @@
+pub mod Cases
+pub mod Lists
+pub mod Says
+pub mod Tests
+pub mod Word

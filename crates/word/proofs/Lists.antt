@@ -1,0 +1,124 @@
+-- Loops that test every element, and a stretch of a list that is read or written. Assumes nothing.
+use Prim.Native.Nat.{ℕ, _+_, _-_, _≤_, _<_}
+use mathlib.Core.Path.{_≡_, refl, sym, ap, _∙_}
+use mathlib.Core.Bool.{Bool, true, false}
+use mathlib.Core.List.{List, _++_, append-assoc, append-nil}
+use native.Mathlib.Omega.{arith}
+use native.Mathlib.Numerals.{add-one}
+use native.Mathlib.Nat.{zero-add, add-sub-of-le, add-sub-cancel-left}
+use lib.ListN.{length, set, getD, take, drop, length-drop, take-append-drop, drop-of-length-le}
+use lib.Seq.{paste, paste-zero, paste-suc, length-paste, drop-paste, drop-cons, drop-length, take-length, take-at, drop-at, take-append-le, drop-append-le, length-take-le, drop-drop, getD-take, getD-drop}
+use Rattle.word.specs.Lists.{every, everyTwo, range, splice}
+
+-- ---- a loop that answers false early: "the rest decides", b ≡ every f (drop i l)
+module _ {A : Type 0} where
+  module _ (f : A → Bool) (d : A) (l : List A) (i : ℕ) (b : Bool) where
+    pub every-more : i < length l → f (getD l i d) ≡ true → b ≡ every f (drop i l) → b ≡ every f (drop (i + 1) l)
+    unfolding every
+    every-more h t q = q ∙ rw (drop-cons l i d h, t, add-one)
+
+    pub every-fails : i < length l → f (getD l i d) ≡ false → b ≡ every f (drop i l) → false ≡ b
+    unfolding every
+    every-fails h t q = sym (q ∙ rw (drop-cons l i d h, t))
+
+    pub every-ends : length l ≤ i → b ≡ every f (drop i l) → true ≡ b
+    unfolding every
+    every-ends h q = sym (q ∙ rw (drop-of-length-le l h))
+
+  module _ (f : A → A → Bool) (d : A) (l : List A) (i : ℕ) (b : Bool) where
+    pub two-more : i < length l → every (f (getD l i d)) (drop (i + 1) l) ≡ true → b ≡ everyTwo f (drop i l) → b ≡ everyTwo f (drop (i + 1) l)
+    unfolding everyTwo
+    two-more h t q = let u = rw add-one at t in q ∙ rw (drop-cons l i d h, u, add-one)
+
+    pub two-fails : i < length l → every (f (getD l i d)) (drop (i + 1) l) ≡ false → b ≡ everyTwo f (drop i l) → false ≡ b
+    unfolding everyTwo
+    two-fails h t q = let u = rw add-one at t in sym (q ∙ rw (drop-cons l i d h, u))
+
+    pub two-ends : length l ≤ i → b ≡ everyTwo f (drop i l) → true ≡ b
+    unfolding everyTwo
+    two-ends h q = sym (q ∙ rw (drop-of-length-le l h))
+
+-- ---- a stretch that is read
+pub length-range : (l : List ℕ) (a n : ℕ) → a + n ≤ length l → length (range l a n) ≡ n
+unfolding range
+length-range l a n h = length-take-le n (drop a l) (rw length-drop (omega arith))
+
+pub getD-range : (l : List ℕ) (a n i : ℕ) → i < n → getD (range l a n) i 0 ≡ getD l (a + i) 0
+unfolding range
+getD-range l a n i h = rw (getD-take, getD-drop)
+
+-- what a part lent as `&l[a..a + n]` holds
+pub range-lent : (l : List ℕ) (a n : ℕ) → take (a + n - a) (drop a l) ≡ range l a n
+unfolding range
+range-lent l a n = rw add-sub-cancel-left
+
+-- ---- a stretch that is written
+pub length-splice : (l : List ℕ) (a : ℕ) (vs : List ℕ) → a + length vs ≤ length l → length (splice l a vs) ≡ length l
+unfolding splice
+length-splice l a vs h = length-paste l a vs (length vs) h (omega arith)
+
+-- what was written is read
+pub range-splice-same : (l : List ℕ) (a : ℕ) (vs : List ℕ) → a + length vs ≤ length l → range (splice l a vs) a (length vs) ≡ vs
+unfolding splice range
+range-splice-same l a vs h =
+    ap (λ (m : List ℕ). take (length vs) m)
+    (ap (drop a) (append-assoc (take a l) (take (length vs) vs) (drop (a + length vs) l))
+    ∙ drop-at (take a l) _ a (length-take-le a l (omega arith)))
+    ∙ ap (λ (m : List ℕ). take (length vs) (m ++ drop (a + length vs) l)) (take-length vs)
+    ∙ take-at vs _ (length vs) refl
+
+-- a stretch that lies in the first of two lists
+front : (p q : List ℕ) (to n : ℕ) → to + n ≤ length p → take n (drop to (p ++ q)) ≡ take n (drop to p)
+front p q to n h =
+    ap (take n) (drop-append-le to p q (omega arith)) ∙ take-append-le n (drop to p) q (rw length-drop (omega arith))
+
+-- what stands before the written stretch, and after it, is as it was
+pub range-splice-before : (l : List ℕ) (a : ℕ) (vs : List ℕ) (to n : ℕ) → to + n ≤ a → a + length vs ≤ length l → range (splice l a vs) to n ≡ range l to n
+unfolding splice range
+range-splice-before l a vs to n h k =
+    let s : length (take a l) ≡ a = length-take-le a l (omega arith) in
+    ap (λ (m : List ℕ). take n (drop to m)) (append-assoc (take a l) (take (length vs) vs) (drop (a + length vs) l))
+    ∙ front (take a l) _ to n (omega arith)
+    ∙ sym (front (take a l) (drop a l) to n (omega arith))
+    ∙ ap (λ (m : List ℕ). take n (drop to m)) (take-append-drop a l)
+
+pub range-splice-after : (l : List ℕ) (a : ℕ) (vs : List ℕ) (to n : ℕ) → a + length vs ≤ to → a + length vs ≤ length l → range (splice l a vs) to n ≡ range l to n
+unfolding splice range
+range-splice-after l a vs to n h k =
+    ap (take n)
+    (ap (λ (j : ℕ). drop j (splice l a vs)) (sym (add-sub-of-le h))
+    ∙ sym (drop-drop (to - (a + length vs)) (a + length vs) (splice l a vs))
+    ∙ ap (drop (to - (a + length vs))) (drop-paste l a vs (length vs) (omega arith) (omega arith))
+    ∙ drop-drop (to - (a + length vs)) (a + length vs) l
+    ∙ ap (λ (j : ℕ). drop j l) (add-sub-of-le h))
+
+-- written twice at one place: the second stands
+pub splice-splice : (l : List ℕ) (a : ℕ) (vs ws : List ℕ) → length vs ≡ length ws → a + length vs ≤ length l → splice (splice l a vs) a ws ≡ splice l a ws
+unfolding splice
+splice-splice l a vs ws e k =
+    rw (← e)
+    (ap (λ (m : List ℕ). m ++ take (length vs) ws ++ drop (a + length vs) (splice l a vs))
+    (ap (take a) (append-assoc (take a l) (take (length vs) vs) (drop (a + length vs) l)) ∙ take-at (take a l) _ a (length-take-le a l (omega arith)))
+    ∙ ap (λ (m : List ℕ). take a l ++ take (length vs) ws ++ m) (drop-paste l a vs (length vs) (omega arith) (omega arith)))
+
+-- all of it replaced
+pub splice-whole : (l vs : List ℕ) → length vs ≡ length l → splice l 0 vs ≡ vs
+unfolding splice
+splice-whole l vs e = rw (take-length, zero-add, e, drop-length) (append-nil vs)
+
+-- ---- the loop that writes a stretch: l with the first i numbers of s from place a on
+unfoldable pub copied : List ℕ → ℕ → List ℕ → ℕ → List ℕ
+copied l a s i = paste l a s i
+
+pub copied-none : (l : List ℕ) (a : ℕ) (s : List ℕ) → l ≡ copied l a s 0
+unfolding copied
+copied-none l a s = paste-zero l a s
+
+pub copied-more : (l : List ℕ) (a : ℕ) (s : List ℕ) (i : ℕ) (e : List ℕ) (v : ℕ) → a + i < length l → i < length s → v ≡ getD s i 0 → e ≡ copied l a s i
+    → set e (a + i) v ≡ copied l a s (i + 1)
+unfolding copied
+copied-more l a s i e v h k w q = rw (q, w, add-one) (paste-suc l a s i 0 h k)
+
+pub copied-all : (l : List ℕ) (a : ℕ) (s : List ℕ) (i : ℕ) (e : List ℕ) → length s ≡ i → e ≡ copied l a s i → e ≡ splice l a s
+unfolding copied splice
+copied-all l a s i e h q = rw (q, ← h)

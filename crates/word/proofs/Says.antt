@@ -1,0 +1,101 @@
+-- Tests that say facts, put together as the tests are. Assumes nothing.
+use mathlib.Core.Path.{_≡_, refl, sym, _∙_}
+use mathlib.Core.Bool.{Bool, true, false, not, _&&_, _||_, false≢true, true≢false}
+use Prim.Native.Nat.{ℕ, zero, suc, _+_, _≤_, _<_}
+use native.Mathlib.Omega.{arith}
+use mathlib.Core.List.{List, [], _∷_}
+use lib.ListN.{length, getD}
+use lib.Dec.{leb, ltb, eqb}
+use borrow.Author.Tests.{ltb-true, leb-true, eqb-true, lt-ltb, le-leb, eq-eqb, ne-eqb, lt-leb}
+use Rattle.word.specs.Lists.{every}
+use Rattle.word.specs.Runs.{within, apart, Apart, Says}
+use Rattle.word.proofs.Cases.{by-eq, by-lt, and-left, and-right, or-not}
+
+pub says-eq : (m n : ℕ) → Says (eqb m n) (m ≡ n)
+says-eq m n = record { fact = eqb-true m n; test = eq-eqb m n }
+
+pub says-lt : (m n : ℕ) → Says (ltb m n) (m < n)
+says-lt m n = record { fact = ltb-true m n; test = lt-ltb m n }
+
+pub says-le : (m n : ℕ) → Says (leb m n) (m ≤ n)
+says-le m n = record { fact = leb-true m n; test = le-leb m n }
+
+and-both : (a b : Bool) → a ≡ true → b ≡ true → (a && b) ≡ true
+and-both a b p q = rw (p, q)
+
+pub says-and : {a b : Bool} {P Q : Type 0} → Says a P → Says b Q → Says (a && b) (P × Q)
+says-and {a} {b} s t = record {
+  fact = λ h. (s .fact (and-left a b h), t .fact (and-right a b h));
+  test = λ h. and-both a b (s .test (h .0)) (t .test (h .1));
+}
+
+-- if a then b
+imp-of : (a b : Bool) → (a ≡ true → b ≡ true) → (not a || b) ≡ true
+imp-of true b f = f refl
+imp-of false b f = refl
+
+pub says-imp : {a b : Bool} {P Q : Type 0} → Says a P → Says b Q → Says (not a || b) (P → Q)
+says-imp {a} {b} s t = record {
+  fact = λ h p. t .fact (or-not a b h (s .test p));
+  test = λ f. imp-of a b (λ h. t .test (f (s .fact h)));
+}
+
+not-of : (a : Bool) → (a ≡ true → ⊥) → not a ≡ true
+not-of true f = absurd (f refl)
+not-of false f = refl
+
+not-is : (a : Bool) → not a ≡ true → a ≡ true → ⊥
+not-is true h q = false≢true h
+not-is false h q = false≢true q
+
+pub says-not : {a : Bool} {P : Type 0} → Says a P → Says (not a) (P → ⊥)
+says-not {a} s = record { fact = λ h p. not-is a h (s .test p); test = λ f. not-of a (λ h. f (s .fact h)) }
+
+-- a test that says a fact in another wording
+pub says-as : {b : Bool} {P Q : Type 0} → Says b P → (P → Q) → (Q → P) → Says b Q
+says-as s f g = record { fact = λ h. f (s .fact h); test = λ q. s .test (g q) }
+
+-- a test of every element says the fact of each place
+module _ (f : ℕ → Bool) where
+  pub every-at : (l : List ℕ) (i : ℕ) → i < length l → every f l ≡ true → f (getD l i 0) ≡ true
+  unfolding every
+  every-at [] i h q = absurd (omega arith)
+  every-at (x ∷ xs) zero h q = and-left (f x) (every f xs) q
+  every-at (x ∷ xs) (suc i) h q = every-at xs i (omega arith) (and-right (f x) (every f xs) q)
+
+  every-of : (l : List ℕ) → ((i : ℕ) → i < length l → f (getD l i 0) ≡ true) → every f l ≡ true
+  unfolding every
+  every-of [] h = refl
+  every-of (x ∷ xs) h = and-both (f x) (every f xs) (h 0 (omega arith)) (every-of xs (λ i k. h (suc i) (omega arith)))
+
+  pub says-every : (l : List ℕ) {P : ℕ → Type 0} → ((x : ℕ) → Says (f x) (P x)) → Says (every f l) ((i : ℕ) → i < length l → P (getD l i 0))
+  says-every l s = record {
+    fact = λ h i k. s (getD l i 0) .fact (every-at l i k h);
+    test = λ g. every-of l (λ i k. s (getD l i 0) .test (g i k));
+  }
+
+-- runs
+pub says-within : (a n b m : ℕ) → Says (within a n b m) ((b ≤ a) × (a + n ≤ b + m))
+unfolding within
+says-within a n b m = says-and (says-le b a) (says-le (a + n) (b + m))
+
+apart-each : (a n b m : ℕ) → apart a n b m ≡ true → Apart a n b m
+unfolding apart
+apart-each a n b m q i c d e f =
+    true≢false (sym q ∙ rw (ne-eqb n 0 (λ z. omega arith), ne-eqb m 0 (λ z. omega arith), lt-leb (a + n) b (omega arith), lt-leb (b + m) a (omega arith)))
+
+each-apart : (a n b m : ℕ) → Apart a n b m → apart a n b m ≡ true
+unfolding apart
+each-apart a n b m w =
+    by-eq n 0 (λ z. rw (eq-eqb n 0 z))
+    (λ z. by-eq m 0 (λ y. rw (ne-eqb n 0 z, eq-eqb m 0 y))
+    (λ y. by-lt b (a + n)
+    (λ c. by-lt a (b + m)
+    (λ d. by-lt a b
+    (λ e. absurd (w b (omega arith) (omega arith) (omega arith) (omega arith)))
+    (λ e. absurd (w a (omega arith) (omega arith) (omega arith) (omega arith))))
+    (λ d. rw (ne-eqb n 0 z, ne-eqb m 0 y, lt-leb (a + n) b c, le-leb (b + m) a d)))
+    (λ c. rw (ne-eqb n 0 z, ne-eqb m 0 y, le-leb (a + n) b c))))
+
+pub says-apart : (a n b m : ℕ) → Says (apart a n b m) (Apart a n b m)
+says-apart a n b m = record { fact = apart-each a n b m; test = each-apart a n b m }

@@ -1,0 +1,49 @@
+use native.Mathlib.Omega.{arith}
+use borrow.Author.Needs.{needs}
+use Rattle.word.proofs.store_field.Statement.{statement}
+use Rattle.word.proofs.store_field.Tie as tie
+
+enum-told : tie.Need-enum-told
+enum-told c = search needs
+
+mul-result : tie.Need-mul-result
+mul-result c = search needs
+
+mul-result-2 : tie.Need-mul-result-2
+mul-result-2 c = search needs
+
+add-result : tie.Need-add-result
+add-result c = search needs
+
+add-result-2 : tie.Need-add-result-2
+add-result-2 c = search needs
+
+enum-told-2 : tie.Need-enum-told-2
+enum-told-2 c = search needs
+
+mul-result-3 : tie.Need-mul-result-3
+mul-result-3 c = search needs
+
+add-result-3 : tie.Need-add-result-3
+add-result-3 c = search needs
+
+returns : tie.Need-returns
+returns c = rw (c .enum-told .given .1) (omega arith)
+
+returns-2 : tie.Need-returns-2
+returns-2 c = rw (c .enum-told2 .given .1) (omega arith)
+
+pub store-field-spec : {M : Type 1} → statement M
+store-field-spec =
+    tie.close
+    (tie.spec
+    enum-told
+    mul-result
+    mul-result-2
+    add-result
+    add-result-2
+    enum-told-2
+    mul-result-3
+    add-result-3
+    returns
+    returns-2)

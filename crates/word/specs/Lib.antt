@@ -1,0 +1,5 @@
+pub mod Word
+pub mod Sorts
+pub mod Fault
+pub mod Lists
+pub mod Runs

@@ -1,0 +1,28 @@
+-- Lists of numbers: a test of every element and of every pair, and a stretch of a list that is read or written.
+use Prim.Native.Nat.{ℕ, _+_}
+use mathlib.Core.Bool.{Bool, true, _&&_}
+use mathlib.Core.List.{List, [], _∷_, _++_}
+use lib.ListN.{length, take, drop, replicate}
+
+module _ {A : Type 0} where
+  -- f holds of every element
+  unfoldable pub every : (A → Bool) → List A → Bool
+  every f [] = true
+  every f (x ∷ xs) = f x && every f xs
+
+  -- f holds of every two elements, the earlier one first
+  unfoldable pub everyTwo : (A → A → Bool) → List A → Bool
+  everyTwo f [] = true
+  everyTwo f (x ∷ xs) = every (f x) xs && everyTwo f xs
+
+-- the n numbers from place a on
+unfoldable pub range : List ℕ → ℕ → ℕ → List ℕ
+range l a n = take n (drop a l)
+
+-- the list l with vs in the place of as many numbers from place a on
+unfoldable pub splice : List ℕ → ℕ → List ℕ → List ℕ
+splice l a vs = take a l ++ take (length vs) vs ++ drop (a + length vs) l
+
+-- the list l with n zeros from place a on
+unfoldable pub cleared : List ℕ → ℕ → ℕ → List ℕ
+cleared l a n = splice l a (replicate n 0)

@@ -1,0 +1,83 @@
+// A core word and its fields, the three sorts of number, an area and a fault: what every other crate builds on.
+ghost use mathlib.Core.Path.{_≡_};
+ghost use Prim.Native.Nat.{_+_, _<_, _^_};
+ghost use lib.ListN.{getD};
+ghost use Rattle.word.specs.Word.{fieldOf, fieldStored, aField, aStored};
+ghost use Rattle.word.specs.Sorts.{absoluteOf};
+
+// A half of a program word. Its field is bits 33-18 of the left half, bits 15-0 of the right one.
+pub enum Half {
+    Left,
+    Right,
+}
+
+// An address counted from the Program Name.
+pub struct Relative(pub u64);
+
+// An address in core.
+pub struct Absolute(pub u64);
+
+// The number of an I/O reference or of a core table.
+pub struct Reference(pub u64);
+
+// The words of core that a load is given. Two areas for one load (#107) change this struct and `placed`.
+pub struct Area {
+    pub at: Absolute,
+    pub size: u64,
+}
+
+// Why a block is refused: the number that 01 gives it. The place of the fault (#105) will stand beside it.
+pub struct Fault {
+    pub number: u64,
+}
+
+// The only way from a relative address to an absolute one: by an area's address.
+pub fn placed(area: Area, r: Relative) -> Absolute
+    requires { ⌜ area .at .0 + r .0 < 2 ^ 64 ⌝ }
+    ensures { λ a. ⌜ a ≡ absoluteOf area r ⌝ }
+{
+    Absolute(area.at.0 + r.0)
+}
+
+// The word at place i; 0 past the end, as in the definitions.
+pub fn word_at(words: &[u64], i: usize) -> u64
+    ensures { λ r. ⌜ r ≡ getD (now (words .entry)) i 0 ⌝ }
+{
+    if i < words.len() { words[i] } else { 0 }
+}
+
+// The field of a half.
+pub fn field(w: u64, h: Half) -> u64
+    ensures { λ r. ⌜ r ≡ fieldOf h w ⌝ }
+{
+    match h {
+        Half::Left => w / 262144 % 65536,
+        Half::Right => w % 65536,
+    }
+}
+
+// The word with v for the field of a half.
+pub fn store_field(w: u64, h: Half, v: u64) -> u64
+    requires { ⌜ (w < 2 ^ 36) × (v < 2 ^ 16) ⌝ }
+    ensures { λ r. ⌜ r ≡ fieldStored h w v ⌝ }
+{
+    match h {
+        Half::Left => w / 17179869184 * 17179869184 + v * 262144 + w % 262144,
+        Half::Right => w / 65536 * 65536 + v,
+    }
+}
+
+// Bits 25-22, which 001 calls the a-field.
+pub fn a_field(w: u64) -> u64
+    ensures { λ r. ⌜ r ≡ aField w ⌝ }
+{
+    w / 4194304 % 16
+}
+
+// The word with v for bits 25-22.
+pub fn store_a(w: u64, v: u64) -> u64
+    requires { ⌜ (w < 2 ^ 36) × (v < 2 ^ 4) ⌝ }
+    ensures { λ r. ⌜ r ≡ aStored w v ⌝ }
+{
+    w / 67108864 * 67108864 + v * 4194304 + w % 4194304
+}
