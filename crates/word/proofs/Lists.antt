@@ -1,12 +1,12 @@
 -- Loops that test every element, and a stretch of a list that is read or written. Assumes nothing.
-use Prim.Native.Nat.{ℕ, _+_, _-_, _≤_, _<_}
+use Prim.Native.Nat.{ℕ, _+_, _-_, min, _≤_, _<_}
 use mathlib.Core.Path.{_≡_, refl, sym, ap, _∙_}
 use mathlib.Core.Bool.{Bool, true, false}
 use mathlib.Core.List.{List, _++_, append-assoc, append-nil}
 use native.Mathlib.Omega.{arith}
 use native.Mathlib.Numerals.{add-one}
 use native.Mathlib.Nat.{zero-add, add-sub-of-le, add-sub-cancel-left}
-use lib.ListN.{length, set, getD, take, drop, length-drop, take-append-drop, drop-of-length-le}
+use lib.ListN.{length, length-take, set, getD, take, drop, length-drop, take-append-drop, drop-of-length-le}
 use lib.Seq.{paste, paste-zero, paste-suc, length-paste, drop-paste, drop-cons, drop-length, take-length, take-at, drop-at, take-append-le, drop-append-le, length-take-le, drop-drop, getD-take, getD-drop}
 use Rattle.word.specs.Lists.{every, everyTwo, range, splice}
 
@@ -42,6 +42,10 @@ module _ {A : Type 0} where
 pub length-range : (l : List ℕ) (a n : ℕ) → a + n ≤ length l → length (range l a n) ≡ n
 unfolding range
 length-range l a n h = length-take-le n (drop a l) (rw length-drop (omega arith))
+
+pub length-range-min : (l : List ℕ) (a n : ℕ) → length (range l a n) ≡ min n (length l - a)
+unfolding range
+length-range-min l a n = simp (length-take, length-drop)
 
 pub getD-range : (l : List ℕ) (a n i : ℕ) → i < n → getD (range l a n) i 0 ≡ getD l (a + i) 0
 unfolding range

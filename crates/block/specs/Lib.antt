@@ -1,0 +1,4 @@
+pub mod Fieldata
+pub mod Records
+pub mod Checksum
+pub mod Block

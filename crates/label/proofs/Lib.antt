@@ -1,0 +1,3 @@
+pub mod Name
+pub mod Tables
+pub mod Carried

@@ -1,0 +1,39 @@
+-- The modification record. "Words 1 to 254 hold entries, split across blocks where needed (001): two words for types 0, 2 and 3,
+-- three for type 12. House: only the third word's bits 15-0 matter, the minimum length. .. With no entries there is no
+-- modification block." The entries of types 0, 2 and 3 come first, so a core table's entry follows them and the tables before it.
+use Prim.Native.Nat.{ℕ, _+_, _-_, _*_, _/_, _%_}
+use mathlib.Core.Bool.{Bool, cond}
+use lib.Dec.{eqb, leb}
+use Rattle.word.specs.Word.{part}
+use Rattle.word.specs.declared.Reference.{Reference}
+use Rattle.label.specs.declared.Label.{Label}
+use Rattle.label.specs.Label.{ioCount}
+use Rattle.modification.specs.declared.Spot.{Spot}
+
+-- the entry words of a modification block: words 1 to 254
+abbrev pub wordsInBlock : ℕ
+wordsInBlock = 254
+
+-- how many words all entries take
+abbrev pub entryWords : Label → ℕ
+entryWords l = 2 * ioCount l + 3 * l .tables
+
+-- how many blocks hold them: none where there is no entry
+abbrev pub entryBlocks : Label → ℕ
+entryBlocks l = (entryWords l + (wordsInBlock - 1)) / wordsInBlock
+
+-- the third word of table t's entry, counted from 0 through all entry words
+abbrev pub lengthWord : Label → Reference → ℕ
+lengthWord l t = 2 * ioCount l + 3 * t .0 + 2
+
+-- the block, and the word of the block, at which it stands
+abbrev pub lengthSpot : Label → Reference → Spot
+lengthSpot l t = record { block = lengthWord l t / wordsInBlock; word = lengthWord l t % wordsInBlock + 1 }
+
+-- "only the third word's bits 15-0 matter, the minimum length"
+abbrev pub minimum : ℕ → ℕ
+minimum w = part 0 16 w
+
+-- "The assigned length must be at least this, and equal to it when the label's bit 35 is set (16)."
+abbrev pub lengthFits : Bool → ℕ → ℕ → Bool
+lengthFits strict least len = cond strict (eqb len least) (leb least len)
