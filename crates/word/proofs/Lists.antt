@@ -1,8 +1,8 @@
 -- Loops that test every element, and a stretch of a list that is read or written. Assumes nothing.
-use Prim.Native.Nat.{ℕ, _+_, _-_, min, _≤_, _<_}
+use Prim.Native.Nat.{ℕ, suc, _+_, _-_, min, _≤_, _<_}
 use mathlib.Core.Path.{_≡_, refl, sym, ap, _∙_}
 use mathlib.Core.Bool.{Bool, true, false}
-use mathlib.Core.List.{List, _++_, append-assoc, append-nil}
+use mathlib.Core.List.{List, _++_, append-assoc, append-nil, [], _∷_}
 use native.Mathlib.Omega.{arith}
 use native.Mathlib.Numerals.{add-one}
 use native.Mathlib.Nat.{zero-add, add-sub-of-le, add-sub-cancel-left}
@@ -50,6 +50,23 @@ length-range-min l a n = simp (length-take, length-drop)
 pub getD-range : (l : List ℕ) (a n i : ℕ) → i < n → getD (range l a n) i 0 ≡ getD l (a + i) 0
 unfolding range
 getD-range l a n i h = rw (getD-take, getD-drop)
+
+pub length-range-most : (l : List ℕ) (a n : ℕ) → length (range l a n) ≤ n
+length-range-most l a n = omega (arith, length-range-min l a n)
+
+-- a loop from place i up to place last: what is left is `range l i (last - i)`; a turn takes its first number, at the end none is left
+module _ (l : List ℕ) (i last : ℕ) where
+  pub range-turn : i < last → last ≤ length l → range l i (last - i) ≡ getD l i 0 ∷ range l (i + 1) (last - (i + 1))
+  unfolding range
+  range-turn h k =
+      let e : last - i ≡ suc (last - (i + 1)) = omega arith in
+      rw (e, drop-cons l i 0 (omega arith), add-one i)
+
+  pub range-end : last ≤ i → range l i (last - i) ≡ []
+  unfolding range
+  range-end h =
+      let e : last - i ≡ 0 = omega arith in
+      rw e
 
 -- what a part lent as `&l[a..a + n]` holds
 pub range-lent : (l : List ℕ) (a n : ℕ) → take (a + n - a) (drop a l) ≡ range l a n

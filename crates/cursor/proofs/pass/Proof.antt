@@ -1,0 +1,23 @@
+-- `pass`: from what `width` ensures; no indicator is over 13 bits. Assumes nothing.
+use native.Mathlib.Omega.{arith}
+use Rattle.indicator.proofs.Places.{width-most}
+use Rattle.cursor.specs.Cursor.{pastOf}
+use borrow.Author.Needs.{needs}
+use Rattle.cursor.proofs.pass.Statement.{statement}
+use Rattle.cursor.proofs.pass.Tie as tie
+
+width-requires : tie.Need-width-requires
+width-requires c κs = search needs
+
+add-t4 : tie.Need-add-t4
+add-t4 c = omega (arith, width-most (c .before .before .args .m))
+
+shl-t6 : tie.Need-shl-t6
+shl-t6 c = omega (arith, width-most (c .before .before .before .args .m))
+
+returns : tie.Need-returns
+unfolding pastOf
+returns c = rw (c .before .before .width .ensures)
+
+pub pass-spec : {M : Type 1} → statement M
+pass-spec = tie.close (tie.spec width-requires add-t4 shl-t6 returns)

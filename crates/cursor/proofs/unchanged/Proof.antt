@@ -1,0 +1,28 @@
+-- `unchanged`: the tests of the code are those of the definition. Assumes nothing.
+use Rattle.word.proofs.Tests.{tests}
+use Rattle.cursor.specs.Cursor.{plainWords}
+use borrow.Author.Needs.{needs}
+use Rattle.cursor.proofs.unchanged.Statement.{statement}
+use Rattle.cursor.proofs.unchanged.Tie as tie
+
+mul-got : tie.Need-mul-got
+mul-got c = search needs
+
+returns : tie.Need-returns
+unfolding plainWords
+returns c = search tests
+
+returns-2 : tie.Need-returns-2
+unfolding plainWords
+returns-2 c = search tests
+
+returns-3 : tie.Need-returns-3
+unfolding plainWords
+returns-3 c = search tests
+
+returns-4 : tie.Need-returns-4
+unfolding plainWords
+returns-4 c = search tests
+
+pub unchanged-spec : {M : Type 1} → statement M
+unchanged-spec = tie.close (tie.spec mul-got returns returns-2 returns-3 returns-4)

@@ -1,0 +1,66 @@
+-- Reading a group's indicators with the next 64 bits at hand as one number. What a cursor sees is said by `Sees`, in terms of the
+-- bits that crate indicator defines; that it reads the same indicators is proved in proofs/Reading.antt.
+use Prim.Native.Nat.{ℕ, _+_, _-_, _*_, _/_, _%_, _^_, _≤_, _<_}
+use mathlib.Core.Path.{_≡_}
+use mathlib.Core.Bool.{cond, _&&_}
+use mathlib.Core.List.{List}
+use lib.ListN.{getD}
+use lib.Dec.{ltb, leb, eqb}
+use Rattle.word.specs.declared.Half.the-variants.{Left, Right}
+use Rattle.word.specs.Word.{part, isSet, fieldOf}
+use Rattle.indicator.specs.declared.Indicator.{Indicator}
+use Rattle.indicator.specs.declared.Indicator.the-variants.{Same, Change, Long}
+use Rattle.indicator.specs.Indicator.{bitsBefore, numberAt, widthOf}
+use Rattle.cursor.specs.declared.Cursor.{Cursor}
+use Rattle.cursor.specs.declared.Turn.{Turn}
+
+-- the cursor sees the bits of the n words before place `end`: those of the words taken so far, from its place on, and 0s past
+-- them; and unless all n words are taken, d bits at least are there
+pub record Sees (block : List ℕ) (end n : ℕ) (c : Cursor) (d : ℕ) : Type 0 where
+  pub few : c .words ≤ n
+  pub seen : c .ahead ≡ numberAt (bitsBefore block end (c .words)) (c .at) 64
+  pub near : 36 * c .words ≤ c .at + 64
+  pub room : c .words < n → c .at + d ≤ 36 * c .words
+
+-- the indicator that comes next, of a field that holds f: bit 63 tells a change, bits 62-60 are the type, bits 59-51 the nine more
+unfoldable pub lookOf : ℕ → ℕ → Indicator
+lookOf ahead f =
+    cond (ltb ahead (2 ^ 63)) Same
+    (cond (eqb (part 60 3 ahead) 2 && isSet 15 f) (Long (part 51 9 ahead))
+    (Change (part 60 3 ahead)))
+
+-- past an indicator; past that of a field that holds f; past a word's two
+unfoldable pub pastOf : Cursor → Indicator → Cursor
+pastOf c m = record { at = c .at + widthOf m; ahead = c .ahead * 2 ^ widthOf m % 2 ^ 64; words = c .words }
+
+unfoldable pub pastField : Cursor → ℕ → Cursor
+pastField c f = pastOf c (lookOf (c .ahead) f)
+
+unfoldable pub pastWord : Cursor → ℕ → Cursor
+pastWord c w = pastField (pastField c (fieldOf Left w)) (fieldOf Right w)
+
+-- one indicator word more, behind the bits at hand, where fewer than 29 of these are left
+unfoldable pub refilled : List ℕ → ℕ → ℕ → Cursor → Cursor
+refilled block end n c =
+    cond (leb n (c .words)) c
+    (cond (ltb (c .at + 28) (36 * c .words)) c
+    (record { at = c .at; ahead = c .ahead + getD block (end - 1 - c .words) 0 % 2 ^ 36 * 2 ^ (c .at + 28 - 36 * c .words) % 2 ^ 64; words = c .words + 1 }))
+
+-- how many of the program words left have no change at a glance: two 0s each, of the bits at hand
+unfoldable pub plainWords : Cursor → ℕ → ℕ
+plainWords c left =
+    cond (eqb (c .ahead) 0)
+    (cond (ltb (36 * c .words) (c .at)) 0
+    (cond (ltb ((36 * c .words - c .at) / 2) left) ((36 * c .words - c .at) / 2) left))
+    0
+
+-- past k words without change
+abbrev pub pastPlain : Cursor → ℕ → Cursor
+pastPlain c k = record { at = c .at + 2 * k; ahead = 0; words = c .words }
+
+-- from the program word at place i on: words without change at once, or one word
+unfoldable pub turnOf : List ℕ → ℕ → Cursor → ℕ → Turn
+turnOf block last c i =
+    cond (eqb (plainWords c (last - i)) 0)
+    (record { cursor = pastWord c (getD block i 0); i = i + 1 })
+    (record { cursor = pastPlain c (plainWords c (last - i)); i = i + plainWords c (last - i) })

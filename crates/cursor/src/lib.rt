@@ -1,0 +1,157 @@
+// The indicators of a group read fast: the next 64 bits are held in one number, and where all of them are 0 many words without
+// change are passed at once. What is read is what the crate indicator defines.
+ghost use mathlib.Core.Path.{_≡_};
+ghost use Prim.Native.Nat.{_+_, _-_, _*_, _<_, _≤_, _^_};
+ghost use lib.ListN.{length};
+ghost use Rattle.word.specs.Lists.{range};
+ghost use Rattle.indicator.specs.Indicator.{InBlock, bitsBefore, afterAll, justEnough};
+ghost use Rattle.cursor.specs.Cursor.{Sees, lookOf, pastOf, pastField, pastWord, refilled, plainWords, turnOf};
+use indicator::Indicator;
+use word::Half;
+
+// The place of the next bit; the 64 bits from there on, the first one leftmost, as far as the indicator words taken so far have
+// them; and how many words these are.
+pub struct Cursor {
+    pub at: usize,
+    pub ahead: u64,
+    pub words: usize,
+}
+
+// A cursor, and the place of the next program word.
+struct Turn {
+    cursor: Cursor,
+    i: usize,
+}
+
+// The indicator that comes next, of a field that holds f.
+pub fn look(ahead: u64, f: u64) -> Indicator
+    ensures { λ r. ⌜ r ≡ lookOf ahead f ⌝ }
+{
+    if ahead < 9223372036854775808 {
+        return Indicator::Same;
+    }
+    let t = ahead / 1152921504606846976 % 8;
+    if t != 2 {
+        return Indicator::Change(t);
+    }
+    if f / 32768 % 2 == 1 {
+        Indicator::Long(ahead / 2251799813685248 % 512)
+    } else {
+        Indicator::Change(t)
+    }
+}
+
+// Past an indicator.
+pub fn pass(c: Cursor, m: Indicator) -> Cursor
+    requires { ⌜ c .at + 13 < 2 ^ 64 ⌝ }
+    ensures { λ r. ⌜ r ≡ pastOf c m ⌝ }
+{
+    let k = indicator::width(m);
+    Cursor {
+        at: c.at + k,
+        ahead: c.ahead << k,
+        words: c.words,
+    }
+}
+
+// Past the indicator of a field that holds f.
+fn pass_field(c: Cursor, f: u64) -> Cursor
+    requires { ⌜ c .at + 13 < 2 ^ 64 ⌝ }
+    ensures { λ r. ⌜ r ≡ pastField c f ⌝ }
+{
+    pass(c, look(c.ahead, f))
+}
+
+// Past a program word's two indicators.
+pub fn pass_word(c: Cursor, w: u64) -> Cursor
+    requires { ⌜ c .at + 26 < 2 ^ 64 ⌝ }
+    ensures { λ r. ⌜ r ≡ pastWord c w ⌝ }
+{
+    let next = pass_field(c, word::field(w, Half::Left));
+    pass_field(next, word::field(w, Half::Right))
+}
+
+// One indicator word more where fewer than 29 bits are at hand; a program word's two indicators need 26 at most.
+pub fn refill(block: &[u64], end: usize, n: usize, c: Cursor) -> Cursor
+    requires { ⌜ (InBlock (now block) end n) × (Sees (now block) end n c 0) × (c .at + 64 < 2 ^ 64) ⌝ }
+    ensures { λ r. ⌜ r ≡ refilled (now (block .entry)) end n c ⌝ }
+{
+    let at = c.at;
+    let words = c.words;
+    if n <= words {
+        return c;
+    }
+    if at + 28 < 36 * words {
+        return c;
+    }
+    let w = block[end - 1 - words] % 68719476736;
+    Cursor {
+        at,
+        ahead: c.ahead + (w << (at + 28 - 36 * words)),
+        words: words + 1,
+    }
+}
+
+// How many of the program words that are left have no change, as far as the bits at hand tell at a glance.
+pub fn unchanged(c: Cursor, left: usize) -> usize
+    requires { ⌜ 36 * c .words < 2 ^ 64 ⌝ }
+    ensures { λ r. ⌜ r ≡ plainWords c left ⌝ }
+{
+    let got = 36 * c.words;
+    if c.ahead != 0 {
+        return 0;
+    }
+    if got < c.at {
+        return 0;
+    }
+    let k = (got - c.at) / 2;
+    if k < left { k } else { left }
+}
+
+// From the program word at place i on: words without change at once, or one word.
+fn move_on(block: &[u64], last: usize, c: Cursor, i: usize) -> Turn
+    requires { ⌜ (i < last) × (last ≤ length (now block)) × (36 * c .words < 2 ^ 64) × (c .at + 26 * (last - i) < 2 ^ 64) ⌝ }
+    ensures { λ r. ⌜ r ≡ turnOf (now (block .entry)) last c i ⌝ }
+{
+    let k = unchanged(c, last - i);
+    if k != 0 {
+        return Turn {
+            cursor: Cursor {
+                at: c.at + 2 * k,
+                ahead: 0,
+                words: c.words,
+            },
+            i: i + k,
+        };
+    }
+    let w = block[i];
+    let next = pass_word(c, w);
+    Turn {
+        cursor: next,
+        i: i + 1,
+    }
+}
+
+// Whether the indicators of the words from place first up to place last need just the n words before place end.
+pub fn count_fits(block: &[u64], first: usize, last: usize, end: usize, n: usize) -> bool
+    requires { ⌜ (InBlock (now block) end n) × (last ≤ length (now block)) × (length (now block) ≤ 65536) ⌝ }
+    ensures { λ r. ⌜ r ≡ justEnough (afterAll (bitsBefore (now (block .entry)) end n) 0 (range (now (block .entry)) first (last - first))) n ⌝ }
+{
+    let mut c = Cursor {
+        at: 0,
+        ahead: 0,
+        words: 0,
+    };
+    let mut i = first;
+    while i < last {
+        let full = refill(block, end, n, c);
+        let t = move_on(block, last, full, i);
+        c = t.cursor;
+        i = t.i;
+    }
+    if c.at <= 36 * n {
+        36 * n < c.at + 36
+    } else {
+        false
+    }
+}
