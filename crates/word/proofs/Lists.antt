@@ -1,14 +1,15 @@
 -- Loops that test every element, and a stretch of a list that is read or written. Assumes nothing.
-use Prim.Native.Nat.{ℕ, suc, _+_, _-_, min, _≤_, _<_}
+use Prim.Native.Nat.{ℕ, zero, suc, _+_, _-_, min, _≤_, _<_}
 use mathlib.Core.Path.{_≡_, refl, sym, ap, _∙_}
 use mathlib.Core.Bool.{Bool, true, false}
 use mathlib.Core.List.{List, _++_, append-assoc, append-nil, [], _∷_}
 use native.Mathlib.Omega.{arith}
 use native.Mathlib.Numerals.{add-one}
 use native.Mathlib.Nat.{zero-add, add-sub-of-le, add-sub-cancel-left}
-use lib.ListN.{length, length-take, set, getD, take, drop, length-drop, take-append-drop, drop-of-length-le}
-use lib.Seq.{paste, paste-zero, paste-suc, length-paste, drop-paste, drop-cons, drop-length, take-length, take-at, drop-at, take-append-le, drop-append-le, length-take-le, drop-drop, getD-take, getD-drop}
-use Rattle.word.specs.Lists.{every, everyTwo, range, splice}
+use lib.ListN.{length, length-take, set, getD, take, drop, length-drop, take-append-drop, drop-of-length-le, length-append, List·getD-append}
+use lib.Seq.{paste, paste-zero, paste-suc, length-paste, drop-paste, drop-cons, drop-length, take-length, take-at, drop-at, take-append-le, drop-append-le, length-take-le, drop-drop, getD-take, getD-drop, getD-at}
+use Rattle.word.proofs.Cases.{by-lt}
+use Rattle.word.specs.Lists.{every, everyTwo, tab, range, splice}
 
 -- ---- a loop that answers false early: "the rest decides", b ≡ every f (drop i l)
 module _ {A : Type 0} where
@@ -37,6 +38,22 @@ module _ {A : Type 0} where
     pub two-ends : length l ≤ i → b ≡ everyTwo f (drop i l) → true ≡ b
     unfolding everyTwo
     two-ends h q = sym (q ∙ rw (drop-of-length-le l h))
+
+-- ---- a list by what stands at each place
+module _ {A : Type 0} (f : ℕ → A) where
+  pub length-tab : (n : ℕ) → length (tab f n) ≡ n
+  unfolding tab
+  length-tab zero = refl
+  length-tab (suc n) = length-append (tab f n) (f n ∷ []) ∙ ap (λ (k : ℕ). k + 1) (length-tab n) ∙ add-one n
+
+  pub getD-tab : (n k : ℕ) (d : A) → k < n → getD (tab f n) k d ≡ f k
+  unfolding tab
+  getD-tab zero k d h = absurd (omega arith)
+  getD-tab (suc n) k d h =
+      let e = length-tab n in
+      by-lt k n
+      (λ l. List·getD-append (tab f n) (f n ∷ []) d k (omega arith) ∙ getD-tab n k d l)
+      (λ g. let s : k ≡ n = omega arith in rw s (getD-at (tab f n) (f n) [] d n e))
 
 -- ---- a stretch that is read
 pub length-range : (l : List ℕ) (a n : ℕ) → a + n ≤ length l → length (range l a n) ≡ n

@@ -1,5 +1,6 @@
--- Lists of numbers: a test of every element and of every pair, and a stretch of a list that is read or written.
-use Prim.Native.Nat.{ℕ, _+_}
+-- Lists: a test of every element and of every pair, a list by what stands at each place, and a stretch of a list of numbers that is
+-- read or written.
+use Prim.Native.Nat.{ℕ, zero, suc, _+_}
 use mathlib.Core.Bool.{Bool, true, _&&_}
 use mathlib.Core.List.{List, [], _∷_, _++_}
 use lib.ListN.{length, take, drop, replicate}
@@ -14,6 +15,11 @@ module _ {A : Type 0} where
   unfoldable pub everyTwo : (A → A → Bool) → List A → Bool
   everyTwo f [] = true
   everyTwo f (x ∷ xs) = every (f x) xs && everyTwo f xs
+
+  -- f of 0, 1, 2 and so on, n elements in all
+  unfoldable pub tab : (ℕ → A) → ℕ → List A
+  tab f zero = []
+  tab f (suc n) = tab f n ++ (f n ∷ [])
 
 -- the n numbers from place a on
 unfoldable pub range : List ℕ → ℕ → ℕ → List ℕ

@@ -1,0 +1,144 @@
+-- What a field becomes and what becomes of its word, proved once for either half. Assumes nothing.
+use mathlib.Core.Path.{_≡_, refl, sym, ap, _∙_}
+use mathlib.Core.Bool.{Bool, false}
+use mathlib.Core.List.{List}
+use mathlib.Core.Logic.{_⊎_}
+use Prim.Native.Nat.{ℕ, _+_, _-_, _<_, _≤_, _^_}
+use native.Mathlib.Omega.{arith}
+use lib.ListN.{length, getD}
+use lib.Dec.{ltb, leb, eqb}
+use borrow.Author.Tests.{ltb-true, ne-eqb}
+use Rattle.word.specs.declared.Area.{Area}
+use Rattle.word.specs.declared.Half.{Half}
+use Rattle.word.specs.declared.Half.the-variants.{Left, Right}
+use Rattle.word.specs.declared.Reference.{Reference}
+use Rattle.word.specs.declared.Relative.{Relative}
+use Rattle.word.specs.Word.{part, put, bit, isSet, fieldOf, aField}
+use Rattle.word.proofs.Word.{across, across-stored, part-below, part-put, bit-put, stored-word, a-stored-word}
+use Rattle.word.proofs.Cases.{both, when, by-eq}
+use Rattle.lists.specs.declared.Table.{Table}
+use Rattle.lists.specs.Kept.{tableAt, tablesIn}
+use Rattle.lists.proofs.Kept.{tables-at, table-below}
+use Rattle.field.specs.declared.Becomes.{Becomes}
+use Rattle.field.specs.declared.Becomes.the-variants.{Value, Bad}
+use Rattle.field.specs.declared.Changed.the-variants.{Word}
+use Rattle.field.specs.Field.{Assignments, valued, plusOrMinus, movedField, table, addressOrLength, referred, pair, minusZero, short, long, constant, switch, unit, reference, relative, becomes, lowestOf, widthOf, putBack, fieldStep, Fits}
+
+-- ---- a table of the kept lists
+table-kept : (area : Area) (ws rs : List ℕ) (k : Reference) → k .0 < length rs → table (tablesIn area ws rs) k ≡ tableAt area ws rs (k .0)
+unfolding table
+table-kept area ws rs k h = tables-at area ws rs (k .0) _ h
+
+address-or-length-below : (sized : Bool) (t : Table) → (t .at .0 < 2 ^ 24) × (t .len < 2 ^ 20) → addressOrLength sized t < 2 ^ 24
+address-or-length-below sized t h = both (λ (n : ℕ). n < 2 ^ 24) sized (omega arith) (h .0)
+
+pub address-or-length-kept : (sized : Bool) (area : Area) (ws rs : List ℕ) (k : Reference) (t : Table) → area .at .0 + area .size ≤ 65536 → k .0 < length rs
+    → t ≡ tableAt area ws rs (k .0) → (addressOrLength sized t ≡ addressOrLength sized (table (tablesIn area ws rs) k)) × (addressOrLength sized t < 2 ^ 24)
+address-or-length-kept sized area ws rs k t fits h e =
+    rw (e, table-kept area ws rs k h)
+    (refl, address-or-length-below sized (tableAt area ws rs (k .0)) (table-below area ws rs (k .0) (omega arith)))
+
+-- ---- whatever the changed bits become fits them: 16 bits, or 4 for type 100
+valued-fits : (v : ℕ) → Fits 16 (valued v)
+unfolding valued
+valued-fits v = when (Fits 16) (ltb v 65536) (ltb-true v 65536) (λ q. tt)
+
+pub moved-fits : (area : Area) (r : Relative) → Fits 16 (movedField area r)
+unfolding movedField
+moved-fits area r = valued-fits _
+
+plus-or-minus-fits : (minus : Bool) (base amount : ℕ) → Fits 16 (plusOrMinus minus base amount)
+unfolding plusOrMinus
+plus-or-minus-fits minus base amount =
+    both (Fits 16) minus (both (Fits 16) (leb amount base) (valued-fits (base - amount)) tt) (valued-fits (base + amount))
+
+module _ (ts : List Table) where
+  referred-fits : (sized : Bool) (k : Reference) (minus : Bool) (amount : ℕ) → Fits 16 (referred ts sized k minus amount)
+  unfolding referred
+  referred-fits sized k minus amount = both (Fits 16) (ltb (k .0) (length ts)) (plus-or-minus-fits minus _ amount) tt
+
+  pub pair-fits : (f : ℕ) → Fits 16 (pair ts f)
+  unfolding pair
+  pair-fits f = both (Fits 16) (isSet 15 f) tt (both (Fits 16) (ltb (part 0 7 f) (length ts)) (referred-fits false _ _ _) tt)
+
+  pub constant-fits : (f x : ℕ) → Fits 16 (constant ts f x)
+  unfolding constant long short
+  constant-fits f x =
+      both (Fits 16) (isSet 15 f)
+      (both (Fits 16) (ltb (part 0 14 f) 64) tt (both (Fits 16) (isSet 7 x) tt (referred-fits _ _ _ _)))
+      (both (Fits 16) (minusZero (isSet 14 f) (part 0 6 f)) tt (referred-fits _ _ _ _))
+
+module _ (ios : List ℕ) (near : ℕ) where
+  pub switch-fits : (h : Half) (k : Reference) → Fits 4 (switch ios near h k)
+  unfolding switch
+  switch-fits Left k = both (Fits 4) (leb near (k .0)) tt (part-below 0 4 (getD ios (k .0) 0))
+  switch-fits Right k = tt
+
+  pub unit-fits : (all : ℕ) (k : Reference) → Fits 16 (unit ios near all k)
+  unfolding unit
+  unit-fits all k =
+      both (Fits 16) (ltb (k .0) near) tt (both (Fits 16) (ltb (k .0) all) (valued-fits (getD ios (k .0) 0)) tt)
+
+pub becomes-fits : (a : Assignments) (h : Half) (t w x : ℕ) → Fits (widthOf t) (becomes a h t w x)
+unfolding becomes
+becomes-fits a h t w x = by-eq t 4
+    (λ e. rw e (switch-fits (a .ios) (a .near) h (reference (aField w))))
+    (λ n. rw (ne-eqb t 4 n)
+    (both (Fits 16) (eqb t 0) (moved-fits (a .area) (relative (fieldOf h w)))
+    (both (Fits 16) (eqb t 1) (pair-fits (a .tables) (fieldOf h w))
+    (both (Fits 16) (eqb t 2) (constant-fits (a .tables) (fieldOf h w) x)
+    (both (Fits 16) (eqb t 7) (unit-fits (a .ios) (a .near) (a .all) (reference (fieldOf h w))) tt)))))
+
+-- ---- what becomes of the word: u is w with, in its n bits from bit k up, the value that b gives
+pub record Stored (k n w : ℕ) (b : Becomes) (u : ℕ) : Type 0 where
+  pub value : ℕ
+  pub given : b ≡ Value value
+  pub fits : value < 2 ^ n
+  pub word : u ≡ put k n w value
+
+back-stored : (k n w : ℕ) (b : Becomes) (u : ℕ) → Fits n b → putBack k n w b ≡ Word u → Stored k n w b u
+unfolding putBack
+back-stored k n w (Value v) u f e = record { value = v; given = refl; fits = f; word = cc }
+back-stored k n w (Bad x) u f e = let z : _≡_ {A = ℕ} 0 1 = cc in absurd (omega arith)
+
+put-word : (h : Half) (t w v : ℕ) → w < 2 ^ 36 → v < 2 ^ widthOf t → put (lowestOf h t) (widthOf t) w v < 2 ^ 36
+put-word h t w v = by-eq t 4 (λ e. rw e (a-stored-word w v)) (λ n. rw (ne-eqb t 4 n) (stored-word h w v))
+
+-- only a left half has type 100, and that leaves the right field alone
+switch-left : (a : Assignments) (h : Half) (t w x v : ℕ) → t ≡ 4 → becomes a h t w x ≡ Value v → h ≡ Left
+unfolding becomes switch
+switch-left a Left t w x v q g = refl
+switch-left a Right t w x v q g =
+    let b : becomes a Right 4 w x ≡ Value v = rw q at g in
+    let z : _≡_ {A = ℕ} 0 1 = cc in
+    absurd (omega arith)
+
+across-kept : (h : Half) (t w v : ℕ) → (t ≡ 4 → h ≡ Left) → v < 2 ^ widthOf t → fieldOf (across h) (put (lowestOf h t) (widthOf t) w v) ≡ fieldOf (across h) w
+across-kept h t w v g = by-eq t 4
+    (λ q. rw (q, g q) (λ f. omega arith))
+    (λ n. rw (ne-eqb t 4 n) (across-stored h w v))
+
+module _ (a : Assignments) (h : Half) (t w x u : ℕ) (e : fieldStep a h t w x ≡ Word u) where
+  pub step-stored : Stored (lowestOf h t) (widthOf t) w (becomes a h t w x) u
+  unfolding fieldStep
+  step-stored = back-stored (lowestOf h t) (widthOf t) w (becomes a h t w x) u (becomes-fits a h t w x) e
+
+  -- the changed bits read back as the value
+  pub step-reads : becomes a h t w x ≡ Value (part (lowestOf h t) (widthOf t) u)
+  step-reads =
+      let s = step-stored in
+      s .given ∙ ap Value (sym (ap (part (lowestOf h t) (widthOf t)) (s .word) ∙ part-put (lowestOf h t) (widthOf t) w (s .value) (s .fits)))
+
+  -- a word stays a word
+  pub step-word : w < 2 ^ 36 → u < 2 ^ 36
+  step-word hw = let s = step-stored in rw (s .word) (put-word h t w (s .value) hw (s .fits))
+
+  -- every other bit is as it was
+  pub step-bit : (j : ℕ) → (j < lowestOf h t) ⊎ (lowestOf h t + widthOf t ≤ j) → bit j u ≡ bit j w
+  step-bit j o = let s = step-stored in rw (s .word) (bit-put (lowestOf h t) (widthOf t) j w (s .value) (s .fits) o)
+
+  -- and so is the other half's field
+  pub step-across : fieldOf (across h) u ≡ fieldOf (across h) w
+  step-across =
+      let s = step-stored in
+      rw (s .word) (across-kept h t w (s .value) (λ q. switch-left a h t w x (s .value) q (s .given)) (s .fits))

@@ -1,0 +1,261 @@
+// One field of a program word: what it becomes by its modification type, or why it is refused.
+ghost use mathlib.Core.Path.{_≡_};
+ghost use Prim.Native.Nat.{_+_, _<_, _≤_, _^_};
+ghost use lib.ListN.{length, getD};
+ghost use Rattle.word.specs.Word.{lowest};
+ghost use Rattle.lists.specs.Kept.{numbersIn, tablesIn};
+ghost use Rattle.field.specs.Field.{valued, plusOrMinus, movedField, table, addressOrLength, referred, pair, minusZero, short, long, constant, switch, unit, Fits, putBack, assigned, fieldStep};
+use word::Area;
+use word::Fault;
+use word::Half;
+use word::Reference;
+use word::Relative;
+
+// What a field becomes.
+pub enum Becomes {
+    Value(u64),
+    Bad(Fault),
+}
+
+// What a word becomes.
+pub enum Changed {
+    Word(u64),
+    Refused(Fault),
+}
+
+// The area of a load, how many of its I/O references are of types 0 and 2, and how many of types 0, 2 and 3.
+pub struct Setting {
+    pub area: Area,
+    pub near: u64,
+    pub all: u64,
+}
+
+// The word w with the field of half h changed by modification type t; x is the nine more indicator bits of a long type 010.
+pub fn field_step(
+    s: Setting,
+    words: &[u64],
+    ranks: &[u64],
+    ios: &[u64],
+    h: Half,
+    t: u64,
+    w: u64,
+    x: u64,
+) -> Changed
+    requires { ⌜ (s .area .at .0 + s .area .size ≤ 65536) × (w < 2 ^ 36) ⌝ }
+    ensures { λ r. ⌜ r ≡ fieldStep (assigned s (now (words .entry)) (now (ranks .entry)) (now (ios .entry))) h t w x ⌝ }
+{
+    let area = s.area;
+    let f = word::field(w, h);
+    match t {
+        0 => put_back(h, w, moved_field(area, Relative(f))),
+        1 => put_back(h, w, pair_of(words, ranks, area, f)),
+        2 => put_back(h, w, constant_of(words, ranks, area, f, x)),
+        4 => put_a(
+            w,
+            switch_of(ios, s.near, s.all, h, Reference(word::a_field(w))),
+        ),
+        7 => put_back(h, w, unit_of(ios, s.near, s.all, Reference(f))),
+        _ => Changed::Refused(Fault { number: 19 }),
+    }
+}
+
+// Type 000.
+fn moved_field(area: Area, r: Relative) -> Becomes
+    requires { ⌜ (area .at .0 ≤ 65536) × (r .0 < 2 ^ 16) ⌝ }
+    ensures { λ b. ⌜ b ≡ movedField area r ⌝ }
+{
+    let a = word::placed(area, r);
+    valued_of(a.0)
+}
+
+// Type 001: bits 13-7 are the number of the table with the address, bits 6-0 of the one with the length.
+fn pair_of(words: &[u64], ranks: &[u64], area: Area, f: u64) -> Becomes
+    requires { ⌜ area .at .0 + area .size ≤ 65536 ⌝ }
+    ensures { λ b. ⌜ b ≡ pair (tablesIn area (now (words .entry)) (now (ranks .entry))) f ⌝ }
+{
+    if f / 32768 % 2 == 1 {
+        return Becomes::Bad(Fault { number: 19 });
+    }
+    let k = Reference(f / 128 % 128);
+    let l = Reference(f % 128);
+    if l.0 < ranks.len() as u64 {
+        let amount = address_or_length(words, ranks, area, true, l);
+        return refer(words, ranks, area, false, k, f / 16384 % 2 == 1, amount);
+    }
+    Becomes::Bad(Fault { number: 20 })
+}
+
+// Type 010: long where bit 15 is set.
+fn constant_of(words: &[u64], ranks: &[u64], area: Area, f: u64, x: u64) -> Becomes
+    requires { ⌜ area .at .0 + area .size ≤ 65536 ⌝ }
+    ensures { λ b. ⌜ b ≡ constant (tablesIn area (now (words .entry)) (now (ranks .entry))) f x ⌝ }
+{
+    if f / 32768 % 2 == 1 {
+        return long_of(words, ranks, area, f, x);
+    }
+    short_of(words, ranks, area, f)
+}
+
+// Type 010, short.
+fn short_of(words: &[u64], ranks: &[u64], area: Area, f: u64) -> Becomes
+    requires { ⌜ area .at .0 + area .size ≤ 65536 ⌝ }
+    ensures { λ b. ⌜ b ≡ short (tablesIn area (now (words .entry)) (now (ranks .entry))) f ⌝ }
+{
+    let minus = f / 16384 % 2 == 1;
+    let amount = f % 64;
+    if minus_zero(minus, amount) {
+        return Becomes::Bad(Fault { number: 19 });
+    }
+    let k = Reference(f / 64 % 128);
+    refer(words, ranks, area, f / 8192 % 2 == 1, k, minus, amount)
+}
+
+// Type 010, long: the number, and whether its length is meant, are in the nine more bits.
+fn long_of(words: &[u64], ranks: &[u64], area: Area, f: u64, x: u64) -> Becomes
+    requires { ⌜ area .at .0 + area .size ≤ 65536 ⌝ }
+    ensures { λ b. ⌜ b ≡ long (tablesIn area (now (words .entry)) (now (ranks .entry))) f x ⌝ }
+{
+    let amount = f % 16384;
+    if amount < 64 {
+        return Becomes::Bad(Fault { number: 19 });
+    }
+    if x / 128 % 2 == 1 {
+        return Becomes::Bad(Fault { number: 19 });
+    }
+    let k = Reference(x % 128);
+    refer(
+        words,
+        ranks,
+        area,
+        x / 256 % 2 == 1,
+        k,
+        f / 16384 % 2 == 1,
+        amount,
+    )
+}
+
+// Type 100: only a left half has it.
+fn switch_of(ios: &[u64], near: u64, all: u64, h: Half, k: Reference) -> Becomes
+    ensures { λ b. ⌜ b ≡ switch (numbersIn (now (ios .entry)) all) near h k ⌝ }
+{
+    match h {
+        Half::Left => {
+            if near <= k.0 {
+                return Becomes::Bad(Fault { number: 20 });
+            }
+            Becomes::Value(io_of(ios, all, k) % 16)
+        }
+        Half::Right => Becomes::Bad(Fault { number: 19 }),
+    }
+}
+
+// Type 111: the numbers of the type 3 entries run from `near` up to `all`.
+fn unit_of(ios: &[u64], near: u64, all: u64, k: Reference) -> Becomes
+    ensures { λ b. ⌜ b ≡ unit (numbersIn (now (ios .entry)) all) near all k ⌝ }
+{
+    if k.0 < near {
+        return Becomes::Bad(Fault { number: 20 });
+    }
+    if k.0 < all {
+        return valued_of(io_of(ios, all, k));
+    }
+    Becomes::Bad(Fault { number: 20 })
+}
+
+// The number assigned to I/O reference k; 0 past the last, as in the definitions.
+fn io_of(ios: &[u64], all: u64, k: Reference) -> u64
+    ensures { λ r. ⌜ r ≡ getD (numbersIn (now (ios .entry)) all) (k .0) 0 ⌝ }
+{
+    if k.0 < all {
+        return lists::io_number(ios, k);
+    }
+    0
+}
+
+// The address of table k, or its length.
+fn address_or_length(words: &[u64], ranks: &[u64], area: Area, sized: bool, k: Reference) -> u64
+    requires { ⌜ (area .at .0 + area .size ≤ 65536) × (k .0 < length (now ranks)) ⌝ }
+    ensures { λ r. ⌜ (r ≡ addressOrLength sized (table (tablesIn area (now (words .entry)) (now (ranks .entry))) k)) × (r < 2 ^ 24) ⌝ }
+{
+    let t = lists::table_at(words, ranks, area, k);
+    if sized {
+        return t.len;
+    }
+    t.at.0
+}
+
+// A table's address or length, plus or minus an amount. The address is absolute already.
+fn refer(
+    words: &[u64],
+    ranks: &[u64],
+    area: Area,
+    sized: bool,
+    k: Reference,
+    minus: bool,
+    amount: u64,
+) -> Becomes
+    requires { ⌜ (area .at .0 + area .size ≤ 65536) × (amount < 2 ^ 24) ⌝ }
+    ensures { λ b. ⌜ b ≡ referred (tablesIn area (now (words .entry)) (now (ranks .entry))) sized k minus amount ⌝ }
+{
+    if k.0 < ranks.len() as u64 {
+        return plus_or_minus(
+            minus,
+            address_or_length(words, ranks, area, sized, k),
+            amount,
+        );
+    }
+    Becomes::Bad(Fault { number: 20 })
+}
+
+// A form that takes 0 away.
+fn minus_zero(minus: bool, amount: u64) -> bool
+    ensures { λ r. ⌜ r ≡ minusZero minus amount ⌝ }
+{
+    if minus { amount == 0 } else { false }
+}
+
+// The sum or the difference, which does not wrap.
+fn plus_or_minus(minus: bool, base: u64, amount: u64) -> Becomes
+    requires { ⌜ (base < 2 ^ 24) × (amount < 2 ^ 24) ⌝ }
+    ensures { λ b. ⌜ b ≡ plusOrMinus minus base amount ⌝ }
+{
+    if minus {
+        if amount <= base {
+            return valued_of(base - amount);
+        }
+        return Becomes::Bad(Fault { number: 21 });
+    }
+    valued_of(base + amount)
+}
+
+// A value from 0 to 65,535, else 21.
+fn valued_of(v: u64) -> Becomes
+    ensures { λ b. ⌜ b ≡ valued v ⌝ }
+{
+    if v < 65536 {
+        return Becomes::Value(v);
+    }
+    Becomes::Bad(Fault { number: 21 })
+}
+
+// The word with what the field of half h becomes.
+fn put_back(h: Half, w: u64, b: Becomes) -> Changed
+    requires { ⌜ (w < 2 ^ 36) × (Fits 16 b) ⌝ }
+    ensures { λ r. ⌜ r ≡ putBack (lowest h) 16 w b ⌝ }
+{
+    match b {
+        Becomes::Value(v) => Changed::Word(word::store_field(w, h, v)),
+        Becomes::Bad(fault) => Changed::Refused(fault),
+    }
+}
+
+// The word with what its bits 25-22 become.
+fn put_a(w: u64, b: Becomes) -> Changed
+    requires { ⌜ (w < 2 ^ 36) × (Fits 4 b) ⌝ }
+    ensures { λ r. ⌜ r ≡ putBack 22 4 w b ⌝ }
+{
+    match b {
+        Becomes::Value(v) => Changed::Word(word::store_a(w, v)),
+        Becomes::Bad(fault) => Changed::Refused(fault),
+    }
+}
