@@ -1,11 +1,16 @@
 -- Every P case holds: one theorem over the one list, by computing. Assumes nothing.
+use Prim.Native.Nat.{ℕ}
 use mathlib.Core.Path.{_≡_, refl}
 use mathlib.Core.List.{map}
+use Rattle.word.specs.declared.Half.{Half}
+use Rattle.word.specs.declared.Half.the-variants.{Left, Right}
 use Rattle.block.specs.Fieldata.{spelt}
 use Rattle.block.specs.Records.{modification, program, termination}
 use Rattle.block.specs.Checksum.{sumOf}
-use Rattle.hand_deck.specs.Hand.{Case, cases}
+use Rattle.field.specs.Field.{valued, plusOrMinus, movedField, table, referred, minusZero, short, long, constant, becomes, putBack, fieldStep}
+use Rattle.hand_deck.specs.Hand.{cases}
 
-pub hand : map (λ (c : Case). c .got) cases ≡ map (λ (c : Case). c .said) cases
-unfolding spelt modification program termination sumOf
-hand = refl
+pub hand : (h : Half) → map (λ (c : ℕ × ℕ). c .0) (cases h) ≡ map (λ (c : ℕ × ℕ). c .1) (cases h)
+unfolding spelt modification program termination sumOf valued plusOrMinus movedField table referred minusZero short long constant becomes putBack fieldStep
+hand Left = refl
+hand Right = refl

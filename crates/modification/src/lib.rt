@@ -1,9 +1,12 @@
-// The modification record: how many words and blocks its entries take, where each core table's minimum length stands, and whether
-// an assigned length agrees with it.
+// Whether the assignments fit the file (16): the two lists against the label, and each table's length against the modification
+// record, with how many words and blocks its entries take and where each minimum length stands.
 ghost use mathlib.Core.Path.{_≡_};
 ghost use Prim.Native.Nat.{_<_, _≤_};
+ghost use Rattle.word.specs.Lists.{every};
+ghost use Rattle.lists.specs.Kept.{numbersIn};
 ghost use Rattle.label.specs.Label.{Carried};
 ghost use Rattle.modification.specs.Entries.{entryWords, entryBlocks, lengthSpot, minimum, lengthFits};
+ghost use Rattle.modification.specs.Assignments.{isNear, assignmentsFit};
 use label::Label;
 use word::Reference;
 
@@ -11,6 +14,34 @@ use word::Reference;
 pub struct Spot {
     pub block: u64,
     pub word: u64,
+}
+
+// Whether n I/O numbers, kept as ios, and as many core tables fit the label.
+pub fn assignments_fit(l: Label, ios: &[u64], n: u64, tables: u64) -> bool
+    requires { ⌜ Carried l ⌝ }
+    ensures { λ r. ⌜ r ≡ assignmentsFit l (numbersIn (now (ios .entry)) n) tables ⌝ }
+{
+    if n != l.switches + l.channels + l.units {
+        return false;
+    }
+    if tables != l.tables {
+        return false;
+    }
+    near_fit(ios, l.switches + l.channels)
+}
+
+// Whether each of the first m I/O numbers is one for a jump switch or a channel.
+fn near_fit(ios: &[u64], m: u64) -> bool
+    ensures { λ r. ⌜ r ≡ every isNear (numbersIn (now (ios .entry)) m) ⌝ }
+{
+    let mut k: u64 = 0;
+    while k < m {
+        if 15 < lists::io_number(ios, Reference(k)) {
+            return false;
+        }
+        k += 1;
+    }
+    true
 }
 
 // How many words all entries take.

@@ -7,7 +7,7 @@ use native.Mathlib.Omega.{arith}
 use native.Mathlib.Numerals.{add-one}
 use native.Mathlib.Nat.{zero-add, add-sub-of-le, add-sub-cancel-left}
 use lib.ListN.{length, length-take, set, getD, take, drop, length-drop, take-append-drop, drop-of-length-le, length-append, List·getD-append}
-use lib.Seq.{paste, paste-zero, paste-suc, length-paste, drop-paste, drop-cons, drop-length, take-length, take-at, drop-at, take-append-le, drop-append-le, length-take-le, drop-drop, getD-take, getD-drop, getD-at}
+use lib.Seq.{paste, paste-zero, paste-suc, length-paste, drop-paste, drop-cons, drop-length, take-length, take-at, drop-at, take-append-le, drop-append-le, length-take-le, drop-drop, getD-take, getD-drop, getD-at, take-all}
 use Rattle.word.proofs.Cases.{by-lt}
 use Rattle.word.specs.Lists.{every, everyTwo, tab, range, splice}
 
@@ -54,6 +54,15 @@ module _ {A : Type 0} (f : ℕ → A) where
       by-lt k n
       (λ l. List·getD-append (tab f n) (f n ∷ []) d k (omega arith) ∙ getD-tab n k d l)
       (λ g. let s : k ≡ n = omega arith in rw s (getD-at (tab f n) (f n) [] d n e))
+
+  pub take-tab : (m n : ℕ) → m ≤ n → take m (tab f n) ≡ tab f m
+  unfolding tab
+  take-tab m zero h = let e : m ≡ 0 = omega arith in rw e
+  take-tab m (suc n) h =
+      let e = length-tab n in
+      by-lt m (suc n)
+      (λ l. take-append-le m (tab f n) (f n ∷ []) (omega arith) ∙ take-tab m n (omega arith))
+      (λ g. let s : m ≡ suc n = omega arith in rw s (take-all (suc n) (tab f (suc n)) (omega (arith, length-tab (suc n)))))
 
 -- ---- a stretch that is read
 pub length-range : (l : List ℕ) (a n : ℕ) → a + n ≤ length l → length (range l a n) ≡ n

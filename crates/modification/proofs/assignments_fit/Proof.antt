@@ -1,0 +1,53 @@
+use mathlib.Core.Path.{_∙_}
+use native.Mathlib.Omega.{arith}
+use denote.Ref.{now}
+use borrow.Author.Tests.{eq-eqb, ne-eqb}
+use Rattle.word.proofs.Tests.{tests}
+use Rattle.lists.proofs.Kept.{numbers-length}
+use Rattle.modification.specs.Assignments.{assignmentsFit}
+use Rattle.modification.proofs.Near.{take-numbers}
+use Prim.Native.Nat.{_+_}
+use borrow.Author.Needs.{needs}
+use Rattle.modification.proofs.assignments_fit.Statement.{statement}
+use Rattle.modification.proofs.assignments_fit.Tie as tie
+use Rattle.modification.proofs.assignments_fit.Reads as reads
+use Rattle.modification.proofs.assignments_fit.Lts as lts
+use Rattle.modification.proofs.near_fit.Reads as near-fit-reads
+
+-- src/lib.rt:24:13
+add-if1 : tie.Need-add-if1
+add-if1 c = search needs
+
+-- src/lib.rt:24:13
+add-if1-2 : tie.Need-add-if1-2
+add-if1-2 c = search needs
+
+-- src/lib.rt:25:9
+returns : tie.Need-returns
+unfolding assignmentsFit
+returns c = search (tests, numbers-length)
+
+-- src/lib.rt:28:9
+returns-2 : tie.Need-returns-2
+unfolding assignmentsFit
+returns-2 c = search (tests, numbers-length)
+
+-- src/lib.rt:30:19
+add-near-fit : tie.Need-add-near-fit
+add-near-fit c = search needs
+
+-- src/lib.rt:30:5
+near-fit-requires : tie.Need-near-fit-requires
+near-fit-requires c κs = search needs
+
+-- src/lib.rt:20:1
+returns-3 : tie.Need-returns-3
+unfolding assignmentsFit
+returns-3 c =
+    let a = c .before .before .before .before .before .before .before .before .args in
+    rw (numbers-length (now (a .ios)) (a .n), eq-eqb _ _ (c .before .before .before .before .if1 .left), eq-eqb _ _ (c .before .before .if2 .left), take-numbers (now (a .ios)) (a .l .switches + a .l .channels) (a .n) (omega arith)) (c .near-fit .ensures)
+
+pub assignments-fit-spec : {M : Type 1} → statement M
+assignments-fit-spec =
+    tie.close
+    (tie.spec add-if1 add-if1-2 returns returns-2 add-near-fit near-fit-requires returns-3)
