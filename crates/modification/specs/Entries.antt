@@ -6,29 +6,27 @@ use mathlib.Core.Bool.{Bool, cond}
 use lib.Dec.{eqb, leb}
 use Rattle.word.specs.Word.{part}
 use Rattle.word.specs.declared.Reference.{Reference}
-use Rattle.label.specs.declared.Label.{Label}
-use Rattle.label.specs.Label.{ioCount}
 use Rattle.modification.specs.declared.Spot.{Spot}
 
 -- the entry words of a modification block: words 1 to 254
 abbrev pub wordsInBlock : ℕ
 wordsInBlock = 254
 
--- how many words all entries take
-abbrev pub entryWords : Label → ℕ
-entryWords l = 2 * ioCount l + 3 * l .tables
+-- how many words the entries of io I/O references and as many core tables take
+abbrev pub entryWords : ℕ → ℕ → ℕ
+entryWords io tables = 2 * io + 3 * tables
 
 -- how many blocks hold them: none where there is no entry
-abbrev pub entryBlocks : Label → ℕ
-entryBlocks l = (entryWords l + (wordsInBlock - 1)) / wordsInBlock
+abbrev pub entryBlocks : ℕ → ℕ → ℕ
+entryBlocks io tables = (entryWords io tables + (wordsInBlock - 1)) / wordsInBlock
 
 -- the third word of table t's entry, counted from 0 through all entry words
-abbrev pub lengthWord : Label → Reference → ℕ
-lengthWord l t = 2 * ioCount l + 3 * t .0 + 2
+abbrev pub lengthWord : ℕ → Reference → ℕ
+lengthWord io t = 2 * io + 3 * t .0 + 2
 
 -- the block, and the word of the block, at which it stands
-abbrev pub lengthSpot : Label → Reference → Spot
-lengthSpot l t = record { block = lengthWord l t / wordsInBlock; word = lengthWord l t % wordsInBlock + 1 }
+abbrev pub lengthSpot : ℕ → Reference → Spot
+lengthSpot io t = record { block = lengthWord io t / wordsInBlock; word = lengthWord io t % wordsInBlock + 1 }
 
 -- "only the third word's bits 15-0 matter, the minimum length"
 abbrev pub minimum : ℕ → ℕ

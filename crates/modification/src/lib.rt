@@ -44,28 +44,28 @@ fn near_fit(ios: &[u64], m: u64) -> bool
     true
 }
 
-// How many words all entries take.
-pub fn entry_words(l: Label) -> u64
-    requires { ⌜ Carried l ⌝ }
-    ensures { λ r. ⌜ r ≡ entryWords l ⌝ }
+// How many words the entries of io I/O references and as many core tables take.
+pub fn entry_words(io: u64, tables: u64) -> u64
+    requires { ⌜ (io ≤ 65536) × (tables ≤ 65536) ⌝ }
+    ensures { λ r. ⌜ r ≡ entryWords io tables ⌝ }
 {
-    2 * (l.switches + l.channels + l.units) + 3 * l.tables
+    2 * io + 3 * tables
 }
 
 // How many modification blocks hold them.
-pub fn entry_blocks(l: Label) -> u64
-    requires { ⌜ Carried l ⌝ }
-    ensures { λ r. ⌜ r ≡ entryBlocks l ⌝ }
+pub fn entry_blocks(io: u64, tables: u64) -> u64
+    requires { ⌜ (io ≤ 65536) × (tables ≤ 65536) ⌝ }
+    ensures { λ r. ⌜ r ≡ entryBlocks io tables ⌝ }
 {
-    (entry_words(l) + 253) / 254
+    (entry_words(io, tables) + 253) / 254
 }
 
 // Where the third word of table t's entry stands.
-pub fn length_spot(l: Label, t: Reference) -> Spot
-    requires { ⌜ (Carried l) × (t .0 < 256) ⌝ }
-    ensures { λ r. ⌜ r ≡ lengthSpot l t ⌝ }
+pub fn length_spot(io: u64, t: Reference) -> Spot
+    requires { ⌜ (io ≤ 65536) × (t .0 ≤ 65536) ⌝ }
+    ensures { λ r. ⌜ r ≡ lengthSpot io t ⌝ }
 {
-    let k = 2 * (l.switches + l.channels + l.units) + 3 * t.0 + 2;
+    let k = 2 * io + 3 * t.0 + 2;
     Spot {
         block: k / 254,
         word: k % 254 + 1,

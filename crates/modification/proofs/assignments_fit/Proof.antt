@@ -1,7 +1,6 @@
-use mathlib.Core.Path.{_∙_}
 use native.Mathlib.Omega.{arith}
 use denote.Ref.{now}
-use borrow.Author.Tests.{eq-eqb, ne-eqb}
+use borrow.Author.Tests.{eq-eqb}
 use Rattle.word.proofs.Tests.{tests}
 use Rattle.lists.proofs.Kept.{numbers-length}
 use Rattle.modification.specs.Assignments.{assignmentsFit}
@@ -10,37 +9,27 @@ use Prim.Native.Nat.{_+_}
 use borrow.Author.Needs.{needs}
 use Rattle.modification.proofs.assignments_fit.Statement.{statement}
 use Rattle.modification.proofs.assignments_fit.Tie as tie
-use Rattle.modification.proofs.assignments_fit.Reads as reads
-use Rattle.modification.proofs.assignments_fit.Lts as lts
-use Rattle.modification.proofs.near_fit.Reads as near-fit-reads
 
--- src/lib.rt:24:13
 add-if1 : tie.Need-add-if1
 add-if1 c = search needs
 
--- src/lib.rt:24:13
 add-if1-2 : tie.Need-add-if1-2
 add-if1-2 c = search needs
 
--- src/lib.rt:25:9
 returns : tie.Need-returns
 unfolding assignmentsFit
 returns c = search (tests, numbers-length)
 
--- src/lib.rt:28:9
 returns-2 : tie.Need-returns-2
 unfolding assignmentsFit
 returns-2 c = search (tests, numbers-length)
 
--- src/lib.rt:30:19
 add-near-fit : tie.Need-add-near-fit
 add-near-fit c = search needs
 
--- src/lib.rt:30:5
 near-fit-requires : tie.Need-near-fit-requires
 near-fit-requires c κs = search needs
 
--- src/lib.rt:20:1
 returns-3 : tie.Need-returns-3
 unfolding assignmentsFit
 returns-3 c =

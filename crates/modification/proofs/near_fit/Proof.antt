@@ -9,9 +9,6 @@ use Rattle.modification.specs.Assignments.{isNear}
 use Rattle.modification.proofs.Near.{near-more, near-fails, near-ends}
 use Rattle.modification.proofs.near_fit.Statement.{statement}
 use Rattle.modification.proofs.near_fit.Tie as tie
-use Rattle.modification.proofs.near_fit.Reads as reads
-use Rattle.modification.proofs.near_fit.Lts as lts
-use Rattle.lists.proofs.io_number.Reads as io-number-reads
 
 abbrev Inv-loop : tie.InvT-loop
 Inv-loop ios m k₀ k = (k ≤ m) × (every isNear (numbersIn ios m) ≡ every isNear (drop k (numbersIn ios m)))
@@ -19,35 +16,28 @@ Inv-loop ios m k₀ k = (k ≤ m) × (every isNear (numbersIn ios m) ≡ every i
 abbrev μ-loop : tie.MeasureT-loop
 μ-loop ios m k₀ k = m - k
 
--- src/lib.rt:38:5
 loop-holds : tie.Need-loop-holds Inv-loop μ-loop
 loop-holds c = (omega arith, refl)
 
--- src/lib.rt:39:17
 io-number-requires : tie.Need-io-number-requires Inv-loop μ-loop
 io-number-requires c κs = search needs
 
--- src/lib.rt:40:13
 returns : tie.Need-returns Inv-loop μ-loop
 returns c =
     let l = c .before .before .before .loop in
     near-fails _ _ (l .k) _ _ (omega arith) (c .before .io-number .ensures) (c .if1 .taken) (l .inv .1)
 
--- src/lib.rt:42:9
 add-k : tie.Need-add-k Inv-loop μ-loop
 add-k c = omega arith
 
--- src/lib.rt:38:5
 loop-less : tie.Need-loop-less Inv-loop μ-loop
 loop-less c = omega arith
 
--- src/lib.rt:38:5
 loop-again : tie.Need-loop-again Inv-loop μ-loop
 loop-again c =
     let l = c .before .before .before .loop in
     (omega arith, near-more _ _ (l .k) _ _ (omega arith) (c .before .io-number .ensures) (c .if1 .left) (l .inv .1))
 
--- src/lib.rt:34:1
 returns-2 : tie.Need-returns-2 Inv-loop μ-loop
 returns-2 c =
     let l = c .before .loop in
