@@ -1,0 +1,34 @@
+use mathlib.Core.Path.{sym, _∙_}
+use borrow.Author.Tests.{not-true, not-false}
+use borrow.Author.Needs.{needs}
+use Rattle.stage.proofs.segment_fits.Statement.{statement}
+use Rattle.stage.proofs.segment_fits.Tie as tie
+
+course-fits-requires : tie.Need-course-fits-requires
+course-fits-requires c κs = search needs
+
+returns : tie.Need-returns
+returns c = rw (sym (c .before .course-fits .ensures) ∙ not-true _ (c .if1 .taken))
+
+bank-fits-requires : tie.Need-bank-fits-requires
+bank-fits-requires c κs = search needs
+
+returns-2 : tie.Need-returns-2
+returns-2 c = rw (sym (c .before .before .before .before .course-fits .ensures) ∙ not-false _ (c .before .before .before .if1 .left), sym (c .before .bank-fits .ensures) ∙ not-true _ (c .if2 .taken))
+
+bank-fits-requires-2 : tie.Need-bank-fits-requires-2
+bank-fits-requires-2 c κs = search needs
+
+returns-3 : tie.Need-returns-3
+returns-3 c = rw (sym (c .before .before .before .before .before .before .course-fits .ensures) ∙ not-false _ (c .before .before .before .before .before .if1 .left), sym (c .before .before .before .bank-fits .ensures) ∙ not-false _ (c .before .before .if2 .left)) (c .bank-fits2 .ensures)
+
+pub segment-fits-spec : {M : Type 1} → statement M
+segment-fits-spec =
+    tie.close
+    (tie.spec
+    course-fits-requires
+    returns
+    bank-fits-requires
+    returns-2
+    bank-fits-requires-2
+    returns-3)

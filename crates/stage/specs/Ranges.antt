@@ -1,0 +1,39 @@
+-- The ranges of a stage's numbers, given the load's area, core tables and I/O references (01, "The desk": "each other stored number
+-- is in the range that docs/ lists for it, given the others").
+use Prim.Native.Nat.{ℕ}
+use mathlib.Core.Bool.{Bool, true, _&&_}
+use mathlib.Core.List.{List}
+use lib.ListN.{length, getD}
+use lib.Dec.{leb, ltb}
+use Rattle.word.specs.Runs.{within}
+use Rattle.word.specs.declared.Area.{Area}
+use Rattle.program.specs.declared.Bank.{Bank}
+use Rattle.program.specs.declared.TableSection.{TableSection}
+use Rattle.lists.specs.declared.Table.{Table as CoreTable}
+use Rattle.modification.specs.Entries.{entryBlocks}
+use Rattle.stage.specs.declared.Course.{Course}
+use Rattle.stage.specs.declared.Stage.{Stage}
+use Rattle.stage.specs.declared.Stage.the-variants.{Label, Entry, Segment as segment-due, SegmentGroup, Table, TableGroup, Termination, Complete, Broken}
+
+-- no more references of types 0 and 2 than references, no more table sections than tables
+unfoldable pub courseFits : ℕ → ℕ → Course → Bool
+courseFits io tables c = leb (c .near) io && leb (c .sections) tables
+
+-- a bank lies in the area
+unfoldable pub bankFits : Area → Bank → Bool
+bankFits area b = within (b .at .0) (b .count) 0 (area .size)
+
+-- a table section is of a table that there is, and of no more words than the table has
+unfoldable pub countFits : List CoreTable → TableSection → Bool
+countFits ts t = ltb (t .number .0) (length ts) && leb (t .count) (getD ts (t .number .0) (record { at = record { 0 = 0 }; len = 0 }) .len)
+
+unfoldable pub stageFits : Area → List CoreTable → ℕ → Stage → Bool
+stageFits area ts io Label = true
+stageFits area ts io (Entry c strict b) = courseFits io (length ts) c && ltb b (entryBlocks io (length ts))
+stageFits area ts io (segment-due c) = courseFits io (length ts) c
+stageFits area ts io (SegmentGroup c g) = courseFits io (length ts) c && (bankFits area (g .ibank) && bankFits area (g .dbank))
+stageFits area ts io (Table c t i) = courseFits io (length ts) c && bankFits area i
+stageFits area ts io (TableGroup c t i) = courseFits io (length ts) c && (countFits ts t && bankFits area i)
+stageFits area ts io (Termination i) = bankFits area i
+stageFits area ts io Complete = true
+stageFits area ts io Broken = true
