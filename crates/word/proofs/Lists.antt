@@ -7,7 +7,7 @@ use native.Mathlib.Omega.{arith}
 use native.Mathlib.Numerals.{add-one}
 use native.Mathlib.Nat.{zero-add, add-sub-of-le, add-sub-cancel-left}
 use lib.ListN.{length, length-take, set, getD, take, drop, length-drop, take-append-drop, drop-of-length-le, length-append, List·getD-append}
-use lib.Seq.{paste, paste-zero, paste-suc, length-paste, drop-paste, drop-cons, drop-length, take-length, take-at, drop-at, take-append-le, drop-append-le, length-take-le, drop-drop, getD-take, getD-drop, getD-at, take-all}
+use lib.Seq.{paste, paste-zero, paste-suc, length-paste, drop-paste, drop-cons, drop-length, take-length, take-at, drop-at, take-append-le, drop-append-le, length-take-le, drop-drop, getD-take, getD-drop, getD-at, take-all, ext-getD, set-split, append-snoc}
 use Rattle.word.proofs.Cases.{by-lt}
 use Rattle.word.specs.Lists.{every, everyTwo, tab, range, splice}
 
@@ -138,6 +138,65 @@ range-splice-after l a vs to n h k =
     ∙ ap (drop (to - (a + length vs))) (drop-paste l a vs (length vs) (omega arith) (omega arith))
     ∙ drop-drop (to - (a + length vs)) (a + length vs) l
     ∙ ap (λ (j : ℕ). drop j l) (add-sub-of-le h))
+
+-- number by number
+pub getD-splice-in : (l : List ℕ) (a : ℕ) (vs : List ℕ) (i : ℕ) → i < length vs → a + length vs ≤ length l → getD (splice l a vs) (a + i) 0 ≡ getD vs i 0
+getD-splice-in l a vs i h k =
+    sym (getD-range (splice l a vs) a (length vs) i h) ∙ ap (λ (m : List ℕ). getD m i 0) (range-splice-same l a vs k)
+
+-- a number read alone
+range-one : (l : List ℕ) (j : ℕ) → getD (range l j 1) 0 0 ≡ getD l j 0
+range-one l j = getD-range l j 1 0 (omega arith) ∙ ap (λ (k : ℕ). getD l k 0) (omega arith)
+
+pub getD-splice-out : (l : List ℕ) (a : ℕ) (vs : List ℕ) (j : ℕ) → a + length vs ≤ length l → (a ≤ j → j < a + length vs → ⊥)
+    → getD (splice l a vs) j 0 ≡ getD l j 0
+getD-splice-out l a vs j k h =
+    sym (range-one (splice l a vs) j) ∙ ap (λ (m : List ℕ). getD m 0 0) same ∙ range-one l j
+  where
+    same : range (splice l a vs) j 1 ≡ range l j 1
+    same = by-lt j a
+        (λ p. range-splice-before l a vs j 1 (omega arith) k)
+        (λ p. by-lt j (a + length vs) (λ q. absurd (h p q)) (λ q. range-splice-after l a vs j 1 q k))
+
+-- written inside a stretch: the stretch is written so
+pub range-splice-inner : (l : List ℕ) (a n o : ℕ) (vs : List ℕ) → a + n ≤ length l → o + length vs ≤ n
+    → range (splice l (a + o) vs) a n ≡ splice (range l a n) o vs
+range-splice-inner l a n o vs h k =
+    let r : length (range l a n) ≡ n = length-range l a n h in
+    let w : length (splice l (a + o) vs) ≡ length l = length-splice l (a + o) vs (omega arith) in
+    let s : length (range (splice l (a + o) vs) a n) ≡ n = length-range (splice l (a + o) vs) a n (omega arith) in
+    let t : length (splice (range l a n) o vs) ≡ n = length-splice (range l a n) o vs (omega arith) ∙ r in
+    ext-getD 0 _ _ (s ∙ sym t)
+    (λ i g. let m : i < n = omega arith in
+    getD-range (splice l (a + o) vs) a n i m ∙ by-lt i o
+    (λ p. getD-splice-out l (a + o) vs (a + i) (omega arith) (λ x y. omega arith)
+    ∙ sym (getD-splice-out (range l a n) o vs i (omega arith) (λ x y. omega arith) ∙ getD-range l a n i m))
+    (λ p. by-lt i (o + length vs)
+    (λ q. let e : a + o + (i - o) ≡ a + i = omega arith in let f : o + (i - o) ≡ i = omega arith in
+    rw e at (getD-splice-in l (a + o) vs (i - o) (omega arith) (omega arith))
+    ∙ sym (rw f at (getD-splice-in (range l a n) o vs (i - o) (omega arith) (omega arith))))
+    (λ q. getD-splice-out l (a + o) vs (a + i) (omega arith) (λ x y. omega arith)
+    ∙ sym (getD-splice-out (range l a n) o vs i (omega arith) (λ x y. omega arith) ∙ getD-range l a n i m))))
+
+-- a stretch of a stretch
+pub range-range : (l : List ℕ) (a n b m : ℕ) → b + m ≤ n → range (range l a n) b m ≡ range l (a + b) m
+unfolding range
+range-range l a n b m h =
+    ext-getD 0 _ _ (simp (length-take, length-drop) (omega arith))
+    (λ i g. let k : i < m = omega (arith, length-take m (drop b (take n (drop a l)))) in
+    rw (
+      getD-take m (drop b (take n (drop a l))) i 0 k,
+      getD-drop b (take n (drop a l)) i 0,
+      getD-take n (drop a l) (b + i) 0 (omega arith),
+      getD-drop a l (b + i) 0,
+      getD-take m (drop (a + b) l) i 0 k,
+      getD-drop (a + b) l i 0,
+    ) (ap (λ (j : ℕ). getD l j 0) (omega arith)))
+
+-- one number written
+pub set-splice : (l : List ℕ) (i v : ℕ) → i < length l → set l i v ≡ splice l i (v ∷ [])
+unfolding splice
+set-splice l i v h = set-split l i v h ∙ rw add-one (sym (append-snoc (take i l) v (drop (suc i) l)))
 
 -- written twice at one place: the second stands
 pub splice-splice : (l : List ℕ) (a : ℕ) (vs ws : List ℕ) → length vs ≡ length ws → a + length vs ≤ length l → splice (splice l a vs) a ws ≡ splice l a ws
