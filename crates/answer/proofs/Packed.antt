@@ -1,0 +1,15 @@
+-- C can take an answer's number apart again: its code is what stands above 2^32, its value what stands below. Assumes nothing.
+use Prim.Native.Nat.{_/_, _%_, _^_}
+use mathlib.Core.Path.{_≡_}
+use native.Mathlib.Omega.{arith}
+use Rattle.answer.specs.Answer.{codeOf, valueOf, packed, Small}
+use Rattle.answer.specs.declared.Answer.{Answer}
+use Rattle.answer.specs.declared.Answer.the-variants.{Refused, Made, Opened, More, Done, Released}
+
+pub packed-apart : (a : Answer) → Small a → (packed a / 2 ^ 32 ≡ codeOf a) × (packed a % 2 ^ 32 ≡ valueOf a)
+packed-apart (Refused f) h = (omega arith, omega arith)
+packed-apart Made h = (omega arith, omega arith)
+packed-apart (Opened p) h = (omega arith, omega arith)
+packed-apart More h = (omega arith, omega arith)
+packed-apart (Done start) h = (omega arith, omega arith)
+packed-apart Released h = (omega arith, omega arith)

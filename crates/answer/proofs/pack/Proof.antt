@@ -1,0 +1,89 @@
+use native.Mathlib.Omega.{arith}
+use borrow.Author.Needs.{needs}
+use Rattle.answer.proofs.pack.Statement.{statement}
+use Rattle.answer.proofs.pack.Tie as tie
+
+enum-known-a : tie.Need-enum-known-a
+enum-known-a c = search needs
+
+mul-result : tie.Need-mul-result
+mul-result c = omega (arith, rw (c .before .before .a .given .1) at (c .before .before .before .before .pre))
+
+enum-told : tie.Need-enum-told
+enum-told c = search needs
+
+mul-result-2 : tie.Need-mul-result-2
+mul-result-2 c = search needs
+
+enum-known-a-2 : tie.Need-enum-known-a-2
+enum-known-a-2 c = search needs
+
+mul-result-3 : tie.Need-mul-result-3
+mul-result-3 c = search needs
+
+add-result : tie.Need-add-result
+add-result c = omega (arith, rw (c .before .a2 .given .1) at (c .before .before .before .pre))
+
+enum-told-2 : tie.Need-enum-told-2
+enum-told-2 c = search needs
+
+mul-result-4 : tie.Need-mul-result-4
+mul-result-4 c = search needs
+
+enum-known-a-3 : tie.Need-enum-known-a-3
+enum-known-a-3 c = search needs
+
+mul-result-5 : tie.Need-mul-result-5
+mul-result-5 c = search needs
+
+add-result-2 : tie.Need-add-result-2
+add-result-2 c = omega (arith, rw (c .before .before .a3 .given .1) at (c .before .before .before .before .pre))
+
+enum-told-3 : tie.Need-enum-told-3
+enum-told-3 c = search needs
+
+mul-result-6 : tie.Need-mul-result-6
+mul-result-6 c = search needs
+
+returns : tie.Need-returns
+returns c = rw (c .before .before .a .given .1) (omega arith)
+
+returns-2 : tie.Need-returns-2
+returns-2 c = rw (c .enum-told .given .1)
+
+returns-3 : tie.Need-returns-3
+returns-3 c = rw (c .before .a2 .given .1)
+
+returns-4 : tie.Need-returns-4
+returns-4 c = rw (c .enum-told2 .given .1)
+
+returns-5 : tie.Need-returns-5
+returns-5 c = rw (c .before .before .a3 .given .1)
+
+returns-6 : tie.Need-returns-6
+returns-6 c = rw (c .enum-told3 .given .1)
+
+pub pack-spec : {M : Type 1} → statement M
+pack-spec =
+    tie.close
+    (tie.spec
+    enum-known-a
+    mul-result
+    enum-told
+    mul-result-2
+    enum-known-a-2
+    mul-result-3
+    add-result
+    enum-told-2
+    mul-result-4
+    enum-known-a-3
+    mul-result-5
+    add-result-2
+    enum-told-3
+    mul-result-6
+    returns
+    returns-2
+    returns-3
+    returns-4
+    returns-5
+    returns-6)
