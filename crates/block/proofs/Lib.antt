@@ -1,3 +1,2 @@
 pub mod Checksum
-pub mod Range
 pub mod Records

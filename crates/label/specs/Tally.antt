@@ -10,19 +10,14 @@ use lib.Dec.{eqb, ltb}
 use Rattle.word.specs.Word.{part}
 use Rattle.word.specs.Fault.{fault}
 use Rattle.word.specs.Lists.{range}
+use Rattle.word.specs.Limits.{ioMost, tablesMost}
 use Rattle.label.specs.declared.Tally.{Tally}
 use Rattle.label.specs.declared.TallyRead.{TallyRead}
 use Rattle.label.specs.declared.TallyRead.the-variants.{Good, Bad}
 
--- the most entries of types 0 and 2, of types 0, 2 and 3, and of type 12
+-- the most entries of types 0 and 2; those of types 0, 2 and 3 are `ioMost`, those of type 12 `tablesMost`
 abbrev pub nearMost : ℕ
 nearMost = 16
-
-abbrev pub ioMost : ℕ
-ioMost = 128
-
-abbrev pub tablesMost : ℕ
-tablesMost = 128
 
 -- before the first table word
 abbrev pub noTables : Tally

@@ -1,1 +1,4 @@
 pub mod Kept
+pub mod Flag
+pub mod Obey
+pub mod Sound

@@ -34,6 +34,9 @@ pub and-right : (a b : Bool) → (a && b) ≡ true → b ≡ true
 and-right true b q = q
 and-right false b q = absurd (false≢true q)
 
+pub and-both : (a b : Bool) → a ≡ true → b ≡ true → (a && b) ≡ true
+and-both a b p q = rw (p, q)
+
 pub and-assoc : (a b c : Bool) → ((a && b) && c) ≡ (a && (b && c))
 and-assoc true b c = refl
 and-assoc false b c = refl

@@ -1,5 +1,7 @@
 pub mod Cases
+pub mod Every
 pub mod Lists
+pub mod Range
 pub mod Says
 pub mod Tests
 pub mod Word

@@ -1,15 +1,16 @@
 -- Tests that say facts, put together as the tests are. Assumes nothing.
 use mathlib.Core.Path.{_≡_, refl, sym, _∙_}
 use mathlib.Core.Bool.{Bool, true, false, not, _&&_, _||_, false≢true, true≢false}
-use Prim.Native.Nat.{ℕ, zero, suc, _+_, _≤_, _<_}
+use Prim.Native.Nat.{ℕ, _+_, _≤_, _<_}
 use native.Mathlib.Omega.{arith}
-use mathlib.Core.List.{List, [], _∷_}
+use mathlib.Core.List.{List}
 use lib.ListN.{length, getD}
 use lib.Dec.{leb, ltb, eqb}
 use borrow.Author.Tests.{ltb-true, leb-true, eqb-true, lt-ltb, le-leb, eq-eqb, ne-eqb, lt-leb}
 use Rattle.word.specs.Lists.{every}
 use Rattle.word.specs.Runs.{within, apart, Apart, Says}
-use Rattle.word.proofs.Cases.{by-eq, by-lt, and-left, and-right, or-not}
+use Rattle.word.proofs.Cases.{by-eq, by-lt, and-both, and-left, and-right, or-not}
+use Rattle.word.proofs.Every.{every-place, every-by}
 
 pub says-eq : (m n : ℕ) → Says (eqb m n) (m ≡ n)
 says-eq m n = record { fact = eqb-true m n; test = eq-eqb m n }
@@ -19,9 +20,6 @@ says-lt m n = record { fact = ltb-true m n; test = lt-ltb m n }
 
 pub says-le : (m n : ℕ) → Says (leb m n) (m ≤ n)
 says-le m n = record { fact = leb-true m n; test = le-leb m n }
-
-and-both : (a b : Bool) → a ≡ true → b ≡ true → (a && b) ≡ true
-and-both a b p q = rw (p, q)
 
 pub says-and : {a b : Bool} {P Q : Type 0} → Says a P → Says b Q → Says (a && b) (P × Q)
 says-and {a} {b} s t = record {
@@ -58,20 +56,12 @@ says-as s f g = record { fact = λ h. f (s .fact h); test = λ q. s .test (g q) 
 -- a test of every element says the fact of each place
 module _ (f : ℕ → Bool) where
   pub every-at : (l : List ℕ) (i : ℕ) → i < length l → every f l ≡ true → f (getD l i 0) ≡ true
-  unfolding every
-  every-at [] i h q = absurd (omega arith)
-  every-at (x ∷ xs) zero h q = and-left (f x) (every f xs) q
-  every-at (x ∷ xs) (suc i) h q = every-at xs i (omega arith) (and-right (f x) (every f xs) q)
-
-  every-of : (l : List ℕ) → ((i : ℕ) → i < length l → f (getD l i 0) ≡ true) → every f l ≡ true
-  unfolding every
-  every-of [] h = refl
-  every-of (x ∷ xs) h = and-both (f x) (every f xs) (h 0 (omega arith)) (every-of xs (λ i k. h (suc i) (omega arith)))
+  every-at = every-place 0 f
 
   pub says-every : (l : List ℕ) {P : ℕ → Type 0} → ((x : ℕ) → Says (f x) (P x)) → Says (every f l) ((i : ℕ) → i < length l → P (getD l i 0))
   says-every l s = record {
     fact = λ h i k. s (getD l i 0) .fact (every-at l i k h);
-    test = λ g. every-of l (λ i k. s (getD l i 0) .test (g i k));
+    test = λ g. every-by 0 f l (λ i k. s (getD l i 0) .test (g i k));
   }
 
 -- runs

@@ -3,3 +3,4 @@ pub mod Sorts
 pub mod Fault
 pub mod Lists
 pub mod Runs
+pub mod Limits

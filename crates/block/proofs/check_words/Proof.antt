@@ -9,7 +9,7 @@ use Rattle.word.specs.Word.{isWord}
 use Rattle.word.specs.Lists.{every}
 use Rattle.block.specs.Block.{sealVerdict}
 use Rattle.block.proofs.Checksum.{low, low-more, low-end, Taken, taken}
-use Rattle.block.proofs.Range.{any-more, any-end}
+use Rattle.word.proofs.Range.{any-more, any-end}
 use Rattle.block.proofs.check_words.Statement.{statement}
 use Rattle.block.proofs.check_words.Tie as tie
 
@@ -43,14 +43,14 @@ loop-again : tie.Need-loop-again Inv-loop μ-loop
 loop-again c =
     let l = c .before .before .loop in
     let b = now (c .before .before .before .args .block) in
-    (omega arith, omega arith, low-more b (l .i) (l .sum) (omega arith) (l .inv .2), any-more b (l .any) (l .i) (omega arith) (l .inv .3))
+    (omega arith, omega arith, low-more b (l .i) (l .sum) (omega arith) (l .inv .2), any-more 36 b (l .any) (l .i) (omega arith) (l .inv .3))
 
 returns : tie.Need-returns Inv-loop μ-loop
 unfolding sealVerdict
 returns c =
     let l = c .before .before .loop in
     let b = now (c .before .before .before .args .block) in
-    rw (any-end b (l .any) (l .i) (omega arith) (l .inv .3) ∙ le-ltb (l .any) 68719476736 (c .if1 .taken))
+    rw (any-end 36 b (l .any) (l .i) (omega arith) (l .inv .3) ∙ le-ltb (l .any) 68719476736 (c .if1 .taken))
 
 mul-seal : tie.Need-mul-seal Inv-loop μ-loop
 mul-seal c = omega arith
@@ -62,7 +62,7 @@ shared-slice-read-seal c = omega arith
 all : (c : tie.Else1 Inv-loop μ-loop) → every isWord (now (c .before .before .before .args .block)) ≡ true
 all c =
     let l = c .before .before .loop in
-    any-end _ (l .any) (l .i) (omega arith) (l .inv .3) ∙ lt-ltb (l .any) 68719476736 (c .if1 .left)
+    any-end 36 _ (l .any) (l .i) (omega arith) (l .inv .3) ∙ lt-ltb (l .any) 68719476736 (c .if1 .left)
 
 ended : (c : tie.Else1 Inv-loop μ-loop) → Taken (now (c .before .before .before .args .block)) (c .before .before .before .args .p) (c .before .before .loop .sum)
 ended c =
