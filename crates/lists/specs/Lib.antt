@@ -1,3 +1,5 @@
 pub mod Kept
 pub mod Chain
 pub mod Obey
+pub mod Keep
+pub mod Sorting

@@ -17,6 +17,10 @@ tablesOf [] = []
 tablesOf (a ∷ []) = []
 tablesOf (a ∷ n ∷ l) = record { at = record { 0 = a }; len = n } ∷ tablesOf l
 
+-- what stands at a place past the last table
+abbrev pub noTable : Table
+noTable = record { at = record { 0 = 0 }; len = 0 }
+
 -- a table inside the area; an empty one may start at the area's end
 unfoldable pub tableInside : Area → Table → Bool
 tableInside area t = within (t .at .0) (t .len) (area .at .0) (area .size)
