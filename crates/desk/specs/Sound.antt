@@ -1,0 +1,69 @@
+-- "A desk is sound when its map obeys the rules above, each held area lies in its room's stretch, held areas share no word, F is at
+-- least H, no room holds over two, each copied list obeys refusal 8, and each other stored number is in the range that docs/ lists
+-- for it, given the others." (01, "The desk"; docs/DESK.md lists the ranges.) A desk that is not of its length or not sound meets 1.
+use Prim.Native.Nat.{ℕ, _+_, _-_, _≤_, _<_}
+use mathlib.Core.Bool.{Bool, true, cond, _&&_, _||_}
+use mathlib.Core.List.{List}
+use lib.ListN.{length, getD}
+use lib.Dec.{eqb, leb}
+use Rattle.word.specs.Lists.{every, everyTwo}
+use Rattle.word.specs.Runs.{within, apart}
+use Rattle.word.specs.Limits.{ioMost, tablesMost}
+use Rattle.word.specs.declared.Area.{Area}
+use Rattle.map.specs.declared.Stretch.{Stretch}
+use Rattle.map.specs.Map.{mapOf, mapObeys, none}
+use Rattle.rooms.specs.Rooms.{fair}
+use Rattle.lists.specs.Kept.{tablesIn}
+use Rattle.lists.specs.Chain.{chain}
+use Rattle.stage.specs.Ranges.{stageFits}
+use Rattle.layout.specs.declared.Place.{Place}
+use Rattle.layout.specs.Layout.{deskWords, coreLength, mapNumbers, places, holderOf, ownOf, stageIn, wordsIn, ranksIn, holders}
+
+-- an area lies in a stretch, and is not empty
+unfoldable pub areaIn : Stretch → Area → Bool
+areaIn s a = leb 1 (a .size) && within (a .at .0) (a .size) (s .start .0) (s .len)
+
+-- the counts of a place's lists are within the limits
+unfoldable pub countsFit : Place → Bool
+countsFit o = leb (o .io) ioMost && (leb (o .tables) tablesMost && leb (o .kept) tablesMost)
+
+-- the lists of a held place obey refusal 8 (`order-sound` of the crate lists), and its stage is in range
+unfoldable pub loadFits : Place → List ℕ → Bool
+loadFits o l =
+    chain (o .area) (wordsIn l (o .kept))
+    && stageFits (o .area) (tablesIn (o .area) (wordsIn l (o .kept)) (ranksIn l (o .tables))) (o .io) (stageIn l)
+
+-- a place that a room holds, s its stretch
+unfoldable pub heldFits : Stretch → List ℕ → Bool
+heldFits s l = areaIn s (ownOf l .area) && (countsFit (ownOf l) && loadFits (ownOf l) l)
+
+-- of a free place nothing is asked
+unfoldable pub placeFits : List Stretch → List ℕ → Bool
+placeFits m l = cond (eqb (holderOf l) 0) true (heldFits (getD m (holderOf l - 1) none) l)
+
+-- the areas of two places that are held share no word
+unfoldable pub areasApart : List ℕ → List ℕ → Bool
+areasApart l k =
+    eqb (holderOf l) 0
+    || (eqb (holderOf k) 0
+    || apart (ownOf l .area .at .0) (ownOf l .area .size) (ownOf k .area .at .0) (ownOf k .area .size))
+
+-- a core has from 1 to 65,536 words
+abbrev pub coreFits : ℕ → Bool
+coreFits n = leb 1 n && leb n 65536
+
+unfoldable pub sound : List ℕ → Bool
+sound d =
+    eqb (length d) deskWords
+    && (coreFits (coreLength d)
+    && (mapObeys (coreLength d) (mapOf (mapNumbers d))
+    && (fair (holders d)
+    && (every (placeFits (mapOf (mapNumbers d))) (places d)
+    && everyTwo areasApart (places d)))))
+
+-- a stretch that ends in the numbers of a core, and a map of such: what the test of a map has shown
+abbrev pub SmallStretch : Stretch → Type 0
+SmallStretch s = s .start .0 + s .len ≤ 65536
+
+abbrev pub SmallMap : List Stretch → Type 0
+SmallMap m = (r : ℕ) → r < 8 → SmallStretch (getD m r none)

@@ -1,0 +1,99 @@
+-- The map's rule as facts, from the test and to the test, and what each `return` of the two tests of stretches asks. Assumes
+-- nothing.
+use Prim.Native.Nat.{ℕ, _+_, _-_, _≤_, _<_}
+use mathlib.Core.Path.{_≡_, sym}
+use mathlib.Core.Bool.{true, false, or-false}
+use mathlib.Core.List.{List}
+use native.Mathlib.Omega.{arith}
+use lib.ListN.{length, getD}
+use lib.Dec.{leb}
+use borrow.Author.Tests.{le-leb, lt-leb, eq-eqb, ne-eqb}
+use Rattle.word.specs.Runs.{within, apart, Says}
+use Rattle.word.proofs.Cases.{by-lt, leb-iff}
+use Rattle.word.proofs.Lists.{length-tab, getD-tab}
+use Rattle.word.proofs.Says.{says-and, says-as, says-within, says-apart}
+use Rattle.map.specs.declared.Stretch.{Stretch}
+use Rattle.map.specs.Map.{stretchOf, mapOf, inCore, stretchesApart, mapObeys, none, Separate, MapObeys}
+use Rattle.map.proofs.Every.{says-each, says-two}
+
+-- ---- the map of a list: eight stretches, each by its room
+pub map-length : (l : List ℕ) → length (mapOf l) ≡ 8
+unfolding mapOf
+map-length l = length-tab (stretchOf l) 8
+
+pub map-at : (l : List ℕ) (r : ℕ) → r < 8 → getD (mapOf l) r none ≡ stretchOf l r
+unfolding mapOf
+map-at l r h = getD-tab (stretchOf l) 8 r none h
+
+-- ---- the rule
+pub in-core-says : (core : ℕ) (s : Stretch) → Says (inCore core s) (s .start .0 + s .len ≤ core)
+unfolding inCore
+in-core-says core s = says-as (says-within (s .start .0) (s .len) 0 core) (λ h. omega arith) (λ h. (omega arith, omega arith))
+
+pub stretches-apart-says : (s t : Stretch) → Says (stretchesApart s t) (Separate s t)
+unfolding stretchesApart
+stretches-apart-says s t = says-apart (s .start .0) (s .len) (t .start .0) (t .len)
+
+separate-turned : (s t : Stretch) → Separate s t → Separate t s
+separate-turned s t h i a b c d = h i c d a b
+
+pub map-obeys-says : (core : ℕ) (m : List Stretch) → length m ≡ 8 → Says (mapObeys core m) (MapObeys core (λ r. getD m r none))
+unfolding mapObeys
+map-obeys-says core m e =
+    says-as
+    (says-and (says-each none (inCore core) _ (in-core-says core) m) (says-two none stretchesApart Separate stretches-apart-says m))
+    (λ h. record {
+      inside = λ r k. h .0 r (omega arith);
+      separate = λ r q j k ne. by-lt r q
+          (λ l. h .1 r q l (omega arith))
+          (λ l. separate-turned (getD m q none) (getD m r none) (h .1 q r (by-lt q r (λ z. z) (λ z. absurd (ne (omega arith)))) (omega arith)));
+    })
+    (λ h. (λ r k. h .inside r (omega arith), λ r q l k. h .separate r q (omega arith) (omega arith) (λ z. omega arith)))
+
+-- the same of the map that a list tells
+obeys-same : (core : ℕ) (f g : ℕ → Stretch) → ((r : ℕ) → r < 8 → f r ≡ g r) → MapObeys core f → MapObeys core g
+obeys-same core f g e h = record {
+  inside = λ r k. rw (e r k) at (h .inside r k);
+  separate = λ r q j k ne. rw (e r j, e q k) at (h .separate r q j k ne);
+}
+
+pub map-of-says : (core : ℕ) (l : List ℕ) → Says (mapObeys core (mapOf l)) (MapObeys core (stretchOf l))
+map-of-says core l =
+    says-as (map-obeys-says core (mapOf l) (map-length l))
+    (obeys-same core (λ r. getD (mapOf l) r none) (stretchOf l) (map-at l))
+    (obeys-same core (stretchOf l) (λ r. getD (mapOf l) r none) (λ r h. sym (map-at l r h)))
+
+-- ---- what the code's tests say
+module _ (core : ℕ) (s : Stretch) where
+  pub in-core-long : core < s .len → false ≡ inCore core s
+  unfolding inCore within
+  in-core-long h = rw (le-leb 0 (s .start .0) (omega arith), lt-leb (s .start .0 + s .len) (0 + core) (omega arith))
+
+  pub in-core-fits : s .len ≤ core → leb (s .start .0) (core - s .len) ≡ inCore core s
+  unfolding inCore within
+  in-core-fits h =
+      rw (le-leb 0 (s .start .0) (omega arith))
+      (leb-iff (s .start .0) (core - s .len) (s .start .0 + s .len) (0 + core) (omega arith))
+
+module _ (s t : Stretch) where
+  pub apart-first-empty : s .len ≡ 0 → true ≡ stretchesApart s t
+  unfolding stretchesApart apart
+  apart-first-empty h = rw (eq-eqb (s .len) 0 h)
+
+  module _ (g : s .len ≡ 0 → ⊥) where
+    pub apart-second-empty : t .len ≡ 0 → true ≡ stretchesApart s t
+    unfolding stretchesApart apart
+    apart-second-empty h = rw (ne-eqb (s .len) 0 g, eq-eqb (t .len) 0 h)
+
+    module _ (h : t .len ≡ 0 → ⊥) where
+      pub apart-rising : s .start .0 ≤ t .start .0 → leb (s .len) (t .start .0 - s .start .0) ≡ stretchesApart s t
+      unfolding stretchesApart apart
+      apart-rising l =
+          rw (ne-eqb (s .len) 0 g, ne-eqb (t .len) 0 h, lt-leb (t .start .0 + t .len) (s .start .0) (omega arith), or-false)
+          (leb-iff (s .len) (t .start .0 - s .start .0) (s .start .0 + s .len) (t .start .0) (omega arith))
+
+      pub apart-falling : t .start .0 < s .start .0 → leb (t .len) (s .start .0 - t .start .0) ≡ stretchesApart s t
+      unfolding stretchesApart apart
+      apart-falling l =
+          rw (ne-eqb (s .len) 0 g, ne-eqb (t .len) 0 h, lt-leb (s .start .0 + s .len) (t .start .0) (omega arith))
+          (leb-iff (t .len) (s .start .0 - t .start .0) (t .start .0 + t .len) (s .start .0) (omega arith))

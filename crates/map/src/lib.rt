@@ -1,0 +1,126 @@
+// The map: which stretch of core is each room's. It is read from numbers, passed whole, and held against its rule (01, "The desk"
+// and refusal 3).
+ghost use mathlib.Core.Path.{_≡_};
+ghost use Prim.Native.Nat.{_+_, _<_};
+ghost use lib.ListN.{getD, drop};
+ghost use Rattle.word.specs.Lists.{every, everyTwo};
+ghost use Rattle.map.specs.Map.{none, stretchOf, mapOf, inCore, stretchesApart, mapObeys};
+use word::Absolute;
+
+// A room's part of core: the address of its first word, and how many words it has.
+pub struct Stretch {
+    pub start: Absolute,
+    pub len: u64,
+}
+
+// The map that a list start, length, start, length and so on tells.
+pub fn read_map(numbers: &[u64]) -> [Stretch; 8]
+    ensures { λ m. ⌜ m ≡ mapOf (now (numbers .entry)) ⌝ }
+{
+    let none = Stretch {
+        start: Absolute(0),
+        len: 0,
+    };
+    let mut m = [none; 8];
+    let mut r: usize = 0;
+    while r < 8 {
+        let s = stretch_of(numbers, r);
+        m[r] = s;
+        r += 1;
+    }
+    m
+}
+
+// Whether each stretch lies inside the core and no two share a word, whatever the numbers are.
+pub fn map_obeys(core: u64, m: [Stretch; 8]) -> bool
+    ensures { λ b. ⌜ b ≡ mapObeys core m ⌝ }
+{
+    if all_in_core(core, m) {
+        return all_apart(m);
+    }
+    false
+}
+
+// Room r's pair of the list.
+fn stretch_of(numbers: &[u64], r: usize) -> Stretch
+    requires { ⌜ r < 8 ⌝ }
+    ensures { λ s. ⌜ s ≡ stretchOf (now (numbers .entry)) r ⌝ }
+{
+    let start = word::word_at(numbers, 2 * r);
+    let len = word::word_at(numbers, 2 * r + 1);
+    Stretch {
+        start: Absolute(start),
+        len: len,
+    }
+}
+
+fn all_in_core(core: u64, m: [Stretch; 8]) -> bool
+    ensures { λ b. ⌜ b ≡ every (inCore core) m ⌝ }
+{
+    let mut r: usize = 0;
+    while r < 8 {
+        let s = m[r];
+        if !in_core(core, s) {
+            return false;
+        }
+        r += 1;
+    }
+    true
+}
+
+// Whether each two share no word: each with those after it.
+fn all_apart(m: [Stretch; 8]) -> bool
+    ensures { λ b. ⌜ b ≡ everyTwo stretchesApart m ⌝ }
+{
+    let mut r: usize = 0;
+    while r < 8 {
+        if !apart_from_later(m, r) {
+            return false;
+        }
+        r += 1;
+    }
+    true
+}
+
+// Whether room r's stretch shares no word with those of the rooms after it.
+fn apart_from_later(m: [Stretch; 8], r: usize) -> bool
+    requires { ⌜ r < 8 ⌝ }
+    ensures { λ b. ⌜ b ≡ every (stretchesApart (getD m r none)) (drop (r + 1) m) ⌝ }
+{
+    let s = m[r];
+    let mut q = r + 1;
+    while q < 8 {
+        let t = m[q];
+        if !stretches_apart(s, t) {
+            return false;
+        }
+        q += 1;
+    }
+    true
+}
+
+// Whether the stretch ends by the core's end. Start and length may be any numbers: their sum could wrap, this difference cannot.
+fn in_core(core: u64, s: Stretch) -> bool
+    ensures { λ b. ⌜ b ≡ inCore core s ⌝ }
+{
+    if core < s.len {
+        return false;
+    }
+    s.start.0 <= core - s.len
+}
+
+// Whether the two share no word; an empty one shares none. Differences for the same reason.
+fn stretches_apart(s: Stretch, t: Stretch) -> bool
+    ensures { λ b. ⌜ b ≡ stretchesApart s t ⌝ }
+{
+    if s.len == 0 {
+        return true;
+    }
+    if t.len == 0 {
+        return true;
+    }
+    if s.start.0 <= t.start.0 {
+        return s.len <= t.start.0 - s.start.0;
+    }
+    t.len <= s.start.0 - t.start.0
+}

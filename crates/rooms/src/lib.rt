@@ -1,0 +1,130 @@
+// Who holds the twelve places, and when a room is given one (01, "The desk" and refusals 5 and 6). Holders are lent as a list of
+// numbers, one for each place: 0 where it is free, r + 1 where room r holds it.
+ghost use mathlib.Core.Path.{_≡_};
+ghost use Prim.Native.Nat.{_<_};
+ghost use Rattle.word.specs.Lists.{every};
+ghost use Rattle.rooms.specs.Tally.{slotOf, tallied};
+ghost use Rattle.rooms.specs.Rooms.{roomCount, hit, count, free, held, idle, atMost, fair, lowestFree, placeRefusal};
+
+// F: how many places are free.
+pub fn free_places(holders: &[u64]) -> u64
+    ensures { λ n. ⌜ n ≡ free (now (holders .entry)) ⌝ }
+{
+    how_many(holders, 0)
+}
+
+// How many places the room holds.
+pub fn held_by(holders: &[u64], room: u64) -> u64
+    requires { ⌜ room < roomCount ⌝ }
+    ensures { λ n. ⌜ n ≡ held room (now (holders .entry)) ⌝ }
+{
+    how_many(holders, room + 1)
+}
+
+// H: how many rooms hold none.
+pub fn idle_rooms(holders: &[u64]) -> u64
+    ensures { λ n. ⌜ n ≡ idle (now (holders .entry)) ⌝ }
+{
+    let counts = tally(holders);
+    how_many(&counts[1..9], 0)
+}
+
+// Whether each holder is a room's or none, no room holds over two, and F is at least H.
+pub fn fair(holders: &[u64]) -> bool
+    ensures { λ b. ⌜ b ≡ fair (now (holders .entry)) ⌝ }
+{
+    let n = tally(holders);
+    if n[9] != 0 {
+        return false;
+    }
+    if !each_at_most(&n[1..9], 2) {
+        return false;
+    }
+    how_many(&n[1..9], 0) <= n[0]
+}
+
+// The lowest free place, or the length where none is free.
+pub fn lowest_free(holders: &[u64]) -> usize
+    ensures { λ p. ⌜ p ≡ lowestFree (now (holders .entry)) ⌝ }
+{
+    let mut p: usize = 0;
+    while p < holders.len() {
+        if holders[p] == 0 {
+            return p;
+        }
+        p += 1;
+    }
+    p
+}
+
+// Why the room is denied one more place, 5 or 6, or 0 where it is given one.
+pub fn place_refusal(holders: &[u64], room: u64) -> u64
+    requires { ⌜ room < roomCount ⌝ }
+    ensures { λ n. ⌜ n ≡ placeRefusal room (now (holders .entry)) ⌝ }
+{
+    let n = held_by(holders, room);
+    if 2 <= n {
+        return 5;
+    }
+    if n == 1 {
+        if free_places(holders) <= idle_rooms(holders) {
+            return 6;
+        }
+        return 0;
+    }
+    0
+}
+
+// One pass over the holders: how many places are free, how many each room holds, and how many holders are no room's.
+fn tally(holders: &[u64]) -> [u64; 10]
+    ensures { λ n. ⌜ n ≡ tallied (now (holders .entry)) ⌝ }
+{
+    let mut n = [0u64; 10];
+    let mut i: usize = 0;
+    while i < holders.len() {
+        let k = slot(holders[i]);
+        n[k] = n[k] + 1;
+        i += 1;
+    }
+    n
+}
+
+// Where a holder is counted: what is no room's in the last slot.
+fn slot(h: u64) -> usize
+    ensures { λ k. ⌜ k ≡ slotOf h ⌝ }
+{
+    if h <= 8 { h as usize } else { 9 }
+}
+
+// How often x stands among the numbers.
+fn how_many(numbers: &[u64], x: u64) -> u64
+    ensures { λ n. ⌜ n ≡ count x (now (numbers .entry)) ⌝ }
+{
+    let mut n: u64 = 0;
+    let mut i: usize = 0;
+    while i < numbers.len() {
+        n += one_if_same(numbers[i], x);
+        i += 1;
+    }
+    n
+}
+
+fn one_if_same(a: u64, b: u64) -> u64
+    ensures { λ n. ⌜ n ≡ hit a b ⌝ }
+{
+    if a == b { 1 } else { 0 }
+}
+
+// Whether no number is over the most that is allowed.
+fn each_at_most(numbers: &[u64], most: u64) -> bool
+    ensures { λ b. ⌜ b ≡ every (atMost most) (now (numbers .entry)) ⌝ }
+{
+    let mut i: usize = 0;
+    while i < numbers.len() {
+        if most < numbers[i] {
+            return false;
+        }
+        i += 1;
+    }
+    true
+}
