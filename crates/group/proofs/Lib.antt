@@ -1,0 +1,7 @@
+pub mod Examples
+pub mod Group
+pub mod Halves
+pub mod Homes
+pub mod Steps
+pub mod Stretch
+pub mod Turns

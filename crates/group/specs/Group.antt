@@ -1,0 +1,170 @@
+-- One group of a program block (01, "Program blocks", from "Group: bits 35-34 are 10" on): what its program words become, where
+-- they go, and what the core holds afterwards.
+use Prim.Native.Nat.{ℕ, _+_, _-_, _≤_}
+use mathlib.Core.Path.{_≡_}
+use mathlib.Core.Bool.{true, cond}
+use mathlib.Core.List.{List, [], _∷_}
+use lib.ListN.{length, getD}
+use lib.Dec.{leb}
+use Rattle.word.specs.declared.Absolute.{Absolute}
+use Rattle.word.specs.declared.Area.{Area}
+use Rattle.word.specs.declared.Fault.{Fault}
+use Rattle.word.specs.declared.Half.{Half}
+use Rattle.word.specs.declared.Half.the-variants.{Left, Right}
+use Rattle.word.specs.Fault.{fault}
+use Rattle.word.specs.Lists.{every, range, splice, cleared}
+use Rattle.word.specs.Runs.{within}
+use Rattle.word.specs.Sorts.{absoluteOf}
+use Rattle.word.specs.Word.{isWord, fieldOf}
+use Rattle.program.specs.declared.Bank.{Bank}
+use Rattle.program.specs.declared.Group.{Group}
+use Rattle.program.specs.declared.GroupRead.{GroupRead}
+use Rattle.program.specs.declared.GroupRead.the-variants.{Good, Bad}
+use Rattle.program.specs.Groups.{groupOf}
+use Rattle.field.specs.declared.Changed.{Changed}
+use Rattle.field.specs.declared.Changed.the-variants.{Word, Refused as RefusedWord}
+use Rattle.field.specs.Field.{Assignments, fieldStep}
+use Rattle.indicator.specs.declared.Indicator.{Indicator}
+use Rattle.indicator.specs.declared.Indicator.the-variants.{Same, Change, Long}
+use Rattle.indicator.specs.Indicator.{bitsBefore, indicatorAt, afterField, afterWord, afterAll, justEnough}
+use Rattle.group.specs.declared.GroupStep.{GroupStep}
+use Rattle.group.specs.declared.GroupStep.the-variants.{Done, Refused}
+use Rattle.group.specs.declared.Home.{Home}
+use Rattle.group.specs.declared.Home.the-variants.{At, Outside}
+use Rattle.group.specs.declared.Section.{Section}
+use Rattle.group.specs.declared.Section.the-variants.{Segment as InSegment, Table as InTable}
+
+-- ---- a program word
+
+-- a half of the word w by its indicator: no change, a change by a type, or a long type 010 with its nine bits more
+unfoldable pub halfStep : Assignments → Half → Indicator → ℕ → Changed
+halfStep a h Same w = Word w
+halfStep a h (Change t) w = fieldStep a h t w 0
+halfStep a h (Long x) w = fieldStep a h 2 w x
+
+-- one change and then another of what it gave; the first refusal stands
+abbrev pub thenHalf : Changed → (ℕ → Changed) → Changed
+thenHalf (Word v) next = next v
+thenHalf (RefusedWord f) next = RefusedWord f
+
+-- "Each program word has a left indicator, then a right": the word w, whose indicators start at place p of the bits. How long they
+-- are is decided by the fields of the word as it stands in the block.
+unfoldable pub wordStep : Assignments → List ℕ → ℕ → ℕ → Changed
+wordStep a bits p w =
+    thenHalf (halfStep a Left (indicatorAt bits p (fieldOf Left w)) w)
+    (halfStep a Right (indicatorAt bits (afterField bits p (fieldOf Left w)) (fieldOf Right w)))
+
+-- ---- all program words of a group
+
+-- what they become, or the first refusal
+pub data Words : Type 0 where
+  Become : List ℕ → Words
+  Refuse : Fault → Words
+
+-- a word, and the words after it
+abbrev pub thenWords : Changed → Words → Words
+thenWords (Word v) (Become vs) = Become (v ∷ vs)
+thenWords (Word v) (Refuse f) = Refuse f
+thenWords (RefusedWord f) rest = Refuse f
+
+-- each program word in turn, with the place p of its indicators
+unfoldable pub changedWords : Assignments → List ℕ → ℕ → List ℕ → Words
+changedWords a bits p [] = Become []
+changedWords a bits p (w ∷ ws) = thenWords (wordStep a bits p w) (changedWords a bits (afterWord bits p w) ws)
+
+-- "The program words come first" after the identifier at place i, and the indicator words are the rest of the group
+abbrev pub wordsIn : List ℕ → ℕ → Group → List ℕ
+wordsIn block i g = range block (i + 1) (g .program)
+
+abbrev pub bitsIn : List ℕ → ℕ → Group → List ℕ
+bitsIn block i g = bitsBefore block (i + 1 + g .words) (g .words - g .program)
+
+-- ---- where they go: "Group addresses count from the Program Name, or from the table's first word, and the words must lie in that
+-- bank, or in the table section's count."
+unfoldable pub homeIn : Area → Bank → Group → Home
+homeIn area bank g =
+    cond (within (g .at .0) (g .program) (bank .at .0) (bank .count)) (At (absoluteOf area (g .at))) Outside
+
+-- the table section's count as a bank, and its table as an area: both start at the table's first word
+abbrev pub tableBank : ℕ → Bank
+tableBank count = record { at = record { 0 = 0 }; count = count }
+
+abbrev pub tableArea : Absolute → ℕ → Area
+tableArea at count = record { at = at; size = count }
+
+-- "bit 16 zero for the IBANK and set for the DBANK or a table section"
+unfoldable pub homeOf : Area → Section → Group → Home
+homeOf area (InSegment segment) g = homeIn area (cond (g .ibank) (segment .ibank) (segment .dbank)) g
+homeOf area (InTable t count) g = cond (g .ibank) Outside (homeIn (tableArea (t .at) count) (tableBank count) g)
+
+-- ---- the outcome: the answer, and the core afterwards
+pub record Outcome : Type 0 where
+  pub answer : GroupStep
+  pub core : List ℕ
+
+-- an answer and a core are those of an outcome
+pub record Meets (o : Outcome) (answer : GroupStep) (core : List ℕ) : Type 0 where
+  pub told : answer ≡ o .answer
+  pub left : core ≡ o .core
+
+-- refused before its words have a home: the core is as it was
+abbrev pub untouched : List ℕ → Fault → Outcome
+untouched core f = record { answer = Refused f; core = core }
+
+-- refused after that: zeros stand in the words that it would have stored. The whole area is set to zero at such a refusal (01,
+-- "Refusal numbers"); here zeros are said, so that the code is free to store before all is read.
+abbrev pub zeroed : Group → Absolute → List ℕ → Fault → Outcome
+zeroed g to core f = record { answer = Refused f; core = cleared core (to .0) (g .program) }
+
+-- all fields read: the words stand in the core, and the next identifier is due after the group
+unfoldable pub settled : ℕ → Group → Absolute → List ℕ → Words → Outcome
+settled i g to core (Become vs) = record { answer = Done (i + 1 + g .words) (g .last); core = splice core (to .0) vs }
+settled i g to core (Refuse f) = zeroed g to core f
+
+-- "The group has just as many indicator words as the bits need .. Otherwise 18, tested before any field of the group."
+unfoldable pub counted : Assignments → List ℕ → ℕ → Group → Absolute → List ℕ → Outcome
+counted a block i g to core =
+    cond (justEnough (afterAll (bitsIn block i g) 0 (wordsIn block i g)) (g .words - g .program))
+    (settled i g to core (changedWords a (bitsIn block i g) 0 (wordsIn block i g)))
+    (zeroed g to core (fault 18))
+
+-- where its words do not lie in their bank or count: 18
+unfoldable pub homed : Assignments → List ℕ → ℕ → Group → Home → List ℕ → Outcome
+homed a block i g (At to) core = counted a block i g to core
+homed a block i g Outside core = untouched core (fault 18)
+
+-- "and so does each group (else 18)": it stays in one block, whose last word for it is word 254. The program words are among the
+-- words after the identifier.
+unfoldable pub fitted : Assignments → Section → List ℕ → ℕ → Group → List ℕ → Outcome
+fitted a section block i g core =
+    cond (leb (i + g .words) 254)
+    (cond (leb (g .program) (g .words))
+    (homed a block i g (homeOf (a .area) section g) core)
+    (untouched core (fault 18)))
+    (untouched core (fault 18))
+
+-- a word that is no group where one is due: 18
+unfoldable pub grouped : Assignments → Section → List ℕ → ℕ → GroupRead → List ℕ → Outcome
+grouped a section block i (Good g) core = fitted a section block i g core
+grouped a section block i (Bad f) core = untouched core f
+
+-- the group whose identifier is due at place i of a block
+unfoldable pub groupStep : Assignments → Section → List ℕ → ℕ → List ℕ → Outcome
+groupStep a section block i core = grouped a section block i (groupOf (getD block i 0)) core
+
+-- ---- what has been seen to before a group is read
+
+-- the section's room lies in the area
+abbrev pub InArea : Area → Section → Type 0
+InArea area (InSegment segment) =
+    (segment .ibank .at .0 + segment .ibank .count ≤ area .size) × (segment .dbank .at .0 + segment .dbank .count ≤ area .size)
+InArea area (InTable t count) = (area .at .0 ≤ t .at .0) × (t .at .0 + t .len ≤ area .at .0 + area .size) × (count ≤ t .len)
+
+-- the area lies in the core, and the block is one, whose words 0 to 254 may hold an identifier
+pub record Ready (area : Area) (section : Section) (block : List ℕ) (i : ℕ) (core : List ℕ) : Type 0 where
+  pub inside : area .at .0 + area .size ≤ length core
+  pub most : length core ≤ 65536
+  pub room : InArea area section
+  pub long : length block ≡ 256
+  pub words : every isWord block ≡ true
+  pub place : i ≤ 254
