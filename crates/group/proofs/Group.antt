@@ -17,7 +17,7 @@ use Rattle.word.specs.Fault.{fault}
 use Rattle.word.specs.Lists.{every, splice}
 use Rattle.word.specs.Word.{isWord, fieldOf}
 use Rattle.word.proofs.Cases.{when}
-use Rattle.word.proofs.Lists.{length-range, length-range-most, length-splice}
+use Rattle.word.proofs.Lists.{length-range, length-range-most, length-splice, getD-splice-in}
 use Rattle.program.specs.declared.Group.{Group}
 use Rattle.program.specs.declared.GroupRead.{GroupRead}
 use Rattle.program.specs.declared.GroupRead.the-variants.{Good, Bad}
@@ -36,7 +36,7 @@ use Rattle.group.specs.Group.{halfStep, thenHalf, wordStep, Words, thenW
 use Rattle.group.specs.Group.Words.{Become, Refuse}
 use Rattle.group.proofs.Halves.{half-word}
 use Rattle.group.proofs.Homes.{Lies, home-lies}
-use Rattle.group.proofs.Stretch.{Beside, length-cleared, getD-splice-beside, getD-cleared-beside, getD-splice-in, every-splice, every-cleared, every-range, every-both, every-head, every-tail}
+use Rattle.word.proofs.Stretch.{Beside, length-cleared, getD-splice-beside, getD-cleared-beside, every-splice, every-cleared, every-range, every-both, every-head, every-tail}
 
 -- two outcomes that meet the contract are equal
 pub one-outcome : (o : Outcome) (r r′ : GroupStep) (core core′ : List ℕ) → Meets o r core → Meets o r′ core′ → (r ≡ r′) × (core ≡ core′)

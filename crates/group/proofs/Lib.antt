@@ -3,5 +3,4 @@ pub mod Group
 pub mod Halves
 pub mod Homes
 pub mod Steps
-pub mod Stretch
 pub mod Turns

@@ -28,7 +28,7 @@ use Rattle.group.specs.Group.{wordStep, Words, thenWords, changedWords, 
 use Rattle.group.specs.Group.Words.{Become, Refuse}
 use Rattle.group.specs.Turns.{onward, halves, Placed}
 use Rattle.group.proofs.Halves.{halves-word}
-use Rattle.group.proofs.Stretch.{splice-none, splice-first, cleared-set}
+use Rattle.word.proofs.Stretch.{splice-none, splice-first, cleared-set}
 
 -- ---- what a word's two halves gave
 onward-next : (r : Changed) (e : Cursor) (v : ℕ) (d : Cursor) → onward r (λ u. Next u e) ≡ Next v d → (r ≡ Word v) × (d ≡ e)

@@ -5,3 +5,4 @@ pub mod Range
 pub mod Says
 pub mod Tests
 pub mod Word
+pub mod Stretch

@@ -56,11 +56,6 @@ getD-splice-beside l a (v ∷ vs) j h o =
 pub getD-cleared-beside : (l : List ℕ) (a n j : ℕ) → a + n ≤ length l → Beside j a n → getD (cleared l a n) j 0 ≡ getD l j 0
 unfolding cleared
 getD-cleared-beside l a n j h o = getD-splice-beside l a (replicate n 0) j (rw length-replicate h) (rw length-replicate o)
-
--- and a place in it
-pub getD-splice-in : (l : List ℕ) (a : ℕ) (vs : List ℕ) (k : ℕ) → a + length vs ≤ length l → k < length vs → getD (splice l a vs) (a + k) 0 ≡ getD vs k 0
-getD-splice-in l a vs k h b =
-    sym (getD-range (splice l a vs) a (length vs) k b) ∙ ap (λ (m : List ℕ). getD m k 0) (range-splice-same l a vs h)
 
 -- what every number of the list and every number written passes, every number passes afterwards
 module _ (f : ℕ → Bool) where
