@@ -6,3 +6,6 @@ pub mod Lent
 pub mod Sort
 pub mod Rising
 pub mod Exact
+pub mod Numbers
+pub mod Ranks
+pub mod Keep

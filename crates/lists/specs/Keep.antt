@@ -1,10 +1,29 @@
--- What the desk keeps of the tables that are lent to open: what `Kept.antt` reads.
-use Prim.Native.Nat.{ℕ, suc, _+_, _*_, _^_}
-use mathlib.Core.Bool.{Bool, cond, _&&_}
-use mathlib.Core.List.{List, [], _∷_}
+-- What the desk keeps of the two lists that are lent to open. `Kept.antt` says how it is read.
+use Prim.Native.Nat.{ℕ, suc, _+_, _*_, _-_, _/_, _%_, _^_, _≤_}
+use mathlib.Core.Path.{_≡_}
+use mathlib.Core.Bool.{Bool, true, cond, _&&_}
+use mathlib.Core.List.{List, [], _∷_, map}
+use lib.ListN.{length, getD, set}
 use lib.Dec.{ltb, eqb}
+use Rattle.word.specs.Limits.{tablesMost}
+use Rattle.word.specs.Lists.{every, tab, splice}
 use Rattle.lists.specs.declared.Table.{Table}
+use Rattle.lists.specs.Kept.{tableNumberIn}
 
+-- ---- I/O numbers
+-- word i: numbers 4 i to 4 i + 3 in 16 bits each, the first lowest
+unfoldable pub fourFrom : List ℕ → ℕ → ℕ
+fourFrom ios i =
+    getD ios (4 * i) 0 % 2 ^ 16
+    + getD ios (4 * i + 1) 0 % 2 ^ 16 * 2 ^ 16
+    + getD ios (4 * i + 2) 0 % 2 ^ 16 * 2 ^ 32
+    + getD ios (4 * i + 3) 0 % 2 ^ 16 * 2 ^ 48
+
+-- the words that are kept
+unfoldable pub numbersKept : List ℕ → List ℕ
+numbersKept ios = tab (fourFrom ios) ((length ios + 3) / 4)
+
+-- ---- tables
 -- table k as a word: its address in bits 63-40, its number in bits 39-20, its length in bits 19-0
 abbrev pub wordOf : ℕ → Table → ℕ
 wordOf k t = t .at .0 * 2 ^ 40 + k * 2 ^ 20 + t .len
@@ -31,3 +50,29 @@ sorted (x ∷ xs) = insert x (sorted xs)
 -- the words that are kept: rising numbers are tables by rising address
 unfoldable pub wordsKept : List Table → List ℕ
 wordsKept ts = sorted (wordsFrom 0 ts)
+
+-- a table's word among the ranks as if the table were empty: its address in bits 63-20, and in bits 19-0 a rank that no word has
+unfoldable pub awayRank : Table → ℕ
+awayRank t = t .at .0 * 2 ^ 20 + (2 ^ 20 - 1)
+
+-- the ranks rs with the place of each word at its table's number, where the first word's place is p
+unfoldable pub ranked : ℕ → List ℕ → List ℕ → List ℕ
+ranked p [] rs = rs
+ranked p (w ∷ ws) rs = ranked (suc p) ws (set rs (tableNumberIn w) p)
+
+-- the ranks that are kept
+unfoldable pub ranksKept : List Table → List ℕ
+ranksKept ts = ranked 0 (wordsKept ts) (map awayRank ts)
+
+-- ---- how a call keeps the tables ts: the stretches ws and rs have room, and then begin with the words and with the ranks; what
+-- follows in them is as it was, and n is the count of the words
+pub record Keepable (ts : List Table) (ws rs : List ℕ) : Type 0 where
+  pub room : every hasRoom ts ≡ true
+  pub few : length ts ≤ tablesMost
+  pub words : length ts ≤ length ws
+  pub ranks : length ts ≤ length rs
+
+pub record Keeps (ts : List Table) (ws rs : List ℕ) (n : ℕ) (ws′ rs′ : List ℕ) : Type 0 where
+  pub count : n ≡ length (wordsKept ts)
+  pub words : ws′ ≡ splice ws 0 (wordsKept ts)
+  pub ranks : rs′ ≡ splice rs 0 (ranksKept ts)

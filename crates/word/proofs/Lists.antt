@@ -212,6 +212,16 @@ pub splice-whole : (l vs : List ℕ) → length vs ≡ length l → splice l 0 v
 unfolding splice
 splice-whole l vs e = rw (take-length, zero-add, e, drop-length) (append-nil vs)
 
+-- what is left when a part lent as `&mut l[a..a + n]` comes back with vs at its start
+pub splice-lent : (l : List ℕ) (a n : ℕ) (vs : List ℕ) → a + n ≤ length l → length vs ≤ n
+    → take a l ++ (splice (take (a + n - a) (drop a l)) 0 vs ++ drop (a + n - a) (drop a l)) ≡ splice l a vs
+unfolding splice
+splice-lent l a n vs h k =
+    let d = drop a l in
+    let t : length (take n d) ≡ n = length-take-le n d (rw length-drop (omega arith)) in
+    rw (add-sub-cancel-left, take-length, zero-add, append-assoc vs (drop (length vs) (take n d)) (drop n d), ← drop-append-le (length vs) (take n d) (drop n d) (omega arith), take-append-drop n d, drop-drop (length vs) a l)
+    (sym (append-assoc (take a l) vs (drop (a + length vs) l)))
+
 -- ---- the loop that writes a stretch: l with the first i numbers of s from place a on
 unfoldable pub copied : List ℕ → ℕ → List ℕ → ℕ → List ℕ
 copied l a s i = paste l a s i
@@ -224,6 +234,11 @@ pub copied-more : (l : List ℕ) (a : ℕ) (s : List ℕ) (i : ℕ) (e : List �
     → set e (a + i) v ≡ copied l a s (i + 1)
 unfolding copied
 copied-more l a s i e v h k w q = rw (q, w, add-one) (paste-suc l a s i 0 h k)
+
+-- the same from the start of the list on
+pub copied-next : (l s : List ℕ) (i : ℕ) (e : List ℕ) (v : ℕ) → i < length l → i < length s → v ≡ getD s i 0 → e ≡ copied l 0 s i
+    → set e i v ≡ copied l 0 s (i + 1)
+copied-next l s i e v h k w q = rw zero-add at (copied-more l 0 s i e v (omega arith) k w q)
 
 pub copied-all : (l : List ℕ) (a : ℕ) (s : List ℕ) (i : ℕ) (e : List ℕ) → length s ≡ i → e ≡ copied l a s i → e ≡ splice l a s
 unfolding copied splice
