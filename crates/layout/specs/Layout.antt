@@ -72,6 +72,9 @@ wordsIn l n = range l 47 n
 unfoldable pub ranksIn : List ℕ → ℕ → List ℕ
 ranksIn l n = range l 175 n
 
--- who holds each place of a desk
+-- who holds place p of a desk, and who holds each
+abbrev pub holderIn : List ℕ → ℕ → ℕ
+holderIn d p = getD d (base p) 0
+
 unfoldable pub holders : List ℕ → List ℕ
-holders d = tab (λ p. getD d (base p) 0) placeCount
+holders d = tab (holderIn d) placeCount

@@ -1,0 +1,4 @@
+pub mod Outcome
+pub mod Make
+pub mod Release
+pub mod Open

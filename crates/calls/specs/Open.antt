@@ -1,0 +1,77 @@
+-- "Open takes a room, an area (address and size) and two lists .. It gives the lowest free place, sets each word of the area to zero,
+-- and copies the lists." Refusals 1, 2, 4, 5, 6, 7 and 8, in that order.
+use Prim.Native.Nat.{ℕ, _+_}
+use mathlib.Core.Bool.{Bool, cond, _&&_, _||_, not}
+use mathlib.Core.List.{List, [], _∷_, _++_}
+use lib.ListN.{length, getD}
+use lib.Dec.{eqb, leb}
+use Rattle.word.specs.Lists.{every, splice, cleared}
+use Rattle.word.specs.Runs.{apart}
+use Rattle.word.specs.declared.Area.{Area}
+use Rattle.map.specs.Map.{mapOf, none}
+use Rattle.rooms.specs.Rooms.{placeRefusal, lowestFree}
+use Rattle.lists.specs.Obey.{tablesOf, listsObey}
+use Rattle.lists.specs.Keep.{numbersKept, wordsKept, ranksKept}
+use Rattle.stage.specs.Stage.{numbersOf}
+use Rattle.stage.specs.declared.Stage.the-variants.{Label}
+use Rattle.layout.specs.Layout.{coreLength, mapNumbers, base, places, holderOf, ownOf, holders}
+use Rattle.desk.specs.Sound.{areaIn, sound}
+use Rattle.answer.specs.declared.Answer.the-variants.{Opened}
+use Rattle.calls.specs.Outcome.{Outcome, refused}
+
+-- the area shares no word with one that the room holds
+unfoldable pub besideOwn : ℕ → Area → List ℕ → Bool
+besideOwn r a l = not (eqb (holderOf l) (r + 1)) || apart (ownOf l .area .at .0) (ownOf l .area .size) (a .at .0) (a .size)
+
+-- refusal 7 is not given: "area empty, not inside the room's stretch, or sharing a word with one the room holds"
+unfoldable pub areaFits : List ℕ → ℕ → Area → Bool
+areaFits d r a = areaIn (getD (mapOf (mapNumbers d)) r none) a && every (besideOwn r a) (places d)
+
+-- the numbers of a place just opened, before its lists: holder, area, counts, and the stage of a load that waits for its label
+unfoldable pub openedOwn : ℕ → Area → List ℕ → List ℕ → List ℕ
+openedOwn r a ios tables =
+    (r + 1)
+    ∷ a .at .0
+    ∷ a .size
+    ∷ length ios
+    ∷ length (tablesOf tables)
+    ∷ length (wordsKept (tablesOf tables))
+    ∷ numbersOf Label
+
+-- place p with these numbers and the lists copied; what stands past the lists is as it was
+unfoldable pub openedDesk : List ℕ → ℕ → ℕ → Area → List ℕ → List ℕ → List ℕ
+openedDesk d p r a ios tables =
+    splice (splice (splice (splice d
+    (base p) (openedOwn r a ios tables))
+    (base p + 15) (numbersKept ios))
+    (base p + 47) (wordsKept (tablesOf tables)))
+    (base p + 175) (ranksKept (tablesOf tables))
+
+-- the place is given, and each word of the area set to zero
+unfoldable pub opened : List ℕ → List ℕ → ℕ → Area → List ℕ → List ℕ → Outcome
+opened d core r a ios tables = record {
+  answer = Opened (lowestFree (holders d));
+  desk = openedDesk d (lowestFree (holders d)) r a ios tables;
+  core = cleared core (a .at .0) (a .size);
+}
+
+-- from refusal 5 on
+unfoldable pub grantOf : List ℕ → List ℕ → ℕ → Area → List ℕ → List ℕ → Outcome
+grantOf d core r a ios tables =
+    cond (eqb (placeRefusal r (holders d)) 0)
+    (cond (areaFits d r a)
+    (cond (listsObey a ios tables)
+    (opened d core r a ios tables)
+    (refused 8 d core))
+    (refused 7 d core))
+    (refused (placeRefusal r (holders d)) d core)
+
+unfoldable pub openOf : List ℕ → List ℕ → ℕ → Area → List ℕ → List ℕ → Outcome
+openOf d core r a ios tables =
+    cond (sound d)
+    (cond (eqb (length core) (coreLength d))
+    (cond (leb r 7)
+    (grantOf d core r a ios tables)
+    (refused 4 d core))
+    (refused 2 d core))
+    (refused 1 d core)
