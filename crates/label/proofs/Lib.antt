@@ -1,3 +1,3 @@
-pub mod Name
+pub mod Spelt
 pub mod Tables
 pub mod Carried

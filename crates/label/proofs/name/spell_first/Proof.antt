@@ -1,8 +1,8 @@
 use mathlib.Core.Path.{sym, _∙_}
 use Rattle.label.specs.Spelling.{nextSpelling}
 use borrow.Author.Needs.{needs}
-use Rattle.label.proofs.spell_first.Statement.{statement}
-use Rattle.label.proofs.spell_first.Tie as tie
+use Rattle.label.proofs.name.spell_first.Statement.{statement}
+use Rattle.label.proofs.name.spell_first.Tie as tie
 
 letter-or-digit-requires : tie.Need-letter-or-digit-requires
 letter-or-digit-requires c κs = search needs

@@ -1,7 +1,7 @@
 use Rattle.label.specs.Spelling.{nextSpelling}
 use borrow.Author.Needs.{needs}
-use Rattle.label.proofs.spell.Statement.{statement}
-use Rattle.label.proofs.spell.Tie as tie
+use Rattle.label.proofs.name.spell.Statement.{statement}
+use Rattle.label.proofs.name.spell.Tie as tie
 
 enum-told : tie.Need-enum-told
 enum-told c = search needs

@@ -2,8 +2,8 @@ use native.Mathlib.Omega.{arith}
 use borrow.Author.Tests.{lt-leb}
 use Rattle.word.proofs.Tests.{tests}
 use Rattle.label.specs.Name.{letterOrDigit}
-use Rattle.label.proofs.letter_or_digit.Statement.{statement}
-use Rattle.label.proofs.letter_or_digit.Tie as tie
+use Rattle.label.proofs.name.letter_or_digit.Statement.{statement}
+use Rattle.label.proofs.name.letter_or_digit.Tie as tie
 
 returns : tie.Need-returns
 unfolding letterOrDigit

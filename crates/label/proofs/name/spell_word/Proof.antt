@@ -4,9 +4,9 @@ use native.Mathlib.Omega.{arith}
 use borrow.Author.Needs.{needs}
 use Rattle.block.specs.Fieldata.{characters}
 use Rattle.label.specs.Spelling.{spelled}
-use Rattle.label.proofs.Name.{spelled-more, spelled-end}
-use Rattle.label.proofs.spell_word.Statement.{statement}
-use Rattle.label.proofs.spell_word.Tie as tie
+use Rattle.label.proofs.Spelt.{spelled-more, spelled-end}
+use Rattle.label.proofs.name.spell_word.Statement.{statement}
+use Rattle.label.proofs.name.spell_word.Tie as tie
 
 abbrev Inv-loop : tie.InvT-loop
 Inv-loop w s₀ n₀ s n = (n ≤ 6) × (spelled s₀ (characters 6 w) ≡ spelled s (characters n w))

@@ -2,8 +2,8 @@ use mathlib.Core.Path.{sym, _∙_}
 use Rattle.word.proofs.Tests.{tests}
 use Rattle.label.specs.Spelling.{nextSpelling}
 use borrow.Author.Needs.{needs}
-use Rattle.label.proofs.spell_inside.Statement.{statement}
-use Rattle.label.proofs.spell_inside.Tie as tie
+use Rattle.label.proofs.name.spell_inside.Statement.{statement}
+use Rattle.label.proofs.name.spell_inside.Tie as tie
 
 returns : tie.Need-returns
 unfolding nextSpelling

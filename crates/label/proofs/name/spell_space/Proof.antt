@@ -1,7 +1,7 @@
 use Rattle.word.proofs.Tests.{tests}
 use Rattle.label.specs.Spelling.{nextSpelling}
-use Rattle.label.proofs.spell_space.Statement.{statement}
-use Rattle.label.proofs.spell_space.Tie as tie
+use Rattle.label.proofs.name.spell_space.Statement.{statement}
+use Rattle.label.proofs.name.spell_space.Tie as tie
 
 returns : tie.Need-returns
 unfolding nextSpelling

@@ -1,8 +1,8 @@
 use mathlib.Core.Path.{sym, ap, _∙_}
-use Rattle.label.proofs.Name.{good, name-two}
+use Rattle.label.proofs.Spelt.{good, name-two}
 use borrow.Author.Needs.{needs}
-use Rattle.label.proofs.is_name.Statement.{statement}
-use Rattle.label.proofs.is_name.Tie as tie
+use Rattle.label.proofs.name.is_name.Statement.{statement}
+use Rattle.label.proofs.name.is_name.Tie as tie
 
 spell-word-requires : tie.Need-spell-word-requires
 spell-word-requires c κs = search needs

@@ -1,0 +1,93 @@
+// A program's name, read a character at a time.
+ghost use mathlib.Core.Path.{_≡_};
+ghost use mathlib.Core.List.{_++_};
+ghost use Rattle.block.specs.Fieldata.{characters};
+ghost use Rattle.label.specs.Name.{isName, letterOrDigit};
+ghost use Rattle.label.specs.Spelling.{nextSpelling, spelled};
+use crate::Spelling;
+
+// Whether two words spell a name.
+pub fn is_name(first: u64, second: u64) -> bool
+    ensures { λ r. ⌜ r ≡ isName (characters 6 first ++ characters 6 second) ⌝ }
+{
+    match spell_word(spell_word(Spelling::First, first), second) {
+        Spelling::First => false,
+        Spelling::Inside => true,
+        Spelling::Spaces => true,
+        Spelling::Wrong => false,
+    }
+}
+
+// The six characters of a word, the leftmost first.
+fn spell_word(start: Spelling, w: u64) -> Spelling
+    ensures { λ r. ⌜ r ≡ spelled start (characters 6 w) ⌝ }
+{
+    let mut s = start;
+    let mut n: u64 = 6;
+    while 0 < n {
+        n -= 1;
+        s = spell(s, (w >> (6 * n)) % 64);
+    }
+    s
+}
+
+// One character.
+fn spell(s: Spelling, c: u64) -> Spelling
+    ensures { λ r. ⌜ r ≡ nextSpelling s c ⌝ }
+{
+    match s {
+        Spelling::First => spell_first(c),
+        Spelling::Inside => spell_inside(c),
+        Spelling::Spaces => spell_space(c),
+        Spelling::Wrong => Spelling::Wrong,
+    }
+}
+
+fn spell_first(c: u64) -> Spelling
+    ensures { λ r. ⌜ r ≡ nextSpelling Spelling.First c ⌝ }
+{
+    if letter_or_digit(c) {
+        return Spelling::Inside;
+    }
+    Spelling::Wrong
+}
+
+fn spell_inside(c: u64) -> Spelling
+    ensures { λ r. ⌜ r ≡ nextSpelling Spelling.Inside c ⌝ }
+{
+    if c == 0o05 {
+        return Spelling::Spaces;
+    }
+    if letter_or_digit(c) {
+        return Spelling::Inside;
+    }
+    if c == 0o41 {
+        return Spelling::Inside;
+    }
+    Spelling::Wrong
+}
+
+fn spell_space(c: u64) -> Spelling
+    ensures { λ r. ⌜ r ≡ nextSpelling Spelling.Spaces c ⌝ }
+{
+    if c == 0o05 {
+        return Spelling::Spaces;
+    }
+    Spelling::Wrong
+}
+
+// A to Z are octal 06 to 37, 0 to 9 are 60 to 71.
+fn letter_or_digit(c: u64) -> bool
+    ensures { λ r. ⌜ r ≡ letterOrDigit c ⌝ }
+{
+    if c < 0o06 {
+        return false;
+    }
+    if c <= 0o37 {
+        return true;
+    }
+    if c < 0o60 {
+        return false;
+    }
+    c <= 0o71
+}
