@@ -1,20 +1,141 @@
--- Release: what its tests have shown, and that the desk it leaves is sound and its answer small. Assumes nothing.
+-- Release: what its tests have shown, and that the desk it leaves is sound and its answer small. First, soundness as facts of each
+-- place and of each two. Assumes nothing.
 use Prim.Native.Nat.{ℕ, _+_, _<_}
-use mathlib.Core.Path.{_≡_}
-use mathlib.Core.Bool.{true}
-use mathlib.Core.List.{List}
-use lib.ListN.{length}
-use lib.Dec.{eqb, ltb}
-use borrow.Author.Tests.{eqb-true, ltb-true}
-use Rattle.word.proofs.Cases.{and-left}
-use Rattle.layout.specs.Layout.{deskWords, holderIn}
-use Rattle.desk.specs.Sound.{sound}
-use Rattle.calls.specs.Release.{holds}
+use mathlib.Core.Path.{_≡_, refl, sym, ap, _∙_}
+use mathlib.Core.Bool.{Bool, true}
+use mathlib.Core.List.{List, [], _∷_}
+use native.Mathlib.Omega.{arith}
+use lib.ListN.{length, set}
+use lib.Seq.{getD-set-same}
+use lib.Dec.{eqb, ltb, leb}
+use borrow.Author.Tests.{eqb-true, ltb-true, eq-eqb}
+use Rattle.word.specs.Lists.{splice}
+use Rattle.word.specs.Runs.{Says}
+use Rattle.word.proofs.Cases.{and-left, by-eq, by-test, both, when}
+use Rattle.word.proofs.Says.{says-eq, says-and, says-as}
+use Rattle.word.proofs.Lists.{set-splice}
+use Rattle.map.specs.declared.Stretch.{Stretch}
+use Rattle.map.specs.Map.{mapOf, mapObeys}
+use Rattle.map.proofs.Every.{says-each, says-two}
+use Rattle.rooms.specs.Rooms.{Fair}
+use Rattle.rooms.proofs.Rooms.{fair-says, freed-fair}
+use Rattle.layout.specs.Layout.{deskWords, base, coreLength, mapNumbers, placeIn, places, holderIn, holderOf, holders}
+use Rattle.layout.proofs.Places.{holder-at, length-holders, written-length, place-kept, map-kept, core-kept, holders-written}
+use Rattle.desk.specs.Sound.{sound, coreFits, placeFits, areasApart}
+use Rattle.desk.proofs.Tested.{places-length, places-at}
+use Rattle.answer.specs.Answer.{Small}
+use Rattle.calls.specs.Outcome.{Outcome}
+use Rattle.calls.specs.Release.{holds, releaseOf}
 
-pub sound-long : (d : List ℕ) → sound d ≡ true → length d ≡ deskWords
+-- ---- a sound desk
+pub record Sound (d : List ℕ) : Type 0 where
+  pub long : length d ≡ deskWords
+  pub core : coreFits (coreLength d) ≡ true
+  pub map : mapObeys (coreLength d) (mapOf (mapNumbers d)) ≡ true
+  pub fair : Fair (holders d)
+  pub place : (p : ℕ) → p < 12 → placeFits (mapOf (mapNumbers d)) (placeIn d p) ≡ true
+  pub two : (p q : ℕ) → p < q → q < 12 → areasApart (placeIn d p) (placeIn d q) ≡ true
+
+-- a test says that it passes
+says-self : (b : Bool) → Says b (b ≡ true)
+says-self b = record { fact = λ h. h; test = λ h. h }
+
+pub sound-says : (d : List ℕ) → Says (sound d) (Sound d)
 unfolding sound
-sound-long d q = eqb-true (length d) deskWords (and-left (eqb (length d) deskWords) _ q)
+sound-says d =
+    let m = mapOf (mapNumbers d) in
+    let e = places-length d in
+    says-as
+    (says-and (says-eq (length d) deskWords)
+    (says-and (says-self (coreFits (coreLength d)))
+    (says-and (says-self (mapObeys (coreLength d) m))
+    (says-and (fair-says (holders d) (length-holders d))
+    (says-and (says-each [] (placeFits m) (λ l. placeFits m l ≡ true) (λ l. says-self (placeFits m l)) (places d))
+    (says-two [] areasApart (λ l k. areasApart l k ≡ true) (λ l k. says-self (areasApart l k)) (places d)))))))
+    (λ h. record {
+      long = h .0;
+      core = h .1 .0;
+      map = h .1 .1 .0;
+      fair = h .1 .1 .1 .0;
+      place = λ p k. rw (places-at d p k) at (h .1 .1 .1 .1 .0 p (omega arith));
+      two = λ p q l k. rw (places-at d p (omega arith), places-at d q k) at (h .1 .1 .1 .1 .1 p q l (omega arith));
+    })
+    (λ s. (s .long, (s .core, (s .map, (s .fair, (
+      λ p k. rw (places-at d p (omega arith)) (s .place p (omega arith)),
+      λ p q l k. rw (places-at d p (omega arith), places-at d q (omega arith)) (s .two p q l (omega arith))))))))
+
+-- ---- a free place asks nothing
+pub free-fits : (m : List Stretch) (l : List ℕ) → holderOf l ≡ 0 → placeFits m l ≡ true
+unfolding placeFits
+free-fits m l h = rw (eq-eqb (holderOf l) 0 h)
+
+pub free-first : (l k : List ℕ) → holderOf l ≡ 0 → areasApart l k ≡ true
+unfolding areasApart
+free-first l k h = rw (eq-eqb (holderOf l) 0 h)
+
+pub free-second : (l k : List ℕ) → holderOf k ≡ 0 → areasApart l k ≡ true
+unfolding areasApart
+free-second l k h = rw (eq-eqb (holderOf k) 0 h) (by-test (eqb (holderOf l) 0) (λ q. rw q) (λ q. rw q))
+
+-- ---- what the tests of release have shown
+pub sound-long : (d : List ℕ) → sound d ≡ true → length d ≡ deskWords
+sound-long d q = sound-says d .fact q .long
 
 pub held-inside : (d : List ℕ) (r p : ℕ) → holds d r p ≡ true → p < 12
 unfolding holds
 held-inside d r p q = ltb-true p 12 (and-left (ltb p 12) (eqb (holderIn d p) (r + 1)) q)
+
+-- ---- a place freed: every other place, the core length and the map are as they were
+module _ (d : List ℕ) (s : Sound d) (p : ℕ) (h : p < 12) where
+  freed-as : set d (base p) 0 ≡ splice d (base p + 0) (0 ∷ [])
+  freed-as = set-splice d (base p) 0 (omega (arith, s .long)) ∙ ap (λ (i : ℕ). splice d i (0 ∷ [])) (omega arith)
+
+  freed-holder : holderOf (placeIn (splice d (base p + 0) (0 ∷ [])) p) ≡ 0
+  freed-holder =
+      rw (← freed-as) (sym (holder-at (set d (base p) 0) p) ∙ getD-set-same d (base p) 0 0 (omega (arith, s .long)))
+
+  pub freed-sound : Sound (set d (base p) 0)
+  freed-sound =
+      let c = core-kept d (s .long) p h 0 (0 ∷ []) (omega arith) in
+      let m = map-kept d (s .long) p h 0 (0 ∷ []) (omega arith) in
+      let k = place-kept d (s .long) p h 0 (0 ∷ []) (omega arith) in
+      rw freed-as (record {
+        long = written-length d (s .long) p h 0 (0 ∷ []) (omega arith);
+        core = rw c (s .core);
+        map = rw (c, m) (s .map);
+        fair = rw (holders-written d (s .long) p h 0 (0 ∷ []) (omega arith) refl (omega arith)) (freed-fair (holders d) p (s .fair));
+        place = λ q j. by-eq q p
+            (λ z. rw z (free-fits _ _ freed-holder))
+            (λ z. rw (m, k q z) (s .place q j));
+        two = λ q r l j. by-eq q p
+            (λ z. rw z (free-first _ _ freed-holder))
+            (λ z. by-eq r p
+            (λ y. rw y (free-second _ _ freed-holder))
+            (λ y. rw (k q z, k r y) (s .two q r l j)));
+      })
+
+-- ---- release
+pub release-sound : (d : List ℕ) (n r p : ℕ) → sound d ≡ true → sound (releaseOf d n r p .desk) ≡ true
+unfolding releaseOf
+release-sound d n r p q =
+    let P : Outcome → Type 0 = λ o. sound (o .desk) ≡ true in
+    rw q
+    (both P (eqb n (coreLength d))
+    (both P (leb r 7)
+    (when P (holds d r p)
+    (λ h. sound-says (set d (base p) 0) .test (freed-sound d (sound-says d .fact q) p (held-inside d r p h)))
+    (λ h. q))
+    q)
+    q)
+
+pub release-small : (d : List ℕ) (n r p : ℕ) → Small (releaseOf d n r p .answer)
+unfolding releaseOf
+release-small d n r p =
+    let P : Outcome → Type 0 = λ o. Small (o .answer) in
+    both P (sound d)
+    (both P (eqb n (coreLength d))
+    (both P (leb r 7)
+    (both P (holds d r p) tt (omega arith))
+    (omega arith))
+    (omega arith))
+    (omega arith)
