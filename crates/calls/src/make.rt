@@ -3,7 +3,7 @@ ghost use mathlib.Core.Path.{_≡_};
 ghost use mathlib.Core.List.{[]};
 ghost use lib.ListN.{length};
 ghost use Rattle.layout.specs.Layout.{deskWords};
-ghost use Rattle.calls.specs.Make.{freed, makeOf};
+ghost use Rattle.calls.specs.Make.{freed, freshDesk, makeOf};
 ghost use Rattle.calls.specs.Outcome.{Meets};
 use answer::Answer;
 use word::Fault;
@@ -27,10 +27,18 @@ pub fn make_desk(desk: &mut [u64], core: u64, numbers: &[u64]) -> Answer
     if !map::map_obeys(core, map::read_map(numbers)) {
         return Answer::Refused(Fault { number: 3 });
     }
+    write_fresh(desk, core, numbers);
+    Answer::Made
+}
+
+// The core length, the sixteen numbers behind it, and no place held.
+fn write_fresh(desk: &mut [u64], core: u64, numbers: &[u64])
+    requires { ⌜ (length (now desk) ≡ deskWords) × (length (now numbers) ≡ 16) ⌝ }
+    ensures { λ _. ⌜ now (desk .exit) ≡ freshDesk (now (desk .entry)) core (now (numbers .entry)) ⌝ }
+{
     desk[0] = core;
     slices::copy_in(desk, 1, numbers);
     free_places(desk);
-    Answer::Made
 }
 
 // The twelve places set free.

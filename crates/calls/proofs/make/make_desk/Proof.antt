@@ -1,60 +1,59 @@
+-- `calls::make::make_desk` meets its contract: its tests are those of `makeOf`, in that order. Assumes nothing.
+use mathlib.Core.Path.{refl, sym, ap, _∙_}
+use borrow.Author.Tests.{eq-eqb, ne-eqb, le-leb, lt-leb, not-true, not-false}
+use Rattle.map.specs.Map.{mapObeys}
+use Rattle.calls.specs.Make.{makeOf}
 use borrow.Author.Needs.{needs}
 use Rattle.calls.proofs.make.make_desk.Statement.{statement}
 use Rattle.calls.proofs.make.make_desk.Tie as tie
 use Rattle.calls.proofs.make.make_desk.Reads as reads
 use Rattle.calls.proofs.make.make_desk.Lts as lts
-use Rattle.calls.proofs.make.free_places.Reads as free-places-reads
+use Rattle.calls.proofs.make.write_fresh.Reads as write-fresh-reads
 use Rattle.map.proofs.map_obeys.Reads as map-obeys-reads
 use Rattle.map.proofs.read_map.Reads as read-map-reads
-use Rattle.slices.proofs.copy_in.Reads as copy-in-reads
 
--- src/make.rt:16:9
 returns : tie.Need-returns
-returns c = ?
+unfolding makeOf
+returns c = rw (ne-eqb _ _ (c .if1 .taken)) (record { told = refl; desk-left = refl; core-left = refl })
 
--- src/make.rt:19:9
 returns-2 : tie.Need-returns-2
-returns-2 c = ?
+unfolding makeOf
+returns-2 c = rw (eq-eqb _ _ (c .before .if1 .left), lt-leb _ _ (c .if2 .taken)) (record { told = refl; desk-left = refl; core-left = refl })
 
--- src/make.rt:22:9
 returns-3 : tie.Need-returns-3
-returns-3 c = ?
+unfolding makeOf
+returns-3 c = rw (eq-eqb _ _ (c .before .before .if1 .left), le-leb _ _ (c .before .if2 .left), lt-leb _ _ (c .if3 .taken)) (record { told = refl; desk-left = refl; core-left = refl })
 
--- src/make.rt:25:9
 returns-4 : tie.Need-returns-4
-returns-4 c = ?
+unfolding makeOf
+returns-4 c =
+    rw (eq-eqb _ _ (c .before .before .before .if1 .left), le-leb _ _ (c .before .before .if2 .left), le-leb _ _ (c .before .if3 .left), ne-eqb _ _ (c .if4 .taken)) (record { told = refl; desk-left = refl; core-left = refl })
 
--- src/make.rt:27:30
 read-map-requires : tie.Need-read-map-requires
 read-map-requires c κs = search needs
 
--- src/make.rt:27:9
 map-obeys-requires : tie.Need-map-obeys-requires
 map-obeys-requires c κs = search needs
 
--- src/make.rt:28:9
 returns-5 : tie.Need-returns-5
-returns-5 c = ?
+unfolding makeOf
+returns-5 c =
+    let m = ap (mapObeys (c .before .before .before .before .before .before .before .before .before .args .core)) (sym (c .before .before .read-map .ensures)) ∙ sym (c .before .map-obeys .ensures) in
+    rw (eq-eqb _ _ (c .before .before .before .before .before .before .if1 .left), le-leb _ _ (c .before .before .before .before .before .if2 .left), le-leb _ _ (c .before .before .before .before .if3 .left), eq-eqb _ _ (c .before .before .before .if4 .left), m ∙ not-true _ (c .if5 .taken))
+    (record { told = refl; desk-left = refl; core-left = refl })
 
--- src/make.rt:30:5
-slice-write-desk : tie.Need-slice-write-desk
-slice-write-desk c = search needs
+write-fresh-requires : tie.Need-write-fresh-requires
+write-fresh-requires c κs = search needs
 
--- src/make.rt:31:5
-copy-in-requires : tie.Need-copy-in-requires
-copy-in-requires c κs = ?
-
--- src/make.rt:32:5
-free-places-requires : tie.Need-free-places-requires
-free-places-requires c κs = ?
-
--- src/make.rt:12:1
 same-length : tie.Need-same-length
-same-length c = ?
+same-length c = search needs
 
--- src/make.rt:12:1
 returns-6 : tie.Need-returns-6
-returns-6 c = ?
+unfolding makeOf
+returns-6 c =
+    let m = ap (mapObeys (c .before .before .before .before .before .before .before .before .before .before .before .before .before .args .core)) (sym (c .before .before .before .before .before .before .read-map .ensures)) ∙ sym (c .before .before .before .before .before .map-obeys .ensures) in
+    rw (eq-eqb _ _ (c .before .before .before .before .before .before .before .before .before .before .if1 .left), le-leb _ _ (c .before .before .before .before .before .before .before .before .before .if2 .left), le-leb _ _ (c .before .before .before .before .before .before .before .before .if3 .left), eq-eqb _ _ (c .before .before .before .before .before .before .before .if4 .left), m ∙ not-false _ (c .before .before .before .before .if5 .left))
+    (record { told = refl; desk-left = c .before .before .write-fresh .ensures; core-left = refl })
 
 pub make-desk-spec : {M : Type 1} → statement M
 make-desk-spec =
@@ -67,8 +66,6 @@ make-desk-spec =
     read-map-requires
     map-obeys-requires
     returns-5
-    slice-write-desk
-    copy-in-requires
-    free-places-requires
+    write-fresh-requires
     same-length
     returns-6)

@@ -1,0 +1,45 @@
+-- `calls::make::write_fresh` meets its contract: what its three writes leave is the fresh desk. Assumes nothing.
+use mathlib.Core.Path.{sym, ap, _∙_}
+use native.Mathlib.Omega.{arith}
+use denote.Ref.{now}
+use lib.ListN.{length, length-set}
+use Rattle.calls.specs.Make.{freed}
+use Rattle.calls.proofs.Made.{length-freed, fixed-length, fresh-as}
+use borrow.Author.Needs.{needs}
+use Rattle.calls.proofs.make.write_fresh.Statement.{statement}
+use Rattle.calls.proofs.make.write_fresh.Tie as tie
+use Rattle.calls.proofs.make.write_fresh.Reads as reads
+use Rattle.calls.proofs.make.write_fresh.Lts as lts
+use Rattle.calls.proofs.make.free_places.Reads as free-places-reads
+use Rattle.slices.proofs.copy_in.Reads as copy-in-reads
+
+slice-write-desk : tie.Need-slice-write-desk
+slice-write-desk c = search needs
+
+copy-in-requires : tie.Need-copy-in-requires
+copy-in-requires c κs = simp length-set (omega arith)
+
+free-places-requires : tie.Need-free-places-requires
+free-places-requires c κs =
+    let s = c .before .before .before .before .before .before .before in
+    ap length (c .before .before .before .copy-in .ensures) ∙ fixed-length (now (s .args .desk)) (s .args .core) (now (s .args .numbers)) (s .pre .0) (s .pre .1)
+
+same-length : tie.Need-same-length
+same-length c =
+    let s = c .before .before .before .before .before .before .before .before .before .before in
+    ap length (c .before .before .free-places .ensures)
+    ∙ length-freed 12 _
+    ∙ ap length (c .before .before .before .before .before .before .copy-in .ensures)
+    ∙ fixed-length (now (s .args .desk)) (s .args .core) (now (s .args .numbers)) (s .pre .0) (s .pre .1)
+    ∙ sym (s .pre .0)
+
+returns : tie.Need-returns
+returns c =
+    let s = c .before .before .before .before .before .before .before .before .before .before in
+    c .before .before .free-places .ensures
+    ∙ ap (freed 12) (c .before .before .before .before .before .before .copy-in .ensures)
+    ∙ fresh-as (now (s .args .desk)) (s .args .core) (now (s .args .numbers)) (s .pre .0) (s .pre .1)
+
+pub write-fresh-spec : {M : Type 1} → statement M
+write-fresh-spec =
+    tie.close (tie.spec slice-write-desk copy-in-requires free-places-requires same-length returns)
