@@ -5,10 +5,10 @@ use mathlib.Core.Path.{_≡_, refl, sym, ap, _∙_}
 use mathlib.Core.Bool.{Bool, true}
 use mathlib.Core.List.{List, [], _∷_}
 use native.Mathlib.Omega.{arith}
-use lib.ListN.{length, set}
+use lib.ListN.{length, set, length-set}
 use lib.Seq.{getD-set-same}
 use lib.Dec.{eqb, ltb, leb}
-use borrow.Author.Tests.{eqb-true, ltb-true, eq-eqb}
+use borrow.Author.Tests.{ltb-true, eq-eqb}
 use Rattle.word.specs.Lists.{splice}
 use Rattle.word.specs.Runs.{Says}
 use Rattle.word.proofs.Cases.{and-left, by-eq, by-test, both, when}
@@ -20,7 +20,7 @@ use Rattle.map.proofs.Every.{says-each, says-two}
 use Rattle.rooms.specs.Rooms.{Fair}
 use Rattle.rooms.proofs.Rooms.{fair-says, freed-fair}
 use Rattle.layout.specs.Layout.{deskWords, base, coreLength, mapNumbers, placeIn, places, holderIn, holderOf, holders}
-use Rattle.layout.proofs.Places.{holder-at, length-holders, written-length, place-kept, map-kept, core-kept, holders-written}
+use Rattle.layout.proofs.Places.{holder-at, length-holders, place-kept, map-kept, core-kept, holders-written}
 use Rattle.desk.specs.Sound.{sound, coreFits, placeFits, areasApart}
 use Rattle.desk.proofs.Tested.{places-length, places-at}
 use Rattle.answer.specs.Answer.{Small}
@@ -60,9 +60,22 @@ sound-says d =
       place = λ p k. rw (places-at d p k) at (h .1 .1 .1 .1 .0 p (omega arith));
       two = λ p q l k. rw (places-at d p (omega arith), places-at d q k) at (h .1 .1 .1 .1 .1 p q l (omega arith));
     })
-    (λ s. (s .long, (s .core, (s .map, (s .fair, (
-      λ p k. rw (places-at d p (omega arith)) (s .place p (omega arith)),
-      λ p q l k. rw (places-at d p (omega arith), places-at d q (omega arith)) (s .two p q l (omega arith))))))))
+    (λ s. (
+      s .long,
+      (
+        s .core,
+        (
+          s .map,
+          (
+            s .fair,
+            (
+              λ p k. rw (places-at d p (omega arith)) (s .place p (omega arith)),
+              λ p q l k. rw (places-at d p (omega arith), places-at d q (omega arith)) (s .two p q l (omega arith)),
+            ),
+          ),
+        ),
+      ),
+    ))
 
 -- ---- a free place asks nothing
 pub free-fits : (m : List Stretch) (l : List ℕ) → holderOf l ≡ 0 → placeFits m l ≡ true
@@ -86,33 +99,45 @@ unfolding holds
 held-inside d r p q = ltb-true p 12 (and-left (ltb p 12) (eqb (holderIn d p) (r + 1)) q)
 
 -- ---- a place freed: every other place, the core length and the map are as they were
-module _ (d : List ℕ) (s : Sound d) (p : ℕ) (h : p < 12) where
+module _ (d : List ℕ) (long : length d ≡ deskWords) (p : ℕ) (h : p < 12) where
   freed-as : set d (base p) 0 ≡ splice d (base p + 0) (0 ∷ [])
-  freed-as = set-splice d (base p) 0 (omega (arith, s .long)) ∙ ap (λ (i : ℕ). splice d i (0 ∷ [])) (omega arith)
+  freed-as = set-splice d (base p) 0 (omega arith) ∙ ap (λ (i : ℕ). splice d i (0 ∷ [])) (omega arith)
 
-  freed-holder : holderOf (placeIn (splice d (base p + 0) (0 ∷ [])) p) ≡ 0
-  freed-holder =
-      rw (← freed-as) (sym (holder-at (set d (base p) 0) p) ∙ getD-set-same d (base p) 0 0 (omega (arith, s .long)))
+  pub freed-core : coreLength (set d (base p) 0) ≡ coreLength d
+  freed-core = rw freed-as (core-kept d long p h 0 (0 ∷ []) (omega arith))
 
-  pub freed-sound : Sound (set d (base p) 0)
-  freed-sound =
-      let c = core-kept d (s .long) p h 0 (0 ∷ []) (omega arith) in
-      let m = map-kept d (s .long) p h 0 (0 ∷ []) (omega arith) in
-      let k = place-kept d (s .long) p h 0 (0 ∷ []) (omega arith) in
-      rw freed-as (record {
-        long = written-length d (s .long) p h 0 (0 ∷ []) (omega arith);
-        core = rw c (s .core);
-        map = rw (c, m) (s .map);
-        fair = rw (holders-written d (s .long) p h 0 (0 ∷ []) (omega arith) refl (omega arith)) (freed-fair (holders d) p (s .fair));
-        place = λ q j. by-eq q p
-            (λ z. rw z (free-fits _ _ freed-holder))
-            (λ z. rw (m, k q z) (s .place q j));
-        two = λ q r l j. by-eq q p
-            (λ z. rw z (free-first _ _ freed-holder))
-            (λ z. by-eq r p
-            (λ y. rw y (free-second _ _ freed-holder))
-            (λ y. rw (k q z, k r y) (s .two q r l j)));
-      })
+  pub freed-map : mapNumbers (set d (base p) 0) ≡ mapNumbers d
+  freed-map = rw freed-as (map-kept d long p h 0 (0 ∷ []) (omega arith))
+
+  freed-other : (q : ℕ) → (q ≡ p → ⊥) → placeIn (set d (base p) 0) q ≡ placeIn d q
+  freed-other q ne = rw freed-as (place-kept d long p h 0 (0 ∷ []) (omega arith) q ne)
+
+  freed-holders : holders (set d (base p) 0) ≡ set (holders d) p 0
+  freed-holders = rw freed-as (holders-written d long p h 0 (0 ∷ []) (omega arith) refl (omega arith))
+
+  freed-free : holderOf (placeIn (set d (base p) 0) p) ≡ 0
+  freed-free = sym (holder-at (set d (base p) 0) p) ∙ getD-set-same d (base p) 0 0 (omega arith)
+
+pub freed-sound : (d : List ℕ) (p : ℕ) → p < 12 → Sound d → Sound (set d (base p) 0)
+freed-sound d p h s =
+    let c = freed-core d (s .long) p h in
+    let m = freed-map d (s .long) p h in
+    let k = freed-other d (s .long) p h in
+    let f = freed-free d (s .long) p h in
+    record {
+      long = length-set d (base p) 0 ∙ s .long;
+      core = rw c (s .core);
+      map = rw (c, m) (s .map);
+      fair = rw (freed-holders d (s .long) p h) (freed-fair (holders d) p (s .fair));
+      place = λ q j. by-eq q p
+          (λ z. rw z (free-fits _ _ f))
+          (λ z. rw (m, k q z) (s .place q j));
+      two = λ q r l j. by-eq q p
+          (λ z. rw z (free-first _ _ f))
+          (λ z. by-eq r p
+          (λ y. rw y (free-second _ _ f))
+          (λ y. rw (k q z, k r y) (s .two q r l j)));
+    }
 
 -- ---- release
 pub release-sound : (d : List ℕ) (n r p : ℕ) → sound d ≡ true → sound (releaseOf d n r p .desk) ≡ true
@@ -123,7 +148,7 @@ release-sound d n r p q =
     (both P (eqb n (coreLength d))
     (both P (leb r 7)
     (when P (holds d r p)
-    (λ h. sound-says (set d (base p) 0) .test (freed-sound d (sound-says d .fact q) p (held-inside d r p h)))
+    (λ h. sound-says (set d (base p) 0) .test (freed-sound d p (held-inside d r p h) (sound-says d .fact q)))
     (λ h. q))
     q)
     q)

@@ -1,14 +1,12 @@
 -- `calls::make::free_places` meets its contract: after p turns the first p places are free. Assumes nothing.
 use Prim.Native.Nat.{_≤_, _-_}
-use mathlib.Core.Path.{_≡_, sym, _∙_}
+use mathlib.Core.Path.{_≡_}
 use native.Mathlib.Omega.{arith}
 use lib.ListN.{length, length-set}
 use Rattle.calls.specs.Make.{freed}
 use Rattle.calls.proofs.Made.{freed-none, freed-more}
 use Rattle.calls.proofs.make.free_places.Statement.{statement}
 use Rattle.calls.proofs.make.free_places.Tie as tie
-use Rattle.calls.proofs.make.free_places.Reads as reads
-use Rattle.calls.proofs.make.free_places.Lts as lts
 
 abbrev Inv-loop : tie.InvT-loop
 Inv-loop desk₀ p₀ desk p = (p ≤ 12) × (length desk ≡ length desk₀) × (desk ≡ freed p desk₀)

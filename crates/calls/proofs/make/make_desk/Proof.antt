@@ -6,11 +6,6 @@ use Rattle.calls.specs.Make.{makeOf}
 use borrow.Author.Needs.{needs}
 use Rattle.calls.proofs.make.make_desk.Statement.{statement}
 use Rattle.calls.proofs.make.make_desk.Tie as tie
-use Rattle.calls.proofs.make.make_desk.Reads as reads
-use Rattle.calls.proofs.make.make_desk.Lts as lts
-use Rattle.calls.proofs.make.write_fresh.Reads as write-fresh-reads
-use Rattle.map.proofs.map_obeys.Reads as map-obeys-reads
-use Rattle.map.proofs.read_map.Reads as read-map-reads
 
 returns : tie.Need-returns
 unfolding makeOf

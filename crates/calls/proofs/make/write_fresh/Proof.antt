@@ -8,10 +8,6 @@ use Rattle.calls.proofs.Made.{length-freed, fixed-length, fresh-as}
 use borrow.Author.Needs.{needs}
 use Rattle.calls.proofs.make.write_fresh.Statement.{statement}
 use Rattle.calls.proofs.make.write_fresh.Tie as tie
-use Rattle.calls.proofs.make.write_fresh.Reads as reads
-use Rattle.calls.proofs.make.write_fresh.Lts as lts
-use Rattle.calls.proofs.make.free_places.Reads as free-places-reads
-use Rattle.slices.proofs.copy_in.Reads as copy-in-reads
 
 slice-write-desk : tie.Need-slice-write-desk
 slice-write-desk c = search needs

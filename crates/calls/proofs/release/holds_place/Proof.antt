@@ -4,8 +4,6 @@ use Rattle.calls.specs.Release.{holds}
 use borrow.Author.Needs.{needs}
 use Rattle.calls.proofs.release.holds_place.Statement.{statement}
 use Rattle.calls.proofs.release.holds_place.Tie as tie
-use Rattle.calls.proofs.release.holds_place.Reads as reads
-use Rattle.calls.proofs.release.holds_place.Lts as lts
 
 returns : tie.Need-returns
 unfolding holds

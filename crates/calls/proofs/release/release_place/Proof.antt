@@ -1,19 +1,12 @@
 -- `calls::release::release_place` meets its contract: its tests are those of `releaseOf`, in that order. Assumes nothing.
 use mathlib.Core.Path.{refl, sym, _∙_}
 use native.Mathlib.Omega.{arith}
-use denote.Ref.{now}
-use lib.ListN.{length}
 use borrow.Author.Tests.{eq-eqb, ne-eqb, le-leb, lt-leb, not-true, not-false}
-use Rattle.layout.specs.Layout.{coreLength}
 use Rattle.calls.specs.Release.{releaseOf}
 use Rattle.calls.proofs.Freed.{sound-long, held-inside}
 use borrow.Author.Needs.{needs}
 use Rattle.calls.proofs.release.release_place.Statement.{statement}
 use Rattle.calls.proofs.release.release_place.Tie as tie
-use Rattle.calls.proofs.release.release_place.Reads as reads
-use Rattle.calls.proofs.release.release_place.Lts as lts
-use Rattle.calls.proofs.release.holds_place.Reads as holds-place-reads
-use Rattle.desk.proofs.is_sound.Reads as is-sound-reads
 
 is-sound-requires : tie.Need-is-sound-requires
 is-sound-requires c κs = search needs
