@@ -1,3 +1,4 @@
 pub mod Outcome
 pub mod Freed
 pub mod Made
+pub mod Opened

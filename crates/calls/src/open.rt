@@ -1,1 +1,150 @@
-// open
+// Open: a room is given the lowest free place, the area's words are set to zero and the lists are copied, or a refusal of 1, 2, 4
+// to 8 says why not (01, "The desk").
+ghost use mathlib.Core.Path.{_≡_};
+ghost use mathlib.Core.Bool.{true};
+ghost use Prim.Native.Nat.{_+_, _/_, _≤_, _<_};
+ghost use lib.ListN.{length};
+ghost use Rattle.word.specs.Lists.{every, splice};
+ghost use Rattle.lists.specs.Obey.{listsObey};
+ghost use Rattle.lists.specs.Keep.{numbersKept};
+ghost use Rattle.layout.specs.Layout.{deskWords, coreLength, places};
+ghost use Rattle.desk.specs.Sound.{sound};
+ghost use Rattle.calls.specs.Outcome.{Meets};
+ghost use Rattle.calls.specs.Open.{besideOwn, areaFits, openedDesk, grantOf, openOf};
+use answer::Answer;
+use word::Area;
+use word::Fault;
+
+// A place for the room, with this area and these lists.
+pub fn open_load(
+    desk: &mut [u64],
+    core: &mut [u64],
+    room: u64,
+    area: Area,
+    ios: &[u64],
+    tables: &[u64],
+) -> Answer
+    ensures { λ a. ⌜ Meets (openOf (now (desk .entry)) (now (core .entry)) room area (now (ios .entry)) (now (tables .entry))) a (now (desk .exit)) (now (core .exit)) ⌝ }
+{
+    if !desk::is_sound(desk) {
+        return Answer::Refused(Fault { number: 1 });
+    }
+    if core.len() as u64 != desk[0] {
+        return Answer::Refused(Fault { number: 2 });
+    }
+    if 7 < room {
+        return Answer::Refused(Fault { number: 4 });
+    }
+    grant(desk, core, room, area, ios, tables)
+}
+
+// From refusal 5 on.
+fn grant(
+    desk: &mut [u64],
+    core: &mut [u64],
+    room: u64,
+    area: Area,
+    ios: &[u64],
+    tables: &[u64],
+) -> Answer
+    requires { ⌜ (sound (now desk) ≡ true) × (length (now core) ≡ coreLength (now desk)) × (room < 8) ⌝ }
+    ensures { λ a. ⌜ Meets (grantOf (now (desk .entry)) (now (core .entry)) room area (now (ios .entry)) (now (tables .entry))) a (now (desk .exit)) (now (core .exit)) ⌝ }
+{
+    let h = layout::read_holders(desk);
+    let n = rooms::place_refusal(&h, room);
+    if n != 0 {
+        return Answer::Refused(Fault { number: n });
+    }
+    if !area_fits(desk, room, area) {
+        return Answer::Refused(Fault { number: 7 });
+    }
+    if !lists::lists_obey(area, ios, tables) {
+        return Answer::Refused(Fault { number: 8 });
+    }
+    let p = rooms::lowest_free(&h);
+    write_place(desk, p, room, area, ios, tables);
+    slices::clear(core, area.at.0 as usize, area.size as usize);
+    Answer::Opened(p as u64)
+}
+
+// Whether the area is not empty, lies in the room's stretch and shares no word with one the room holds.
+fn area_fits(desk: &[u64], room: u64, area: Area) -> bool
+    requires { ⌜ (length (now desk) ≡ deskWords) × (room < 8) ⌝ }
+    ensures { λ r. ⌜ r ≡ areaFits (now (desk .entry)) room area ⌝ }
+{
+    let m = map::read_map(layout::map_numbers(desk));
+    let s = m[room as usize];
+    if !desk::area_in(s, area) {
+        return false;
+    }
+    all_beside(desk, room, area)
+}
+
+// Whether the area shares no word with one the room holds, at any of the twelve places.
+fn all_beside(desk: &[u64], room: u64, area: Area) -> bool
+    requires { ⌜ (length (now desk) ≡ deskWords) × (room < 8) ⌝ }
+    ensures { λ r. ⌜ r ≡ every (besideOwn room area) (places (now (desk .entry))) ⌝ }
+{
+    let mut p: usize = 0;
+    while p < 12 {
+        if !beside_own(layout::place_at(desk, p), room, area) {
+            return false;
+        }
+        p += 1;
+    }
+    true
+}
+
+fn beside_own(place: &[u64], room: u64, area: Area) -> bool
+    requires { ⌜ (length (now place) ≡ 303) × (room < 8) ⌝ }
+    ensures { λ r. ⌜ r ≡ besideOwn room area (now (place .entry)) ⌝ }
+{
+    if place[0] != room + 1 {
+        return true;
+    }
+    desk::runs_apart(place[1], place[2], area.at.0, area.size)
+}
+
+// The numbers of place p: its own, the stage of a load that waits for its label, and the lists. A place's parts cannot be lent at
+// the same time, so the tables are kept in arrays and copied from there.
+fn write_place(desk: &mut [u64], p: usize, room: u64, area: Area, ios: &[u64], tables: &[u64])
+    requires { ⌜ (length (now desk) ≡ deskWords) × (p < 12) × (room < 8) × (area .at .0 + area .size ≤ 65536) × (listsObey area (now ios) (now tables) ≡ true) ⌝ }
+    ensures { λ _. ⌜ now (desk .exit) ≡ openedDesk (now (desk .entry)) p room area (now (ios .entry)) (now (tables .entry)) ⌝ }
+{
+    let mut words = [0u64; 128];
+    let mut ranks = [0u64; 128];
+    let kept = lists::keep_tables(tables, &mut words, &mut ranks);
+    let n = tables.len() / 2;
+    let own = [
+        room + 1,
+        area.at.0,
+        area.size,
+        ios.len() as u64,
+        n as u64,
+        kept as u64,
+        0,
+        0,
+        0,
+        0,
+        0,
+        0,
+        0,
+        0,
+        0,
+    ];
+    let b = 17 + p * 303;
+    slices::copy_in(desk, b, &own);
+    write_numbers(desk, b + 15, ios);
+    slices::copy_in(desk, b + 47, &words[..kept]);
+    slices::copy_in(desk, b + 175, &ranks[..n]);
+}
+
+// The I/O numbers as they are kept, in the desk from place a on.
+fn write_numbers(desk: &mut [u64], a: usize, ios: &[u64])
+    requires { ⌜ (length (now ios) ≤ 128) × (a + 32 ≤ length (now desk)) ⌝ }
+    ensures { λ _. ⌜ now (desk .exit) ≡ splice (now (desk .entry)) a (numbersKept (now (ios .entry))) ⌝ }
+{
+    let mut numbers = [0u64; 32];
+    lists::keep_numbers(ios, &mut numbers);
+    slices::copy_in(desk, a, &numbers[..(ios.len() + 3) / 4]);
+}
