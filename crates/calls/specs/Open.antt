@@ -2,7 +2,7 @@
 -- and copies the lists." Refusals 1, 2, 4, 5, 6, 7 and 8, in that order.
 use Prim.Native.Nat.{ℕ, _+_}
 use mathlib.Core.Bool.{Bool, cond, _&&_, _||_, not}
-use mathlib.Core.List.{List, [], _∷_, _++_}
+use mathlib.Core.List.{List, _∷_}
 use lib.ListN.{length, getD}
 use lib.Dec.{eqb, leb}
 use Rattle.word.specs.Lists.{every, splice, cleared}

@@ -1,0 +1,24 @@
+use denote.Ref.{now}
+use mathlib.Core.Path.{ap, _∙_}
+use Rattle.answer.specs.Answer.{packed}
+use Rattle.calls.proofs.Made.{make-small}
+use borrow.Author.Needs.{needs}
+use Rattle.clamp.proofs.clamp_make.Statement.{statement}
+use Rattle.clamp.proofs.clamp_make.Tie as tie
+
+make-desk-requires : tie.Need-make-desk-requires
+make-desk-requires c κs = search needs
+
+pack-requires : tie.Need-pack-requires
+pack-requires c κs = let a = c .before .before .before .before .before .before .args in rw (c .before .before .make-desk .ensures .told) (make-small (now (a .desk)) (a .core) (now (a .numbers)))
+
+same-length : tie.Need-same-length
+same-length c = search needs
+
+returns : tie.Need-returns
+returns c =
+    let m = c .before .before .before .make-desk .ensures in
+    record { told = c .pack .ensures ∙ ap packed (m .told); desk-left = m .desk-left; core-left = m .core-left }
+
+pub clamp-make-spec : {M : Type 1} → statement M
+clamp-make-spec = tie.close (tie.spec make-desk-requires pack-requires same-length returns)

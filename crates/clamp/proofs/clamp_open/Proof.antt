@@ -1,0 +1,30 @@
+use mathlib.Core.Path.{ap, _∙_}
+use denote.Ref.{now}
+use Rattle.answer.specs.Answer.{packed}
+use Rattle.calls.proofs.Opened.{open-small}
+use borrow.Author.Needs.{needs}
+use Rattle.clamp.proofs.clamp_open.Statement.{statement}
+use Rattle.clamp.proofs.clamp_open.Tie as tie
+
+open-load-requires : tie.Need-open-load-requires
+open-load-requires c κs = search needs
+
+pack-requires : tie.Need-pack-requires
+pack-requires c κs =
+    let a = c .before .before .before .before .before .before .before .before .before .before .before .args in
+    rw (c .before .before .before .before .open-load .ensures .told) (open-small (now (a .desk)) (now (a .core)) (a .room) (record { at = record { 0 = a .area }; size = a .size }) (now (a .io)) (now (a .tables)))
+
+same-length : tie.Need-same-length
+same-length c = search needs
+
+same-length-2 : tie.Need-same-length-2
+same-length-2 c = search needs
+
+returns : tie.Need-returns
+returns c =
+    let m = c .before .before .before .before .before .open-load .ensures in
+    record { told = c .pack .ensures ∙ ap packed (m .told); desk-left = m .desk-left; core-left = m .core-left }
+
+pub clamp-open-spec : {M : Type 1} → statement M
+clamp-open-spec =
+    tie.close (tie.spec open-load-requires pack-requires same-length same-length-2 returns)

@@ -1,0 +1,54 @@
+// The library that the emulator links: the calls with C linkage, and nothing else. Answers are packed as docs/ANSWERS.md says.
+ghost use mathlib.Core.Path.{_≡_};
+ghost use mathlib.Core.List.{[]};
+ghost use Rattle.layout.specs.Layout.{deskWords};
+ghost use Rattle.calls.specs.Make.{makeOf};
+ghost use Rattle.calls.specs.Open.{openOf};
+ghost use Rattle.calls.specs.Release.{releaseOf};
+ghost use Rattle.clamp.specs.Told.{Told};
+use word::Absolute;
+use word::Area;
+
+// The fixed length of a desk.
+#[no_mangle]
+pub extern "C" fn clamp_desk_words() -> u64
+    ensures { λ r. ⌜ r ≡ deskWords ⌝ }
+{
+    3653
+}
+
+// A fresh desk, from the core length and the map's numbers.
+#[no_mangle]
+pub extern "C" fn clamp_make(desk: &mut [u64], core: u64, numbers: &[u64]) -> u64
+    ensures { λ r. ⌜ Told (makeOf (now (desk .entry)) core (now (numbers .entry))) r (now (desk .exit)) [] ⌝ }
+{
+    answer::pack(calls::make::make_desk(desk, core, numbers))
+}
+
+// A place for a load: its room, its area, its two lists.
+#[no_mangle]
+pub extern "C" fn clamp_open(
+    desk: &mut [u64],
+    core: &mut [u64],
+    room: u64,
+    area: u64,
+    size: u64,
+    io: &[u64],
+    tables: &[u64],
+) -> u64
+    ensures { λ r. ⌜ Told (openOf (now (desk .entry)) (now (core .entry)) room (record { at = record { 0 = area }; size = size }) (now (io .entry)) (now (tables .entry))) r (now (desk .exit)) (now (core .exit)) ⌝ }
+{
+    let a = Area {
+        at: Absolute(area),
+        size,
+    };
+    answer::pack(calls::open::open_load(desk, core, room, a, io, tables))
+}
+
+// A place given back.
+#[no_mangle]
+pub extern "C" fn clamp_release(desk: &mut [u64], core: u64, room: u64, place: u64) -> u64
+    ensures { λ r. ⌜ Told (releaseOf (now (desk .entry)) core room place) r (now (desk .exit)) [] ⌝ }
+{
+    answer::pack(calls::release::release_place(desk, core, room, place))
+}
