@@ -18,12 +18,13 @@ use Rattle.rooms.specs.Rooms.{fresh}
 use Rattle.rooms.proofs.Rooms.{fresh-fair}
 use Rattle.layout.specs.Layout.{deskWords, base, coreLength, mapNumbers, placeIn, holderIn, holderOf, holders}
 use Rattle.layout.proofs.Places.{holder-at, length-holders, getD-holders}
-use Rattle.desk.specs.Sound.{coreFits, sound}
+use Rattle.desk.specs.Sound.{coreFits, sound, Sound}
 use Rattle.answer.specs.Answer.{codeOf, Small}
 use Rattle.answer.specs.declared.Answer.the-variants.{Made}
 use Rattle.calls.specs.Make.{freed, freshDesk, makeOf}
 use Rattle.calls.specs.Outcome.{Outcome}
-use Rattle.calls.proofs.Freed.{Sound, sound-says, free-fits, free-first, freed-core, freed-map}
+use Rattle.desk.proofs.Facts.{sound-says, free-fits, free-first}
+use Rattle.calls.proofs.Freed.{freed-core, freed-map}
 
 -- ---- the loop: no place freed yet, and one more
 pub freed-none : (d : List ℕ) → d ≡ freed 0 d

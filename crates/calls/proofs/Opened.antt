@@ -8,21 +8,20 @@ use lib.ListN.{length, getD, set, length-set, take}
 use lib.Seq.{ext-getD, getD-set-same, getD-set-other}
 use lib.Dec.{eqb, leb}
 use borrow.Author.Tests.{eq-eqb, ne-eqb, eqb-true, leb-true, le-leb, lt-leb}
-use Rattle.word.specs.Lists.{every, everyTwo, splice, range, cleared}
+use Rattle.word.specs.Lists.{every, splice, range, cleared}
 use Rattle.word.specs.Runs.{apart}
 use Rattle.word.specs.Fault.{fault}
 use Rattle.word.specs.declared.Area.{Area}
-use Rattle.word.proofs.Cases.{by-test, by-eq, when, both, and-left, and-right, and-both, or-not}
-use Rattle.word.proofs.Every.{every-place, every-by, two-by}
+use Rattle.word.proofs.Cases.{by-test, by-eq, when, both, and-left, and-right, or-not}
+use Rattle.word.proofs.Every.{every-place}
 use Rattle.word.proofs.Lists.{getD-range, range-splice-same, range-splice-before, length-splice}
 use Rattle.word.proofs.Says.{says-within, says-apart}
 use Rattle.map.specs.declared.Stretch.{Stretch}
-use Rattle.map.specs.Map.{mapOf, mapObeys, none, MapObeys, Separate}
-use Rattle.map.proofs.Every.{says-two}
+use Rattle.map.specs.Map.{mapOf, none, MapObeys, Separate}
 use Rattle.map.proofs.Map.{map-length, map-obeys-says}
 use Rattle.rooms.specs.Rooms.{fair, Fair, free, held, idle, placeRefusal, lowestFree}
 use Rattle.rooms.proofs.Count.{lowest-is-free}
-use Rattle.rooms.proofs.Rooms.{fair-says, given-place, given-fair}
+use Rattle.rooms.proofs.Rooms.{given-place, given-fair}
 use Rattle.lists.specs.Obey.{tablesOf, listsObey}
 use Rattle.lists.specs.Keep.{numbersKept, wordsKept, ranksKept, Keeps}
 use Rattle.lists.proofs.Keep.{lists-obey, kept-passes}
@@ -35,50 +34,24 @@ use Rattle.stage.specs.declared.Stage.the-variants.{Label}
 use Rattle.layout.specs.declared.Place.{Place}
 use Rattle.layout.specs.Layout.{deskWords, coreLength, mapNumbers, base, placeIn, places, holderOf, holderIn, ownOf, stageIn, wordsIn, holders}
 use Rattle.layout.proofs.Places.{holder-at, length-holders, getD-holders, place-length, written-length, place-written, place-kept, map-kept, core-kept}
-use Rattle.desk.specs.Sound.{areaIn, countsFit, loadFits, heldFits, placeFits, areasApart, coreFits, sound}
+use Rattle.desk.specs.Sound.{areaIn, countsFit, loadFits, heldFits, placeFits, areasApart, sound}
+use Rattle.desk.proofs.Facts.{sound-says, sound-long, free-first}
 use Rattle.desk.proofs.Tested.{places-length, places-at}
 use Rattle.answer.specs.Answer.{Small}
 use Rattle.answer.specs.declared.Answer.the-variants.{Refused, Opened}
 use Rattle.calls.specs.Outcome.{Outcome, Meets}
 use Rattle.calls.specs.Open.{besideOwn, areaFits, openedOwn, openedDesk, opened, grantOf, openOf}
 
--- ---- the parts of a sound desk
-pub record Parts (d : List ℕ) : Type 0 where
-  pub long : length d ≡ deskWords
-  pub core : coreFits (coreLength d) ≡ true
-  pub map-obeys : mapObeys (coreLength d) (mapOf (mapNumbers d)) ≡ true
-  pub fair-held : fair (holders d) ≡ true
-  pub fit : every (placeFits (mapOf (mapNumbers d))) (places d) ≡ true
-  pub two-apart : everyTwo areasApart (places d) ≡ true
-
-pub sound-parts : (d : List ℕ) → sound d ≡ true → Parts d
-unfolding sound
-sound-parts d q =
-    let m = mapOf (mapNumbers d) in
-    let a = and-right (eqb (length d) deskWords) _ q in
-    let b = and-right (coreFits (coreLength d)) _ a in
-    let e = and-right (mapObeys (coreLength d) m) _ b in
-    let f = and-right (fair (holders d)) _ e in record {
-      long = eqb-true (length d) deskWords (and-left (eqb (length d) deskWords) _ q);
-      core = and-left (coreFits (coreLength d)) _ a;
-      map-obeys = and-left (mapObeys (coreLength d) m) _ b;
-      fair-held = and-left (fair (holders d)) _ e;
-      fit = and-left (every (placeFits m) (places d)) _ f;
-      two-apart = and-right (every (placeFits m) (places d)) _ f;
-    }
-
+-- ---- what a sound desk has
 module _ (d : List ℕ) (s : sound d ≡ true) where
-  pub sound-long : length d ≡ deskWords
-  sound-long = sound-parts d s .long
-
   core-small : coreLength d ≤ 65536
-  core-small = leb-true (coreLength d) 65536 (and-right (leb 1 (coreLength d)) _ (sound-parts d s .core))
+  core-small = leb-true (coreLength d) 65536 (and-right (leb 1 (coreLength d)) _ (sound-says d .fact s .core))
 
   sound-map : MapObeys (coreLength d) (λ r. getD (mapOf (mapNumbers d)) r none)
-  sound-map = map-obeys-says (coreLength d) (mapOf (mapNumbers d)) (map-length (mapNumbers d)) .fact (sound-parts d s .map-obeys)
+  sound-map = map-obeys-says (coreLength d) (mapOf (mapNumbers d)) (map-length (mapNumbers d)) .fact (sound-says d .fact s .map)
 
   pub sound-fair : Fair (holders d)
-  sound-fair = fair-says (holders d) (length-holders d) .fact (sound-parts d s .fair-held)
+  sound-fair = sound-says d .fact s .fair
 
   -- an area that fits lies in the core
   module _ (r : ℕ) (a : Area) (h : r < 8) (q : areaFits d r a ≡ true) where
@@ -248,10 +221,6 @@ areas-by : (l k : List ℕ) → apart (ownOf l .area .at .0) (ownOf l .area .siz
 unfolding areasApart
 areas-by l k h = or-right (eqb (holderOf l) 0) _ (or-right (eqb (holderOf k) 0) _ h)
 
-areas-free : (l k : List ℕ) → holderOf l ≡ 0 → areasApart l k ≡ true
-unfolding areasApart
-areas-free l k z = rw (eq-eqb (holderOf l) 0 z)
-
 areas-turned : (l k : List ℕ) → areasApart l k ≡ true → areasApart k l ≡ true
 unfolding areasApart
 areas-turned l k q =
@@ -279,7 +248,7 @@ module _ (d : List ℕ) (s : sound d ≡ true) (p : ℕ) (in-p : p < 12) (l e : 
   each-fits : (q : ℕ) → q < 12 → placeFits (mapOf (mapNumbers d)) (placeIn e q) ≡ true
   each-fits q h =
       by-eq q p (λ y. rw (y, w .here) fits)
-      (λ y. rw (w .others q y, ← places-at d q h) (every-place [] _ (places d) q (omega (arith, places-length d)) (sound-parts d s .fit)))
+      (λ y. rw (w .others q y) (sound-says d .fact s .place q h))
 
   two-apart : (i j : ℕ) → i < j → j < 12 → areasApart (placeIn e i) (placeIn e j) ≡ true
   two-apart i j h k =
@@ -287,23 +256,19 @@ module _ (d : List ℕ) (s : sound d ≡ true) (p : ℕ) (in-p : p < 12) (l e : 
       (λ x. rw (x, w .here, w .others j (λ z. omega arith)) (areas-turned (placeIn d j) l (beside j k (λ z. omega arith))))
       (λ x. by-eq j p
       (λ y. rw (y, w .here, w .others i x) (beside i (omega arith) x))
-      (λ y. rw (w .others i x, w .others j y, ← places-at d i (omega arith), ← places-at d j k)
-      (says-two [] areasApart (λ m n. areasApart m n ≡ true) (λ m n. record { fact = λ z. z; test = λ z. z }) (places d) .fact
-      (sound-parts d s .two-apart) i j h (omega (arith, places-length d)))))
+      (λ y. rw (w .others i x, w .others j y) (sound-says d .fact s .two i j h k)))
 
   pub replaced-sound : Fair (set (holders d) p (holderOf l)) → sound e ≡ true
-  unfolding sound
   replaced-sound f =
-      let t = sound-parts d s in
-      and-both (eqb (length e) deskWords) _ (eq-eqb (length e) deskWords (w .long))
-      (and-both (coreFits (coreLength e)) _ (rw (w .core) (t .core))
-      (and-both (mapObeys (coreLength e) (mapOf (mapNumbers e))) _ (rw (w .core, w .map-same) (t .map-obeys))
-      (and-both (fair (holders e)) _ (rw (holders-replaced d p l e in-p w) (fair-says _ (length-set (holders d) p (holderOf l) ∙ length-holders d) .test f))
-      (and-both (every (placeFits (mapOf (mapNumbers e))) (places e)) _
-      (rw (w .map-same) (every-by [] _ (places e) (λ q h. let k : q < 12 = omega (arith, places-length e) in rw (places-at e q k) (each-fits q k))))
-      (two-by [] areasApart (places e)
-      (λ i j h g. let k : j < 12 = omega (arith, places-length e) in
-      rw (places-at e i (omega arith), places-at e j k) (two-apart i j h k)))))))
+      let t = sound-says d .fact s in
+      sound-says e .test (record {
+        long = w .long;
+        core = rw (w .core) (t .core);
+        map = rw (w .core, w .map-same) (t .map);
+        fair = rw (holders-replaced d p l e in-p w) f;
+        place = λ q h. rw (w .map-same) (each-fits q h);
+        two = two-apart;
+      })
 
 -- ---- what is read of a place just written
 module _ (l own numbers ws rs : List ℕ) (long : length l ≡ 303) (o : length own ≡ 15) (n : length numbers ≤ 32) (w : length ws ≤ 128)
@@ -430,13 +395,13 @@ module _ (d : List ℕ) (s : sound d ≡ true) (r : ℕ) (a : Area) (ios tables 
       let e = own-opened r a ios tables numbers own-is in
       let held : holderOf k ≤ 8 = omega (arith, sound-fair d s .known q h, getD-holders d q h, holder-at d q) in
       let b = every-place [] (besideOwn r a) (places d) q (omega (arith, places-length d)) (and-right (areaIn (getD m r none) a) _ fit) in
-      let f = every-place [] (placeFits m) (places d) q (omega (arith, places-length d)) (sound-parts d s .fit) in
-      by-eq (holderOf k) 0 (areas-free k numbers)
+      let f = sound-says d .fact s .place q h in
+      by-eq (holderOf k) 0 (free-first k numbers)
       (λ x. areas-by k numbers (rw e (by-eq (holderOf k) (r + 1)
       (λ y. or-not (eqb (holderOf k) (r + 1)) _ (rw (places-at d q h) at b) (eq-eqb (holderOf k) (r + 1) y))
       (λ y. stretches-areas (getD m t none) (getD m r none) (ownOf k .area) a
       (sound-map d s .separate t r (omega arith) room (λ z. y (omega arith)))
-      (and-left (areaIn (getD m t none) (ownOf k .area)) _ (rw (places-at d q h, ne-eqb (holderOf k) 0 x) at f))
+      (and-left (areaIn (getD m t none) (ownOf k .area)) _ (rw (ne-eqb (holderOf k) 0 x) at f))
       (area-held d s r a room fit)))))
 
   pub opened-sound : sound (openedDesk d place r a ios tables) ≡ true

@@ -2,6 +2,7 @@
 -- least H, no room holds over two, each copied list obeys refusal 8, and each other stored number is in the range that docs/ lists
 -- for it, given the others." (01, "The desk"; docs/DESK.md lists the ranges.) A desk that is not of its length or not sound meets 1.
 use Prim.Native.Nat.{ℕ, _+_, _-_, _≤_, _<_}
+use mathlib.Core.Path.{_≡_}
 use mathlib.Core.Bool.{Bool, true, cond, _&&_, _||_}
 use mathlib.Core.List.{List}
 use lib.ListN.{length, getD}
@@ -12,12 +13,12 @@ use Rattle.word.specs.Limits.{ioMost, tablesMost}
 use Rattle.word.specs.declared.Area.{Area}
 use Rattle.map.specs.declared.Stretch.{Stretch}
 use Rattle.map.specs.Map.{mapOf, mapObeys, none}
-use Rattle.rooms.specs.Rooms.{fair}
+use Rattle.rooms.specs.Rooms.{fair, Fair}
 use Rattle.lists.specs.Kept.{tablesIn}
 use Rattle.lists.specs.Chain.{chain}
 use Rattle.stage.specs.Ranges.{stageFits}
 use Rattle.layout.specs.declared.Place.{Place}
-use Rattle.layout.specs.Layout.{deskWords, coreLength, mapNumbers, places, holderOf, ownOf, stageIn, wordsIn, ranksIn, holders}
+use Rattle.layout.specs.Layout.{deskWords, coreLength, mapNumbers, placeIn, places, holderOf, ownOf, stageIn, wordsIn, ranksIn, holders}
 
 -- an area lies in a stretch, and is not empty
 unfoldable pub areaIn : Stretch → Area → Bool
@@ -60,6 +61,15 @@ sound d =
     && (fair (holders d)
     && (every (placeFits (mapOf (mapNumbers d))) (places d)
     && everyTwo areasApart (places d)))))
+
+-- the same as facts, of each place and of each two (`sound-says`, proofs/Facts.antt: the test says them, both ways)
+pub record Sound (d : List ℕ) : Type 0 where
+  pub long : length d ≡ deskWords
+  pub core : coreFits (coreLength d) ≡ true
+  pub map : mapObeys (coreLength d) (mapOf (mapNumbers d)) ≡ true
+  pub fair : Fair (holders d)
+  pub place : (p : ℕ) → p < 12 → placeFits (mapOf (mapNumbers d)) (placeIn d p) ≡ true
+  pub two : (p q : ℕ) → p < q → q < 12 → areasApart (placeIn d p) (placeIn d q) ≡ true
 
 -- a stretch that ends in the numbers of a core, and a map of such: what the test of a map has shown
 abbrev pub SmallStretch : Stretch → Type 0

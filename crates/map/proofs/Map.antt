@@ -14,7 +14,7 @@ use Rattle.word.proofs.Lists.{length-tab, getD-tab}
 use Rattle.word.proofs.Says.{says-and, says-as, says-within, says-apart}
 use Rattle.map.specs.declared.Stretch.{Stretch}
 use Rattle.map.specs.Map.{stretchOf, mapOf, inCore, stretchesApart, mapObeys, none, Separate, MapObeys}
-use Rattle.map.proofs.Every.{says-each, says-two}
+use Rattle.word.proofs.Each.{says-each, says-two}
 
 -- ---- the map of a list: eight stretches, each by its room
 pub map-length : (l : List ℕ) → length (mapOf l) ≡ 8

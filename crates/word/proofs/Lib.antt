@@ -6,3 +6,5 @@ pub mod Says
 pub mod Tests
 pub mod Word
 pub mod Stretch
+pub mod Each
+pub mod Fill

@@ -1,3 +1,4 @@
+-- `answer::pack` meets its contract: each return by the tests that led to it. Assumes nothing.
 use native.Mathlib.Omega.{arith}
 use borrow.Author.Needs.{needs}
 use Rattle.answer.proofs.pack.Statement.{statement}

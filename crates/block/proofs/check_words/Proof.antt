@@ -1,3 +1,4 @@
+-- `block::check_words` meets its contract: by the loop's invariant. Assumes nothing.
 use Prim.Native.Nat.{_≤_, _+_, _-_, _*_}
 use mathlib.Core.Path.{_≡_, refl, sym, _∙_}
 use mathlib.Core.Bool.{true, _&&_}

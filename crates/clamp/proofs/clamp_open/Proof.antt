@@ -1,3 +1,4 @@
+-- `clamp::clamp_open` meets its contract: each return by the tests that led to it. Assumes nothing.
 use mathlib.Core.Path.{ap, _∙_}
 use denote.Ref.{now}
 use Rattle.answer.specs.Answer.{packed}

@@ -1,3 +1,4 @@
+-- `clamp::clamp_release` meets its contract: each return by the tests that led to it. Assumes nothing.
 use denote.Ref.{now}
 use mathlib.Core.Path.{ap, _∙_}
 use Rattle.answer.specs.Answer.{packed}

@@ -1,3 +1,4 @@
+-- `desk::apart_from_later` meets its contract: by the loop's invariant. Assumes nothing.
 use Rattle.desk.proofs.Tested.{places-more, places-fail, places-end}
 use Prim.Native.Nat.{_+_, _≤_, _-_}
 use mathlib.Core.Path.{_≡_, refl, sym, _∙_}

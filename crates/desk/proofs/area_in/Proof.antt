@@ -1,3 +1,4 @@
+-- `desk::area_in` meets its contract: each return by the tests that led to it. Assumes nothing.
 use Rattle.desk.proofs.Runs.{area-empty, area-before, area-after, area-left}
 use borrow.Author.Needs.{needs}
 use Rattle.desk.proofs.area_in.Statement.{statement}

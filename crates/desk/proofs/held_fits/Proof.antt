@@ -1,3 +1,4 @@
+-- `desk::held_fits` meets its contract: each return by the tests that led to it. Assumes nothing.
 use Rattle.desk.proofs.Tested.{counts-small, area-small}
 use mathlib.Core.Path.{sym, _∙_}
 use borrow.Author.Tests.{not-true, not-false}

@@ -1,3 +1,4 @@
+-- `desk::is_sound` meets its contract: each return by the tests that led to it. Assumes nothing.
 use mathlib.Core.Path.{refl, sym, ap, _∙_}
 use denote.Ref.{now}
 use borrow.Author.Tests.{eq-eqb, ne-eqb, le-leb, lt-leb, not-true, not-false}

@@ -1,3 +1,4 @@
+-- `desk::load_fits` meets its contract: each return by the tests that led to it. Assumes nothing.
 use native.Mathlib.Omega.{arith}
 use denote.Ref.{now}
 use Rattle.desk.proofs.Tested.{ranks-most}

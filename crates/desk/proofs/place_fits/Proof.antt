@@ -1,3 +1,4 @@
+-- `desk::place_fits` meets its contract: each return by the tests that led to it. Assumes nothing.
 use denote.Ref.{now}
 use borrow.Author.Tests.{eq-eqb, ne-eqb}
 use native.Mathlib.Omega.{arith}

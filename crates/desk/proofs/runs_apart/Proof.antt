@@ -1,3 +1,4 @@
+-- `desk::runs_apart` meets its contract: each return by the tests that led to it. Assumes nothing.
 use Rattle.desk.proofs.Runs.{apart-first-empty, apart-second-empty, apart-rising, apart-falling}
 use borrow.Author.Needs.{needs}
 use Rattle.desk.proofs.runs_apart.Statement.{statement}

@@ -1,3 +1,4 @@
+-- `desk::two_apart` meets its contract: each return by the tests that led to it. Assumes nothing.
 use borrow.Author.Tests.{eq-eqb, ne-eqb}
 use Rattle.layout.specs.Layout.{ownOf}
 use Rattle.desk.specs.Sound.{areasApart}

@@ -1,3 +1,4 @@
+-- `label::add_channels` meets its contract: each return by the tests that led to it. Assumes nothing.
 use Rattle.word.proofs.Tests.{tests}
 use Rattle.label.specs.Tally.{addedChannels}
 use borrow.Author.Needs.{needs}

@@ -1,3 +1,4 @@
+-- `label::add_table` meets its contract: each return by the tests that led to it. Assumes nothing.
 use borrow.Author.Tests.{le-ltb, ne-eqb}
 use native.Mathlib.Nat.{div-one}
 use Rattle.word.proofs.Tests.{tests}

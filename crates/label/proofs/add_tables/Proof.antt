@@ -1,3 +1,4 @@
+-- `label::add_tables` meets its contract: each return by the tests that led to it. Assumes nothing.
 use Rattle.word.proofs.Tests.{tests}
 use Rattle.label.specs.Tally.{addedTables}
 use Rattle.label.proofs.add_tables.Statement.{statement}

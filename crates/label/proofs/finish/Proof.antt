@@ -1,3 +1,4 @@
+-- `label::finish` meets its contract: each return by the tests that led to it. Assumes nothing.
 use mathlib.Core.Path.{sym, _∙_}
 use borrow.Author.Tests.{not-true, not-false}
 use Rattle.word.proofs.Tests.{tests}

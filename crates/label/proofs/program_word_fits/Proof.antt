@@ -1,3 +1,4 @@
+-- `label::program_word_fits` meets its contract: each return by the tests that led to it. Assumes nothing.
 use Rattle.word.proofs.Tests.{tests}
 use native.Mathlib.Nat.{div-one}
 use Rattle.label.specs.Label.{programWordFits}

@@ -1,3 +1,4 @@
+-- `label::read_label` meets its contract: each return by the tests that led to it. Assumes nothing.
 use mathlib.Core.Path.{sym, _∙_}
 use borrow.Author.Tests.{eq-eqb, ne-eqb, not-true, not-false}
 use Rattle.label.specs.Label.{labelOf}

@@ -1,3 +1,4 @@
+-- `layout::own_of` meets its contract: each return by the tests that led to it. Assumes nothing.
 use mathlib.Core.Path.{refl}
 use Rattle.layout.specs.Layout.{ownOf}
 use borrow.Author.Needs.{needs}

@@ -1,3 +1,4 @@
+-- `layout::read_holders` meets its contract: each return by the tests that led to it. Assumes nothing.
 use mathlib.Core.Path.{refl}
 use Rattle.word.specs.Lists.{tab}
 use Rattle.layout.specs.Layout.{holders}

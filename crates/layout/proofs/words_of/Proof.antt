@@ -1,3 +1,4 @@
+-- `layout::words_of` meets its contract: each return by the tests that led to it. Assumes nothing.
 use Rattle.word.proofs.Lists.{range-lent}
 use denote.Ref.{now}
 use Rattle.layout.specs.Layout.{wordsIn}

@@ -4,7 +4,7 @@ use mathlib.Core.Path.{_≡_, refl}
 use native.Mathlib.Omega.{arith}
 use lib.ListN.{length, length-set}
 use Rattle.map.specs.Map.{stretchOf, mapOf}
-use Rattle.map.proofs.Fill.{filled, filled-none, filled-more, filled-all}
+use Rattle.word.proofs.Fill.{filled, filled-none, filled-more, filled-all}
 use Rattle.map.proofs.read_map.Statement.{statement}
 use Rattle.map.proofs.read_map.Tie as tie
 

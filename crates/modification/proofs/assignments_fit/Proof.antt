@@ -1,3 +1,4 @@
+-- `modification::assignments_fit` meets its contract: each return by the tests that led to it. Assumes nothing.
 use native.Mathlib.Omega.{arith}
 use denote.Ref.{now}
 use borrow.Author.Tests.{eq-eqb}

@@ -1,3 +1,4 @@
+-- `program::read_start` meets its contract: each return by the tests that led to it. Assumes nothing.
 use native.Mathlib.Nat.{div-one}
 use borrow.Author.Needs.{needs}
 use Rattle.program.proofs.read_start.Statement.{statement}

@@ -1,3 +1,4 @@
+-- `stage::bank_fits` meets its contract: each return by the tests that led to it. Assumes nothing.
 use mathlib.Core.Path.{sym}
 use Rattle.stage.specs.Ranges.{bankFits}
 use Rattle.stage.proofs.Fits.{within-over, within-left}

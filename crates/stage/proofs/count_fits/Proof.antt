@@ -1,3 +1,4 @@
+-- `stage::count_fits` meets its contract: each return by the tests that led to it. Assumes nothing.
 use denote.Ref.{now}
 use borrow.Author.Tests.{lt-ltb}
 use Rattle.word.proofs.Tests.{tests}

@@ -1,3 +1,4 @@
+-- `stage::course_fits` meets its contract: each return by the tests that led to it. Assumes nothing.
 use Rattle.word.proofs.Tests.{tests}
 use Rattle.stage.specs.Ranges.{courseFits}
 use Rattle.stage.proofs.course_fits.Statement.{statement}

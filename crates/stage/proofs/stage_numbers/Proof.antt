@@ -1,3 +1,4 @@
+-- `stage::stage_numbers` meets its contract: each return by the tests that led to it. Assumes nothing.
 use Rattle.stage.specs.Stage.{numbersOf}
 use borrow.Author.Needs.{needs}
 use Rattle.stage.proofs.stage_numbers.Statement.{statement}

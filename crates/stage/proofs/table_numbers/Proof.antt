@@ -1,3 +1,4 @@
+-- `stage::table_numbers` meets its contract: each return by the tests that led to it. Assumes nothing.
 use mathlib.Core.Path.{refl}
 use Rattle.stage.specs.Stage.{numbersOf}
 use Rattle.stage.proofs.table_numbers.Statement.{statement}

@@ -1,3 +1,4 @@
+-- `word::store_field` meets its contract: each return by the tests that led to it. Assumes nothing.
 use native.Mathlib.Omega.{arith}
 use borrow.Author.Needs.{needs}
 use Rattle.word.proofs.store_field.Statement.{statement}

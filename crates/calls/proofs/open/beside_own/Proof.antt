@@ -1,3 +1,4 @@
+-- `calls::open::beside_own` meets its contract: each return by the tests that led to it. Assumes nothing.
 use mathlib.Core.Path.{_∙_}
 use Rattle.calls.proofs.Opened.{beside-others, beside-held}
 use borrow.Author.Needs.{needs}

@@ -1,3 +1,4 @@
+-- `calls::open::grant` meets its contract: each return by the tests that led to it. Assumes nothing.
 use mathlib.Core.Path.{sym, ap, _∙_}
 use native.Mathlib.Omega.{arith}
 use denote.Ref.{now}
@@ -5,7 +6,8 @@ use borrow.Author.Tests.{not-true, not-false}
 use Rattle.layout.specs.Layout.{holders}
 use Rattle.rooms.specs.Rooms.{placeRefusal, lowestFree}
 use Rattle.rooms.proofs.Rooms.{given-place}
-use Rattle.calls.proofs.Opened.{sound-long, sound-fair, area-in-core, area-small, grant-denied, grant-outside, grant-unlisted, grant-given}
+use Rattle.desk.proofs.Facts.{sound-long}
+use Rattle.calls.proofs.Opened.{sound-fair, area-in-core, area-small, grant-denied, grant-outside, grant-unlisted, grant-given}
 use borrow.Author.Needs.{needs}
 use Rattle.calls.proofs.open.grant.Statement.{statement}
 use Rattle.calls.proofs.open.grant.Tie as tie

@@ -1,8 +1,10 @@
+-- `calls::open::open_load` meets its contract: each return by the tests that led to it. Assumes nothing.
 use mathlib.Core.Path.{sym, _∙_}
 use native.Mathlib.Omega.{arith}
 use denote.Ref.{now}
 use borrow.Author.Tests.{not-true, not-false}
-use Rattle.calls.proofs.Opened.{sound-long, open-unsound, open-other-core, open-no-room, open-on}
+use Rattle.desk.proofs.Facts.{sound-long}
+use Rattle.calls.proofs.Opened.{open-unsound, open-other-core, open-no-room, open-on}
 use borrow.Author.Needs.{needs}
 use Rattle.calls.proofs.open.open_load.Statement.{statement}
 use Rattle.calls.proofs.open.open_load.Tie as tie

@@ -1,3 +1,4 @@
+-- `calls::open::write_place` meets its contract: each return by the tests that led to it. Assumes nothing.
 use mathlib.Core.Path.{sym, ap, _∙_}
 use native.Mathlib.Omega.{arith}
 use denote.Ref.{now}

@@ -3,7 +3,8 @@ use mathlib.Core.Path.{refl, sym, _∙_}
 use native.Mathlib.Omega.{arith}
 use borrow.Author.Tests.{eq-eqb, ne-eqb, le-leb, lt-leb, not-true, not-false}
 use Rattle.calls.specs.Release.{releaseOf}
-use Rattle.calls.proofs.Freed.{sound-long, held-inside}
+use Rattle.desk.proofs.Facts.{sound-long}
+use Rattle.calls.proofs.Freed.{held-inside}
 use borrow.Author.Needs.{needs}
 use Rattle.calls.proofs.release.release_place.Statement.{statement}
 use Rattle.calls.proofs.release.release_place.Tie as tie

@@ -1,3 +1,4 @@
+-- `label::name::spell_inside` meets its contract: each return by the tests that led to it. Assumes nothing.
 use mathlib.Core.Path.{sym, _∙_}
 use Rattle.word.proofs.Tests.{tests}
 use Rattle.label.specs.Spelling.{nextSpelling}
