@@ -1,7 +1,7 @@
 -- The table words of a label: "Words from 4: table type in bits 35-32, entries in bits 8-0." House: "table types carried are 0
 -- (jump switch), 2 (channel), 3 (unit) and 12 (core), in rising order, none twice, none with 0 entries. Types 0 and 2 together
 -- have at most 16 entries, with type 3 at most 128; type 12 has at most 128. .. Otherwise 15." Which types are carried is said in
--- `addedTable` and nowhere else.
+-- `byType` and nowhere else.
 use Prim.Native.Nat.{ℕ, _+_, _≤_}
 use mathlib.Core.Bool.{cond}
 use mathlib.Core.List.{List, [], _∷_}
