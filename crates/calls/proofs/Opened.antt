@@ -36,7 +36,7 @@ use Rattle.layout.specs.Layout.{deskWords, coreLength, mapNumbers, base, placeI
 use Rattle.layout.proofs.Places.{holder-at, length-holders, getD-holders, place-length, written-length, place-written, place-kept, map-kept, core-kept}
 use Rattle.desk.specs.Sound.{areaIn, countsFit, loadFits, heldFits, placeFits, areasApart, sound}
 use Rattle.desk.proofs.Facts.{sound-says, sound-long, free-first}
-use Rattle.desk.proofs.Tested.{places-length, places-at}
+use Rattle.desk.proofs.Tested.{load-is, places-length, places-at}
 use Rattle.answer.specs.Answer.{Small}
 use Rattle.answer.specs.declared.Answer.the-variants.{Refused, Opened}
 use Rattle.calls.specs.Outcome.{Outcome, Meets}
@@ -332,8 +332,8 @@ module _ (r : ℕ) (a : Area) (ios tables l : List ℕ) (n : (i : ℕ) → i < 1
         )
 
     load-opened : loadFits own l ≡ true
-    unfolding loadFits stageFits wordsIn
-    load-opened = rw (ws, kept-passes a ios tables small q, stage-opened)
+    unfolding stageFits wordsIn
+    load-opened = rw (load-is, ws, kept-passes a ios tables small q, stage-opened)
 
     place-opened : (m : List Stretch) → areaIn (getD m r none) a ≡ true → placeFits m l ≡ true
     unfolding placeFits heldFits

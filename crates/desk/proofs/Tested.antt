@@ -1,7 +1,7 @@
 -- What the tests of a desk have shown when the next one is reached. Assumes nothing.
 use Prim.Native.Nat.{ℕ, _+_, _-_, _≤_, _<_}
 use mathlib.Core.Path.{_≡_, sym}
-use mathlib.Core.Bool.{Bool, true, false, _&&_}
+use mathlib.Core.Bool.{Bool, true, false, _&&_, and-false}
 use mathlib.Core.List.{List, []}
 use native.Mathlib.Omega.{arith}
 use lib.ListN.{length, getD, drop, List·getD-eq-default}
@@ -12,13 +12,17 @@ use Rattle.word.specs.Lists.{every, everyTwo}
 use Rattle.word.specs.declared.Area.{Area}
 use Rattle.word.proofs.Cases.{by-test, and-left, and-right}
 use Rattle.word.proofs.Lists.{length-tab, getD-tab, length-range-most, every-more, every-fails, every-ends, two-more, two-fails, two-ends}
+use Rattle.lists.specs.Chain.{chain}
+use Rattle.lists.specs.Obey.{tablesObey}
+use Rattle.lists.proofs.Sound.{order-sound}
+use Rattle.stage.specs.Ranges.{stageFits}
 use Rattle.map.specs.declared.Stretch.{Stretch}
 use Rattle.map.specs.Map.{mapObeys, mapOf, none}
 use Rattle.map.proofs.Map.{map-obeys-says}
 use Rattle.layout.specs.declared.Place.{Place}
-use Rattle.layout.specs.Layout.{deskWords, coreLength, mapNumbers, placeIn, places, holders, holderOf, ownOf, ranksIn}
+use Rattle.layout.specs.Layout.{deskWords, coreLength, mapNumbers, placeIn, places, holders, holderOf, ownOf, stageIn, wordsIn, ranksIn}
 use Rattle.rooms.specs.Rooms.{fair}
-use Rattle.desk.specs.Sound.{areaIn, countsFit, heldFits, placeFits, areasApart, coreFits, sound, SmallStretch, SmallMap}
+use Rattle.desk.specs.Sound.{areaIn, countsFit, tablesHeld, loadFits, heldFits, placeFits, areasApart, coreFits, sound, SmallStretch, SmallMap}
 
 -- an area in a small stretch ends in the numbers of a core
 pub area-small : (s : Stretch) (a : Area) → SmallStretch s → areaIn s a ≡ true → a .at .0 + a .size ≤ 65536
@@ -50,6 +54,15 @@ unfolding placeFits heldFits
 holder-over m l e h =
     let g : getD m (holderOf l - 1) none ≡ none = List·getD-eq-default m none (omega arith) in
     sym (rw (ne-eqb (holderOf l) 0 (omega arith), g, none-holds (ownOf l .area)))
+
+-- kept words that pass the one pass are tables that obey refusal 8, so that the code need not look at the tables
+pub load-is : (o : Place) (l : List ℕ)
+    → loadFits o l ≡ (chain (o .area) (wordsIn l (o .kept)) && stageFits (o .area) (tablesHeld o l) (o .io) (stageIn l))
+unfolding loadFits
+load-is o l =
+    by-test (chain (o .area) (wordsIn l (o .kept)))
+    (λ q. rw (order-sound (o .area) (wordsIn l (o .kept)) q (ranksIn l (o .tables))))
+    (λ q. rw q (and-false (tablesObey (o .area) (tablesHeld o l))))
 
 -- the twelve places
 pub places-length : (d : List ℕ) → length (places d) ≡ 12

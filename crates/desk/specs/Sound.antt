@@ -14,8 +14,10 @@ use Rattle.word.specs.declared.Area.{Area}
 use Rattle.map.specs.declared.Stretch.{Stretch}
 use Rattle.map.specs.Map.{mapOf, mapObeys, none}
 use Rattle.rooms.specs.Rooms.{fair, Fair}
+use Rattle.lists.specs.declared.Table.{Table}
 use Rattle.lists.specs.Kept.{tablesIn}
 use Rattle.lists.specs.Chain.{chain}
+use Rattle.lists.specs.Obey.{tablesObey}
 use Rattle.stage.specs.Ranges.{stageFits}
 use Rattle.layout.specs.declared.Place.{Place}
 use Rattle.layout.specs.Layout.{deskWords, coreLength, mapNumbers, placeIn, places, holderOf, ownOf, stageIn, wordsIn, ranksIn, holders}
@@ -24,15 +26,23 @@ use Rattle.layout.specs.Layout.{deskWords, coreLength, mapNumbers, placeIn, pla
 unfoldable pub areaIn : Stretch → Area → Bool
 areaIn s a = leb 1 (a .size) && within (a .at .0) (a .size) (s .start .0) (s .len)
 
--- the counts of a place's lists are within the limits
+-- refusal 8, "over 128 entries": the counts of a place's lists are within the limits
 unfoldable pub countsFit : Place → Bool
 countsFit o = leb (o .io) ioMost && (leb (o .tables) tablesMost && leb (o .kept) tablesMost)
 
--- the lists of a held place obey refusal 8 (`order-sound` of the crate lists), and its stage is in range
+-- the core tables of a place, as they are read
+abbrev pub tablesHeld : Place → List ℕ → List Table
+tablesHeld o l = tablesIn (o .area) (wordsIn l (o .kept)) (ranksIn l (o .tables))
+
+-- refusal 8, "a table not inside the area, or two tables sharing a word": of the tables one by one and pair by pair. Then the ranges
+-- of the kept words and of the stage. The code looks at the kept words alone: where those pass, the tables obey, whatever the ranks
+-- are (`order-sound`, crate lists). "Half a pair, an I/O number over 65,535": a desk has no room for either. It keeps tables, not
+-- numbers of a list, and 16 bits an I/O number (`numbers-obey`, crate lists).
 unfoldable pub loadFits : Place → List ℕ → Bool
 loadFits o l =
-    chain (o .area) (wordsIn l (o .kept))
-    && stageFits (o .area) (tablesIn (o .area) (wordsIn l (o .kept)) (ranksIn l (o .tables))) (o .io) (stageIn l)
+    tablesObey (o .area) (tablesHeld o l)
+    && (chain (o .area) (wordsIn l (o .kept))
+    && stageFits (o .area) (tablesHeld o l) (o .io) (stageIn l))
 
 -- a place that a room holds, s its stretch
 unfoldable pub heldFits : Stretch → List ℕ → Bool

@@ -1,19 +1,24 @@
 -- What is read of the kept lists: how many there are, each by its number, and no number is too large. Assumes nothing.
 use Prim.Native.Nat.{ℕ, _+_, _*_, _/_, _%_, _^_, _<_, _≤_}
 use mathlib.Core.Path.{_≡_}
+use mathlib.Core.Bool.{true}
 use mathlib.Core.List.{List}
 use native.Mathlib.Omega.{arith}
 use lib.ListN.{length, getD, List·getD-eq-default}
 use lib.Dec.{ltb, eqb}
+use borrow.Author.Tests.{lt-ltb}
 use Rattle.word.specs.declared.Area.{Area}
 use Rattle.word.specs.declared.Absolute.{Absolute}
 use Rattle.word.proofs.Word.{part-below}
 use Rattle.word.specs.Runs.{within}
 use Rattle.word.proofs.Says.{says-within}
+use Rattle.word.specs.Lists.{every}
 use Rattle.word.proofs.Cases.{both, when}
+use Rattle.word.proofs.Every.{every-by}
 use Rattle.lists.specs.declared.Table.{Table}
 use Rattle.word.proofs.Lists.{length-tab, getD-tab}
 use Rattle.lists.specs.Kept.{numberIn, numbersIn, rankIn, awayIn, tableNumberIn, tableOf, emptyIn, tableBy, tableAt, tablesIn}
+use Rattle.lists.specs.Obey.{isIoNumber}
 
 -- I/O numbers
 pub numbers-length : (ws : List ℕ) (n : ℕ) → length (numbersIn ws n) ≡ n
@@ -30,6 +35,12 @@ numbers-past ws n k h = let e = numbers-length ws n in List·getD-eq-default (nu
 pub number-below : (ws : List ℕ) (k : ℕ) → numberIn ws k < 2 ^ 16
 unfolding numberIn
 number-below ws k = part-below (16 * (k % 4)) 16 (getD ws (k / 4) 0)
+
+-- refusal 8, "an I/O number over 65,535": none is read, whatever is kept
+pub numbers-obey : (ws : List ℕ) (n : ℕ) → every isIoNumber (numbersIn ws n) ≡ true
+numbers-obey ws n =
+    every-by 0 isIoNumber (numbersIn ws n)
+    (λ i h. let e = numbers-length ws n in rw (numbers-at ws n i (omega arith)) (lt-ltb (numberIn ws i) (2 ^ 16) (number-below ws i)))
 
 -- core tables
 abbrev pub Small : Table → Type 0

@@ -1,10 +1,9 @@
 -- `desk::load_fits` meets its contract: each return by the tests that led to it. Assumes nothing.
 use native.Mathlib.Omega.{arith}
 use denote.Ref.{now}
-use Rattle.desk.proofs.Tested.{ranks-most}
+use Rattle.desk.proofs.Tested.{load-is, ranks-most}
 use mathlib.Core.Path.{sym, _∙_}
 use borrow.Author.Tests.{not-true, not-false}
-use Rattle.desk.specs.Sound.{loadFits}
 use borrow.Author.Needs.{needs}
 use Rattle.desk.proofs.load_fits.Statement.{statement}
 use Rattle.desk.proofs.load_fits.Tie as tie
@@ -16,8 +15,7 @@ chain-fits-requires : tie.Need-chain-fits-requires
 chain-fits-requires c κs = search needs
 
 returns : tie.Need-returns
-unfolding loadFits
-returns c = rw (← c .before .before .words-of .ensures, sym (c .before .chain-fits .ensures) ∙ not-true _ (c .if1 .taken))
+returns c = rw (load-is, ← c .before .before .words-of .ensures, sym (c .before .chain-fits .ensures) ∙ not-true _ (c .if1 .taken))
 
 ranks-of-requires : tie.Need-ranks-of-requires
 ranks-of-requires c κs = search needs
@@ -31,8 +29,7 @@ stage-fits-requires c κs =
     (b .pre .4, omega (arith, b .pre .1), rw (c .before .ranks-of .ensures) (omega (arith, ranks-most (now (b .args .place)) (b .args .o .tables), b .pre .2)))
 
 returns-2 : tie.Need-returns-2
-unfolding loadFits
-returns-2 c = rw (← c .before .before .before .before .before .words-of .ensures, sym (c .before .before .before .before .chain-fits .ensures) ∙ not-false _ (c .before .before .before .if1 .left), ← c .before .before .ranks-of .ensures, ← c .before .stage-of .ensures) (c .stage-fits .ensures)
+returns-2 c = rw (load-is, ← c .before .before .before .before .before .words-of .ensures, sym (c .before .before .before .before .chain-fits .ensures) ∙ not-false _ (c .before .before .before .if1 .left), ← c .before .before .ranks-of .ensures, ← c .before .stage-of .ensures) (c .stage-fits .ensures)
 
 pub load-fits-spec : {M : Type 1} → statement M
 load-fits-spec =
