@@ -1,25 +1,23 @@
 -- Open: what its steps leave, by the tests that were passed, and that it keeps a desk sound. Assumes nothing.
 use Prim.Native.Nat.{ℕ, _+_, _-_, _/_, _≤_, _<_}
 use mathlib.Core.Path.{_≡_, refl, sym, ap, _∙_}
-use mathlib.Core.Bool.{Bool, true, false, _||_}
+use mathlib.Core.Bool.{Bool, true, false}
 use mathlib.Core.List.{List, [], _∷_}
 use native.Mathlib.Omega.{arith}
-use lib.ListN.{length, getD, set, length-set, take}
-use lib.Seq.{ext-getD, getD-set-same, getD-set-other}
+use lib.ListN.{length, getD, take}
 use lib.Dec.{eqb, leb}
 use borrow.Author.Tests.{eq-eqb, ne-eqb, eqb-true, leb-true, le-leb, lt-leb}
 use Rattle.word.specs.Lists.{every, splice, range, cleared}
 use Rattle.word.specs.Runs.{apart}
 use Rattle.word.specs.Fault.{fault}
 use Rattle.word.specs.declared.Area.{Area}
-use Rattle.word.proofs.Cases.{by-test, by-eq, when, both, and-left, and-right, or-not}
+use Rattle.word.proofs.Cases.{by-eq, when, both, and-left, and-right, or-not}
 use Rattle.word.proofs.Every.{every-place}
 use Rattle.word.proofs.Lists.{getD-range, range-splice-same, range-splice-before, length-splice}
 use Rattle.word.proofs.Says.{says-within, says-apart}
 use Rattle.map.specs.declared.Stretch.{Stretch}
-use Rattle.map.specs.Map.{mapOf, none, MapObeys, Separate}
-use Rattle.map.proofs.Map.{map-length, map-obeys-says}
-use Rattle.rooms.specs.Rooms.{fair, Fair, free, held, idle, placeRefusal, lowestFree}
+use Rattle.map.specs.Map.{mapOf, none, Separate}
+use Rattle.rooms.specs.Rooms.{free, held, idle, placeRefusal, lowestFree}
 use Rattle.rooms.proofs.Count.{lowest-is-free}
 use Rattle.rooms.proofs.Rooms.{given-place, given-fair}
 use Rattle.lists.specs.Obey.{tablesOf, listsObey}
@@ -32,42 +30,28 @@ use Rattle.stage.specs.Stage.{numbersOf, stageOf}
 use Rattle.stage.specs.Ranges.{stageFits}
 use Rattle.stage.specs.declared.Stage.the-variants.{Label}
 use Rattle.layout.specs.declared.Place.{Place}
-use Rattle.layout.specs.Layout.{deskWords, coreLength, mapNumbers, base, placeIn, places, holderOf, holderIn, ownOf, stageIn, wordsIn, holders}
-use Rattle.layout.proofs.Places.{holder-at, length-holders, getD-holders, place-length, written-length, place-written, place-kept, map-kept, core-kept}
+use Rattle.layout.specs.Layout.{coreLength, mapNumbers, base, placeIn, places, holderOf, holderIn, ownOf, stageIn, wordsIn, holders}
+use Rattle.layout.proofs.Places.{holder-at, getD-holders, place-length}
 use Rattle.desk.specs.Sound.{areaIn, countsFit, loadFits, heldFits, placeFits, areasApart, sound}
-use Rattle.desk.proofs.Facts.{sound-says, sound-long, free-first}
+use Rattle.desk.proofs.Facts.{sound-says, sound-long, free-first, core-small, sound-map, sound-fair, stretch-in-core}
+use Rattle.desk.proofs.Replaced.{Replaced, replaced-none, replaced-more, areas-by, replaced-sound}
 use Rattle.desk.proofs.Tested.{load-is, places-length, places-at}
 use Rattle.answer.specs.Answer.{Small}
 use Rattle.answer.specs.declared.Answer.the-variants.{Refused, Opened}
 use Rattle.calls.specs.Outcome.{Outcome, Meets}
 use Rattle.calls.specs.Open.{besideOwn, areaFits, openedOwn, openedDesk, opened, grantOf, openOf}
 
--- ---- what a sound desk has
-module _ (d : List ℕ) (s : sound d ≡ true) where
-  core-small : coreLength d ≤ 65536
-  core-small = leb-true (coreLength d) 65536 (and-right (leb 1 (coreLength d)) _ (sound-says d .fact s .core))
+-- ---- an area that fits lies in its room's stretch, and so in the core
+module _ (d : List ℕ) (s : sound d ≡ true) (r : ℕ) (a : Area) (h : r < 8) (q : areaFits d r a ≡ true) where
+  pub area-held : areaIn (getD (mapOf (mapNumbers d)) r none) a ≡ true
+  unfolding areaFits
+  area-held = and-left (areaIn (getD (mapOf (mapNumbers d)) r none) a) _ q
 
-  sound-map : MapObeys (coreLength d) (λ r. getD (mapOf (mapNumbers d)) r none)
-  sound-map = map-obeys-says (coreLength d) (mapOf (mapNumbers d)) (map-length (mapNumbers d)) .fact (sound-says d .fact s .map)
+  pub area-in-core : a .at .0 + a .size ≤ coreLength d
+  area-in-core = stretch-in-core d s r a h area-held
 
-  pub sound-fair : Fair (holders d)
-  sound-fair = sound-says d .fact s .fair
-
-  -- an area that fits lies in the core
-  module _ (r : ℕ) (a : Area) (h : r < 8) (q : areaFits d r a ≡ true) where
-    pub area-held : areaIn (getD (mapOf (mapNumbers d)) r none) a ≡ true
-    unfolding areaFits
-    area-held = and-left (areaIn (getD (mapOf (mapNumbers d)) r none) a) _ q
-
-    pub area-in-core : a .at .0 + a .size ≤ coreLength d
-    unfolding areaIn
-    area-in-core =
-        let t = getD (mapOf (mapNumbers d)) r none in
-        let w = says-within (a .at .0) (a .size) (t .start .0) (t .len) .fact (and-right (leb 1 (a .size)) _ area-held) in
-        omega (arith, w .1, sound-map .inside r h)
-
-    pub area-small : a .at .0 + a .size ≤ 65536
-    area-small = omega (arith, area-in-core, core-small)
+  pub area-small : a .at .0 + a .size ≤ 65536
+  area-small = omega (arith, area-in-core, core-small d s)
 
 -- ---- an area beside those that the room holds
 module _ (r : ℕ) (a : Area) (l : List ℕ) where
@@ -181,57 +165,7 @@ module _ (d core : List ℕ) (r : ℕ) (a : Area) (ios tables : List ℕ) where
       unfolding openOf
       open-on h = rw (s, eq-eqb (length core) (coreLength d) e, le-leb r 7 h)
 
--- ---- a desk with one place written anew: e is d, but for place p, whose numbers are l
-pub record Replaced (d : List ℕ) (p : ℕ) (l e : List ℕ) : Type 0 where
-  pub long : length e ≡ deskWords
-  pub core : coreLength e ≡ coreLength d
-  pub map-same : mapNumbers e ≡ mapNumbers d
-  pub here : placeIn e p ≡ l
-  pub others : (q : ℕ) → (q ≡ p → ⊥) → placeIn e q ≡ placeIn d q
-
-replaced-none : (d : List ℕ) (p : ℕ) → length d ≡ deskWords → Replaced d p (placeIn d p) d
-replaced-none d p h = record { long = h; core = refl; map-same = refl; here = refl; others = λ q n. refl }
-
-replaced-more : (d : List ℕ) (p : ℕ) (l e : List ℕ) (o : ℕ) (vs : List ℕ) → p < 12 → o + length vs ≤ 303
-    → Replaced d p l e → Replaced d p (splice l o vs) (splice e (base p + o) vs)
-replaced-more d p l e o vs h k w = record {
-  long = written-length e (w .long) p h o vs k;
-  core = core-kept e (w .long) p h o vs k ∙ w .core;
-  map-same = map-kept e (w .long) p h o vs k ∙ w .map-same;
-  here = place-written e (w .long) p h o vs k ∙ ap (λ (m : List ℕ). splice m o vs) (w .here);
-  others = λ q n. place-kept e (w .long) p h o vs k q n ∙ w .others q n;
-}
-
-holders-replaced : (d : List ℕ) (p : ℕ) (l e : List ℕ) → p < 12 → Replaced d p l e → holders e ≡ set (holders d) p (holderOf l)
-holders-replaced d p l e h w =
-    ext-getD 0 _ _ (length-holders e ∙ sym (length-set (holders d) p (holderOf l) ∙ length-holders d))
-    (λ q g. let k : q < 12 = omega (arith, length-holders e) in
-    getD-holders e q k ∙ holder-at e q ∙ by-eq q p
-    (λ y. rw y (ap (λ (m : List ℕ). getD m 0 0) (w .here) ∙ sym (getD-set-same (holders d) p (holderOf l) 0 (omega (arith, length-holders d)))))
-    (λ y. ap (λ (m : List ℕ). getD m 0 0) (w .others q y)
-    ∙ sym (getD-set-other (holders d) p q (holderOf l) 0 y ∙ getD-holders d q k ∙ holder-at d q)))
-
--- ---- areas that share no word
-or-right : (a b : Bool) → b ≡ true → (a || b) ≡ true
-or-right true b q = refl
-or-right false b q = q
-
-areas-by : (l k : List ℕ) → apart (ownOf l .area .at .0) (ownOf l .area .size) (ownOf k .area .at .0) (ownOf k .area .size) ≡ true
-    → areasApart l k ≡ true
-unfolding areasApart
-areas-by l k h = or-right (eqb (holderOf l) 0) _ (or-right (eqb (holderOf k) 0) _ h)
-
-areas-turned : (l k : List ℕ) → areasApart l k ≡ true → areasApart k l ≡ true
-unfolding areasApart
-areas-turned l k q =
-    let a = ownOf l .area in
-    let b = ownOf k .area in
-    by-test (eqb (holderOf k) 0) (λ x. rw x)
-    (λ x. by-test (eqb (holderOf l) 0) (λ y. rw (x, y))
-    (λ y. let f = says-apart (a .at .0) (a .size) (b .at .0) (b .size) .fact (rw (y, x) at q) in
-    rw (x, y) (says-apart (b .at .0) (b .size) (a .at .0) (a .size) .test (λ i s t u v. f i u v s t))))
-
--- areas in stretches that share no word
+-- ---- areas in stretches that share no word
 stretches-areas : (s t : Stretch) (a b : Area) → Separate s t → areaIn s a ≡ true → areaIn t b ≡ true
     → apart (a .at .0) (a .size) (b .at .0) (b .size) ≡ true
 unfolding areaIn
@@ -240,35 +174,6 @@ stretches-areas s t a b w x y =
     let v = says-within (b .at .0) (b .size) (t .start .0) (t .len) .fact (and-right (leb 1 (b .size)) _ y) in
     says-apart (a .at .0) (a .size) (b .at .0) (b .size) .test
     (λ i e f g h. w i (omega (arith, u .0)) (omega (arith, u .1)) (omega (arith, v .0)) (omega (arith, v .1)))
-
--- ---- a sound desk stays sound where the new numbers of one place are in order beside the others
-module _ (d : List ℕ) (s : sound d ≡ true) (p : ℕ) (in-p : p < 12) (l e : List ℕ) (w : Replaced d p l e)
-    (fits : placeFits (mapOf (mapNumbers d)) l ≡ true)
-    (beside : (q : ℕ) → q < 12 → (q ≡ p → ⊥) → areasApart (placeIn d q) l ≡ true) where
-  each-fits : (q : ℕ) → q < 12 → placeFits (mapOf (mapNumbers d)) (placeIn e q) ≡ true
-  each-fits q h =
-      by-eq q p (λ y. rw (y, w .here) fits)
-      (λ y. rw (w .others q y) (sound-says d .fact s .place q h))
-
-  two-apart : (i j : ℕ) → i < j → j < 12 → areasApart (placeIn e i) (placeIn e j) ≡ true
-  two-apart i j h k =
-      by-eq i p
-      (λ x. rw (x, w .here, w .others j (λ z. omega arith)) (areas-turned (placeIn d j) l (beside j k (λ z. omega arith))))
-      (λ x. by-eq j p
-      (λ y. rw (y, w .here, w .others i x) (beside i (omega arith) x))
-      (λ y. rw (w .others i x, w .others j y) (sound-says d .fact s .two i j h k)))
-
-  pub replaced-sound : Fair (set (holders d) p (holderOf l)) → sound e ≡ true
-  replaced-sound f =
-      let t = sound-says d .fact s in
-      sound-says e .test (record {
-        long = w .long;
-        core = rw (w .core) (t .core);
-        map = rw (w .core, w .map-same) (t .map);
-        fair = rw (holders-replaced d p l e in-p w) f;
-        place = λ q h. rw (w .map-same) (each-fits q h);
-        two = two-apart;
-      })
 
 -- ---- what is read of a place just written
 module _ (l own numbers ws rs : List ℕ) (long : length l ≡ 303) (o : length own ≡ 15) (n : length numbers ≤ 32) (w : length ws ≤ 128)

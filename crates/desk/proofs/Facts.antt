@@ -1,23 +1,30 @@
--- Soundness as facts of each place and of each two, both ways; and that a free place asks nothing. Assumes nothing.
-use Prim.Native.Nat.{ℕ}
-use mathlib.Core.Path.{_≡_}
+-- Soundness as facts of each place and of each two, both ways; that a free place asks nothing; and what a held one has. Assumes nothing.
+use Prim.Native.Nat.{ℕ, _+_, _-_, _≤_, _<_}
+use mathlib.Core.Path.{_≡_, _∙_}
 use mathlib.Core.Bool.{Bool, true}
 use mathlib.Core.List.{List, []}
 use native.Mathlib.Omega.{arith}
-use lib.ListN.{length}
-use lib.Dec.{eqb}
-use borrow.Author.Tests.{eq-eqb}
+use lib.ListN.{length, getD}
+use lib.Dec.{eqb, leb}
+use borrow.Author.Tests.{eq-eqb, ne-eqb, leb-true}
 use Rattle.word.specs.Runs.{Says}
-use Rattle.word.proofs.Cases.{by-test}
-use Rattle.word.proofs.Says.{says-eq, says-and, says-as}
+use Rattle.word.specs.declared.Area.{Area}
+use Rattle.word.proofs.Cases.{by-test, and-left, and-right}
+use Rattle.word.proofs.Says.{says-eq, says-and, says-as, says-within}
+use Rattle.word.proofs.Lists.{length-range}
 use Rattle.map.specs.declared.Stretch.{Stretch}
-use Rattle.map.specs.Map.{mapOf, mapObeys}
+use Rattle.map.specs.Map.{mapOf, mapObeys, none, MapObeys}
+use Rattle.map.proofs.Map.{map-length, map-obeys-says}
 use Rattle.word.proofs.Each.{says-each, says-two}
+use Rattle.rooms.specs.Rooms.{Fair}
 use Rattle.rooms.proofs.Rooms.{fair-says}
-use Rattle.layout.specs.Layout.{deskWords, coreLength, mapNumbers, places, holderOf, holders}
-use Rattle.layout.proofs.Places.{length-holders}
-use Rattle.desk.specs.Sound.{sound, coreFits, placeFits, areasApart, Sound}
-use Rattle.desk.proofs.Tested.{places-length, places-at}
+use Rattle.lists.specs.Chain.{chain}
+use Rattle.lists.specs.Obey.{tablesObey}
+use Rattle.lists.proofs.Kept.{numbers-obey, tables-length}
+use Rattle.layout.specs.Layout.{deskWords, coreLength, mapNumbers, placeIn, places, holderOf, holderIn, iosIn, wordsIn, ranksIn, holders}
+use Rattle.layout.proofs.Places.{holder-at, length-holders, getD-holders, place-length}
+use Rattle.desk.specs.Sound.{sound, coreFits, areaIn, countsFit, tablesHeld, loadFits, heldFits, placeFits, areasApart, Sound, ownIn, HeldFacts}
+use Rattle.desk.proofs.Tested.{counts-small, places-length, places-at}
 
 -- a test says that it passes
 says-self : (b : Bool) → Says b (b ≡ true)
@@ -76,3 +83,57 @@ free-second l k h = rw (eq-eqb (holderOf k) 0 h) (by-test (eqb (holderOf l) 0) (
 -- a sound desk is of its length
 pub sound-long : (d : List ℕ) → sound d ≡ true → length d ≡ deskWords
 sound-long d q = sound-says d .fact q .long
+
+-- ---- what a sound desk has
+module _ (d : List ℕ) (s : sound d ≡ true) where
+  pub core-small : coreLength d ≤ 65536
+  core-small = leb-true (coreLength d) 65536 (and-right (leb 1 (coreLength d)) _ (sound-says d .fact s .core))
+
+  pub sound-map : MapObeys (coreLength d) (λ r. getD (mapOf (mapNumbers d)) r none)
+  sound-map = map-obeys-says (coreLength d) (mapOf (mapNumbers d)) (map-length (mapNumbers d)) .fact (sound-says d .fact s .map)
+
+  pub sound-fair : Fair (holders d)
+  sound-fair = sound-says d .fact s .fair
+
+  -- an area in a room's stretch lies in the core
+  pub stretch-in-core : (r : ℕ) (a : Area) → r < 8 → areaIn (getD (mapOf (mapNumbers d)) r none) a ≡ true → a .at .0 + a .size ≤ coreLength d
+  unfolding areaIn
+  stretch-in-core r a h q =
+      let t = getD (mapOf (mapNumbers d)) r none in
+      let w = says-within (a .at .0) (a .size) (t .start .0) (t .len) .fact (and-right (leb 1 (a .size)) _ q) in
+      omega (arith, w .1, sound-map .inside r h)
+
+  -- ---- and what it says of a held place
+  module _ (p : ℕ) (in-p : p < 12) where
+    pub holder-known : holderOf (placeIn d p) ≤ 8
+    holder-known = omega (arith, sound-fair .known p in-p, getD-holders d p in-p, holder-at d p)
+
+    pub held-fits : (holderIn d p ≡ 0 → ⊥) → heldFits (getD (mapOf (mapNumbers d)) (holderOf (placeIn d p) - 1) none) (placeIn d p) ≡ true
+    unfolding placeFits
+    held-fits h = rw (ne-eqb (holderOf (placeIn d p)) 0 (λ z. h (holder-at d p ∙ z))) at (sound-says d .fact s .place p in-p)
+
+    pub held-facts : (holderIn d p ≡ 0 → ⊥) → HeldFacts d p
+    unfolding heldFits loadFits areaIn ranksIn
+    held-facts h =
+        let l = placeIn d p in
+        let o = ownIn d p in
+        let t = getD (mapOf (mapNumbers d)) (holderOf l - 1) none in
+        let z : holderOf l ≡ 0 → ⊥ = λ e. h (holder-at d p ∙ e) in
+        let f = held-fits h in
+        let a = and-left (areaIn t (o .area)) _ f in
+        let g = and-right (areaIn t (o .area)) _ f in
+        let n = counts-small o (and-left (countsFit o) _ g) in
+        let k = and-right (countsFit o) _ g in
+        let e = length-range l 175 (o .tables) (omega (arith, n .1 .0, place-length d (sound-long d s) p in-p)) in
+        record {
+          inside = stretch-in-core (holderOf l - 1) (o .area) (omega (arith, holder-known, z)) a;
+          core = core-small;
+          some = leb-true 1 (o .area .size) (and-left (leb 1 (o .area .size)) _ a);
+          io = n .0;
+          tables = n .1 .0;
+          kept = n .1 .1;
+          numbers = numbers-obey (iosIn l) (o .io);
+          count = tables-length (o .area) (wordsIn l (o .kept)) (ranksIn l (o .tables)) ∙ e;
+          obey = and-left (tablesObey (o .area) (tablesHeld o l)) _ k;
+          stage = and-right (chain (o .area) (wordsIn l (o .kept))) _ (and-right (tablesObey (o .area) (tablesHeld o l)) _ k);
+        }

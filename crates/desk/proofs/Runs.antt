@@ -1,7 +1,7 @@
 -- Runs of words held against each other by differences, which cannot wrap. Assumes nothing.
 use Prim.Native.Nat.{ℕ, _+_, _-_, _≤_, _<_}
-use mathlib.Core.Path.{_≡_, refl}
-use mathlib.Core.Bool.{Bool, true, false, _||_}
+use mathlib.Core.Path.{_≡_}
+use mathlib.Core.Bool.{true, false, or-false}
 use native.Mathlib.Omega.{arith}
 use lib.Dec.{leb}
 use borrow.Author.Tests.{eq-eqb, ne-eqb, le-leb, lt-leb}
@@ -10,10 +10,6 @@ use Rattle.word.specs.declared.Area.{Area}
 use Rattle.word.proofs.Cases.{leb-iff}
 use Rattle.map.specs.declared.Stretch.{Stretch}
 use Rattle.desk.specs.Sound.{areaIn}
-
-or-false : (b : Bool) → (b || false) ≡ b
-or-false true = refl
-or-false false = refl
 
 module _ (a n b m : ℕ) where
   pub apart-first-empty : n ≡ 0 → true ≡ apart a n b m

@@ -15,12 +15,12 @@ use Rattle.map.specs.declared.Stretch.{Stretch}
 use Rattle.map.specs.Map.{mapOf, mapObeys, none}
 use Rattle.rooms.specs.Rooms.{fair, Fair}
 use Rattle.lists.specs.declared.Table.{Table}
-use Rattle.lists.specs.Kept.{tablesIn}
+use Rattle.lists.specs.Kept.{numbersIn, tablesIn}
 use Rattle.lists.specs.Chain.{chain}
-use Rattle.lists.specs.Obey.{tablesObey}
+use Rattle.lists.specs.Obey.{tablesObey, isIoNumber}
 use Rattle.stage.specs.Ranges.{stageFits}
 use Rattle.layout.specs.declared.Place.{Place}
-use Rattle.layout.specs.Layout.{deskWords, coreLength, mapNumbers, placeIn, places, holderOf, ownOf, stageIn, wordsIn, ranksIn, holders}
+use Rattle.layout.specs.Layout.{deskWords, coreLength, mapNumbers, placeIn, places, holderOf, ownOf, stageIn, iosIn, wordsIn, ranksIn, holders}
 
 -- an area lies in a stretch, and is not empty
 unfoldable pub areaIn : Stretch → Area → Bool
@@ -80,6 +80,23 @@ pub record Sound (d : List ℕ) : Type 0 where
   pub fair : Fair (holders d)
   pub place : (p : ℕ) → p < 12 → placeFits (mapOf (mapNumbers d)) (placeIn d p) ≡ true
   pub two : (p q : ℕ) → p < q → q < 12 → areasApart (placeIn d p) (placeIn d q) ≡ true
+
+-- the numbers of its own of place p of a desk
+abbrev pub ownIn : List ℕ → ℕ → Place
+ownIn d p = ownOf (placeIn d p)
+
+-- and what a sound desk says of a place p that is held (`held-facts`, proofs/Facts.antt): its area, its lists, its stage
+pub record HeldFacts (d : List ℕ) (p : ℕ) : Type 0 where
+  pub inside : ownIn d p .area .at .0 + ownIn d p .area .size ≤ coreLength d
+  pub core : coreLength d ≤ 65536
+  pub some : 1 ≤ ownIn d p .area .size
+  pub io : ownIn d p .io ≤ ioMost
+  pub tables : ownIn d p .tables ≤ tablesMost
+  pub kept : ownIn d p .kept ≤ tablesMost
+  pub numbers : every isIoNumber (numbersIn (iosIn (placeIn d p)) (ownIn d p .io)) ≡ true
+  pub count : length (tablesHeld (ownIn d p) (placeIn d p)) ≡ ownIn d p .tables
+  pub obey : tablesObey (ownIn d p .area) (tablesHeld (ownIn d p) (placeIn d p)) ≡ true
+  pub stage : stageFits (ownIn d p .area) (tablesHeld (ownIn d p) (placeIn d p)) (ownIn d p .io) (stageIn (placeIn d p)) ≡ true
 
 -- a stretch that ends in the numbers of a core, and a map of such: what the test of a map has shown
 abbrev pub SmallStretch : Stretch → Type 0

@@ -1,9 +1,22 @@
--- Reading what was written gives the stage again. Assumes nothing.
+-- A stage is nine numbers, and reading what was written gives the stage again. Assumes nothing.
 use mathlib.Core.Path.{_≡_, refl}
 use mathlib.Core.Bool.{true, false}
+use lib.ListN.{length}
 use Rattle.stage.specs.Stage.{numbersOf, stageOf}
 use Rattle.stage.specs.declared.Stage.{Stage}
 use Rattle.stage.specs.declared.Stage.the-variants.{Label, Entry, Segment as segment-due, SegmentGroup, Table, TableGroup, Termination, Complete, Broken}
+
+pub stage-length : (s : Stage) → length (numbersOf s) ≡ 9
+unfolding numbersOf
+stage-length Label = refl
+stage-length (Entry c strict b) = refl
+stage-length (segment-due c) = refl
+stage-length (SegmentGroup c g) = refl
+stage-length (Table c t i) = refl
+stage-length (TableGroup c t i) = refl
+stage-length (Termination i) = refl
+stage-length Complete = refl
+stage-length Broken = refl
 
 pub stage-back : (s : Stage) → stageOf (numbersOf s) ≡ s
 unfolding numbersOf stageOf
