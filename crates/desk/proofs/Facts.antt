@@ -1,14 +1,16 @@
 -- Soundness as facts of each place and of each two, both ways; that a free place asks nothing; and what a held one has. Assumes nothing.
 use Prim.Native.Nat.{ℕ, _+_, _-_, _≤_, _<_}
-use mathlib.Core.Path.{_≡_, _∙_}
+use mathlib.Core.Path.{_≡_, sym, _∙_}
 use mathlib.Core.Bool.{Bool, true}
 use mathlib.Core.List.{List, []}
 use native.Mathlib.Omega.{arith}
 use lib.ListN.{length, getD}
 use lib.Dec.{eqb, leb}
 use borrow.Author.Tests.{eq-eqb, ne-eqb, leb-true}
+use Rattle.word.specs.Lists.{every}
 use Rattle.word.specs.Runs.{Says}
 use Rattle.word.specs.declared.Area.{Area}
+use Rattle.word.proofs.Every.{every-by}
 use Rattle.word.proofs.Cases.{by-test, and-left, and-right}
 use Rattle.word.proofs.Says.{says-eq, says-and, says-as, says-within}
 use Rattle.word.proofs.Lists.{length-range}
@@ -75,6 +77,9 @@ free-fits m l h = rw (eq-eqb (holderOf l) 0 h)
 pub free-first : (l k : List ℕ) → holderOf l ≡ 0 → areasApart l k ≡ true
 unfolding areasApart
 free-first l k h = rw (eq-eqb (holderOf l) 0 h)
+
+pub free-every : (l : List ℕ) (ks : List (List ℕ)) → holderOf l ≡ 0 → true ≡ every (areasApart l) ks
+free-every l ks h = sym (every-by [] (areasApart l) ks (λ i k. free-first l (getD ks i []) h))
 
 pub free-second : (l k : List ℕ) → holderOf k ≡ 0 → areasApart l k ≡ true
 unfolding areasApart

@@ -130,7 +130,7 @@ fn load_fits(place: &[u64], o: Place) -> bool
     stage::stage_fits(area, words, ranks, o.io, layout::stage_of(place))
 }
 
-// Whether no two held areas share a word.
+// Whether no two held areas share a word. Of a pair nothing is read but a holder, unless both places are held.
 fn areas_apart(desk: &[u64]) -> bool
     requires { ⌜ length (now desk) ≡ deskWords ⌝ }
     ensures { λ r. ⌜ r ≡ everyTwo areasApart (places (now (desk .entry))) ⌝ }
@@ -150,9 +150,12 @@ fn apart_from_later(desk: &[u64], p: usize) -> bool
     ensures { λ r. ⌜ r ≡ every (areasApart (placeIn (now (desk .entry)) p)) (drop (p + 1) (places (now (desk .entry)))) ⌝ }
 {
     let place = layout::place_at(desk, p);
+    if place[0] == 0 {
+        return true;
+    }
     let mut q = p + 1;
     while q < 12 {
-        if !two_apart(place, layout::place_at(desk, q)) {
+        if !apart_from_held(place, layout::place_at(desk, q)) {
             return false;
         }
         q += 1;
@@ -160,13 +163,11 @@ fn apart_from_later(desk: &[u64], p: usize) -> bool
     true
 }
 
-fn two_apart(one: &[u64], other: &[u64]) -> bool
-    requires { ⌜ (length (now one) ≡ 303) × (length (now other) ≡ 303) ⌝ }
+// The first of the two places is held.
+fn apart_from_held(one: &[u64], other: &[u64]) -> bool
+    requires { ⌜ (length (now one) ≡ 303) × (length (now other) ≡ 303) × (holderOf (now one) ≡ 0 → ⊥) ⌝ }
     ensures { λ r. ⌜ r ≡ areasApart (now (one .entry)) (now (other .entry)) ⌝ }
 {
-    if one[0] == 0 {
-        return true;
-    }
     if other[0] == 0 {
         return true;
     }

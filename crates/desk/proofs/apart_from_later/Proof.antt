@@ -1,4 +1,5 @@
 -- `desk::apart_from_later` meets its contract: by the loop's invariant. Assumes nothing.
+use Rattle.desk.proofs.Facts.{free-every}
 use Rattle.desk.proofs.Tested.{places-more, places-fail, places-end}
 use Prim.Native.Nat.{_+_, _≤_, _-_}
 use mathlib.Core.Path.{_≡_, refl, sym, _∙_}
@@ -24,6 +25,14 @@ abbrev μ-loop : tie.MeasureT-loop
 place-at-requires : tie.Need-place-at-requires Inv-loop μ-loop
 place-at-requires c κs = search needs
 
+shared-slice-read-if1 : tie.Need-shared-slice-read-if1 Inv-loop μ-loop
+shared-slice-read-if1 c =
+    let b = c .before .before .before in
+    rw (c .before .place-at .ensures, place-length (now (b .args .desk)) (b .pre .0) (b .args .p) (b .pre .1)) (omega arith)
+
+returns : tie.Need-returns Inv-loop μ-loop
+returns c = free-every _ _ (rw (c .before .before .place-at .ensures) at (c .if1 .taken))
+
 add-q : tie.Need-add-q Inv-loop μ-loop
 add-q c = omega arith
 
@@ -33,16 +42,20 @@ loop-holds c = (omega arith, refl)
 place-at-requires-2 : tie.Need-place-at-requires-2 Inv-loop μ-loop
 place-at-requires-2 c κs = (omega arith, omega arith)
 
-two-apart-requires : tie.Need-two-apart-requires Inv-loop μ-loop
-two-apart-requires c κs =
-    let b = c .before .before .before .before .before in
-    (rw (c .before .before .before .place-at .ensures) (place-length (now (b .args .desk)) (b .pre .0) (b .args .p) (b .pre .1)), rw (c .place-at2 .ensures) (place-length (now (b .args .desk)) (b .pre .0) (c .before .before .loop .q) (omega arith)))
+apart-from-held-requires : tie.Need-apart-from-held-requires Inv-loop μ-loop
+apart-from-held-requires c κs =
+    let g = c .before .before .before in
+    let b = g .before .before .before .before in (
+      rw (g .before .before .place-at .ensures) (place-length (now (b .args .desk)) (b .pre .0) (b .args .p) (b .pre .1)),
+      rw (c .place-at2 .ensures) (place-length (now (b .args .desk)) (b .pre .0) (c .before .before .loop .q) (omega arith)),
+      g .if1 .left,
+    )
 
-returns : tie.Need-returns Inv-loop μ-loop
-returns c =
+returns-2 : tie.Need-returns-2 Inv-loop μ-loop
+returns-2 c =
     let l = c .before .before .before .before .loop in
-    let e = c .before .before .before .before .before .place-at .ensures in
-    places-fail _ _ (l .q) _ _ (omega arith) (c .before .before .place-at2 .ensures) (sym (rw e at (c .before .two-apart .ensures)) ∙ not-true _ (c .if1 .taken)) (l .inv .1)
+    let e = c .before .before .before .before .before .before .before .place-at .ensures in
+    places-fail _ _ (l .q) _ _ (omega arith) (c .before .before .place-at2 .ensures) (sym (rw e at (c .before .apart-from-held .ensures)) ∙ not-true _ (c .if2 .taken)) (l .inv .1)
 
 add-q-2 : tie.Need-add-q-2 Inv-loop μ-loop
 add-q-2 c = omega arith
@@ -53,11 +66,11 @@ loop-less c = omega arith
 loop-again : tie.Need-loop-again Inv-loop μ-loop
 loop-again c =
     let l = c .before .before .before .before .loop in
-    let e = c .before .before .before .before .before .place-at .ensures in
-    (omega arith, places-more _ _ (l .q) _ _ (omega arith) (c .before .before .place-at2 .ensures) (sym (rw e at (c .before .two-apart .ensures)) ∙ not-false _ (c .if1 .left)) (l .inv .1))
+    let e = c .before .before .before .before .before .before .before .place-at .ensures in
+    (omega arith, places-more _ _ (l .q) _ _ (omega arith) (c .before .before .place-at2 .ensures) (sym (rw e at (c .before .apart-from-held .ensures)) ∙ not-false _ (c .if2 .left)) (l .inv .1))
 
-returns-2 : tie.Need-returns-2 Inv-loop μ-loop
-returns-2 c = let l = c .before .loop in places-end _ _ (l .q) _ (omega arith) (l .inv .1)
+returns-3 : tie.Need-returns-3 Inv-loop μ-loop
+returns-3 c = let l = c .before .loop in places-end _ _ (l .q) _ (omega arith) (l .inv .1)
 
 pub apart-from-later-spec : {M : Type 1} → statement M
 apart-from-later-spec =
@@ -66,12 +79,14 @@ apart-from-later-spec =
     Inv-loop
     μ-loop
     place-at-requires
+    shared-slice-read-if1
+    returns
     add-q
     loop-holds
     place-at-requires-2
-    two-apart-requires
-    returns
+    apart-from-held-requires
+    returns-2
     add-q-2
     loop-less
     loop-again
-    returns-2)
+    returns-3)
