@@ -102,7 +102,7 @@ fn beside_own(place: &[u64], room: u64, area: Area) -> bool
     if place[0] != room + 1 {
         return true;
     }
-    desk::runs_apart(place[1], place[2], area.at.0, area.size)
+    word::runs_apart(place[1], place[2], area.at.0, area.size)
 }
 
 // The numbers of place p: its own, the stage of a load that waits for its label, and the lists. A place's parts cannot be lent at

@@ -1,4 +1,3 @@
-pub mod Runs
 pub mod Tested
 pub mod Facts
 pub mod Replaced

@@ -6,7 +6,6 @@ ghost use lib.ListN.{length, drop};
 ghost use Rattle.word.specs.Lists.{every, everyTwo};
 ghost use Rattle.layout.specs.Layout.{deskWords, placeIn, places, holderOf, ownOf};
 ghost use Rattle.desk.specs.Sound.{areaIn, countsFit, loadFits, heldFits, placeFits, areasApart, SmallStretch, SmallMap, sound};
-ghost use Rattle.word.specs.Runs.{apart};
 use layout::Place;
 use map::Stretch;
 use word::Area;
@@ -86,22 +85,14 @@ fn held_fits(place: &[u64], s: Stretch) -> bool
     load_fits(place, o)
 }
 
-// Whether an area is not empty and lies in a stretch; no sum can wrap.
+// Whether an area is not empty and lies in a stretch.
 pub fn area_in(s: Stretch, a: Area) -> bool
     ensures { λ r. ⌜ r ≡ areaIn s a ⌝ }
 {
-    let at = a.at.0;
-    let start = s.start.0;
     if a.size < 1 {
         return false;
     }
-    if at < start {
-        return false;
-    }
-    if s.len < at - start {
-        return false;
-    }
-    a.size <= s.len - (at - start)
+    word::run_within(a.at.0, a.size, s.start.0, s.len)
 }
 
 fn counts_fit(o: Place) -> bool
@@ -171,21 +162,5 @@ fn apart_from_held(one: &[u64], other: &[u64]) -> bool
     if other[0] == 0 {
         return true;
     }
-    runs_apart(one[1], one[2], other[1], other[2])
-}
-
-// Whether n words from a and m words from b share none, for any numbers.
-pub fn runs_apart(a: u64, n: u64, b: u64, m: u64) -> bool
-    ensures { λ r. ⌜ r ≡ apart a n b m ⌝ }
-{
-    if n == 0 {
-        return true;
-    }
-    if m == 0 {
-        return true;
-    }
-    if a <= b {
-        return n <= b - a;
-    }
-    m <= a - b
+    word::runs_apart(one[1], one[2], other[1], other[2])
 }

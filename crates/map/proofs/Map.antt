@@ -1,15 +1,11 @@
--- The map's rule as facts, from the test and to the test, and what each `return` of the two tests of stretches asks. Assumes
--- nothing.
+-- The map's rule as facts, from the test and to the test. Assumes nothing.
 use Prim.Native.Nat.{ℕ, _+_, _-_, _≤_, _<_}
 use mathlib.Core.Path.{_≡_, sym}
-use mathlib.Core.Bool.{true, false, or-false}
 use mathlib.Core.List.{List}
 use native.Mathlib.Omega.{arith}
 use lib.ListN.{length, getD}
-use lib.Dec.{leb}
-use borrow.Author.Tests.{le-leb, lt-leb, eq-eqb, ne-eqb}
-use Rattle.word.specs.Runs.{within, apart, Says}
-use Rattle.word.proofs.Cases.{by-lt, leb-iff}
+use Rattle.word.specs.Runs.{Says}
+use Rattle.word.proofs.Cases.{by-lt}
 use Rattle.word.proofs.Lists.{length-tab, getD-tab}
 use Rattle.word.proofs.Says.{says-and, says-as, says-within, says-apart}
 use Rattle.map.specs.declared.Stretch.{Stretch}
@@ -62,38 +58,3 @@ map-of-says core l =
     says-as (map-obeys-says core (mapOf l) (map-length l))
     (obeys-same core (λ r. getD (mapOf l) r none) (stretchOf l) (map-at l))
     (obeys-same core (stretchOf l) (λ r. getD (mapOf l) r none) (λ r h. sym (map-at l r h)))
-
--- ---- what the code's tests say
-module _ (core : ℕ) (s : Stretch) where
-  pub in-core-long : core < s .len → false ≡ inCore core s
-  unfolding inCore within
-  in-core-long h = rw (le-leb 0 (s .start .0) (omega arith), lt-leb (s .start .0 + s .len) (0 + core) (omega arith))
-
-  pub in-core-fits : s .len ≤ core → leb (s .start .0) (core - s .len) ≡ inCore core s
-  unfolding inCore within
-  in-core-fits h =
-      rw (le-leb 0 (s .start .0) (omega arith))
-      (leb-iff (s .start .0) (core - s .len) (s .start .0 + s .len) (0 + core) (omega arith))
-
-module _ (s t : Stretch) where
-  pub apart-first-empty : s .len ≡ 0 → true ≡ stretchesApart s t
-  unfolding stretchesApart apart
-  apart-first-empty h = rw (eq-eqb (s .len) 0 h)
-
-  module _ (g : s .len ≡ 0 → ⊥) where
-    pub apart-second-empty : t .len ≡ 0 → true ≡ stretchesApart s t
-    unfolding stretchesApart apart
-    apart-second-empty h = rw (ne-eqb (s .len) 0 g, eq-eqb (t .len) 0 h)
-
-    module _ (h : t .len ≡ 0 → ⊥) where
-      pub apart-rising : s .start .0 ≤ t .start .0 → leb (s .len) (t .start .0 - s .start .0) ≡ stretchesApart s t
-      unfolding stretchesApart apart
-      apart-rising l =
-          rw (ne-eqb (s .len) 0 g, ne-eqb (t .len) 0 h, lt-leb (t .start .0 + t .len) (s .start .0) (omega arith), or-false)
-          (leb-iff (s .len) (t .start .0 - s .start .0) (s .start .0 + s .len) (t .start .0) (omega arith))
-
-      pub apart-falling : t .start .0 < s .start .0 → leb (t .len) (s .start .0 - t .start .0) ≡ stretchesApart s t
-      unfolding stretchesApart apart
-      apart-falling l =
-          rw (ne-eqb (s .len) 0 g, ne-eqb (t .len) 0 h, lt-leb (s .start .0 + s .len) (t .start .0) (omega arith))
-          (leb-iff (t .len) (s .start .0 - t .start .0) (t .start .0 + t .len) (s .start .0) (omega arith))

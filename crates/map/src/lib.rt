@@ -60,7 +60,7 @@ fn all_in_core(core: u64, m: [Stretch; 8]) -> bool
     let mut r: usize = 0;
     while r < 8 {
         let s = m[r];
-        if !in_core(core, s) {
+        if !word::run_within(s.start.0, s.len, 0, core) {
             return false;
         }
         r += 1;
@@ -91,36 +91,10 @@ fn apart_from_later(m: [Stretch; 8], r: usize) -> bool
     let mut q = r + 1;
     while q < 8 {
         let t = m[q];
-        if !stretches_apart(s, t) {
+        if !word::runs_apart(s.start.0, s.len, t.start.0, t.len) {
             return false;
         }
         q += 1;
     }
     true
-}
-
-// Whether the stretch ends by the core's end. Start and length may be any numbers: their sum could wrap, this difference cannot.
-fn in_core(core: u64, s: Stretch) -> bool
-    ensures { λ b. ⌜ b ≡ inCore core s ⌝ }
-{
-    if core < s.len {
-        return false;
-    }
-    s.start.0 <= core - s.len
-}
-
-// Whether the two share no word; an empty one shares none. Differences for the same reason.
-fn stretches_apart(s: Stretch, t: Stretch) -> bool
-    ensures { λ b. ⌜ b ≡ stretchesApart s t ⌝ }
-{
-    if s.len == 0 {
-        return true;
-    }
-    if t.len == 0 {
-        return true;
-    }
-    if s.start.0 <= t.start.0 {
-        return s.len <= t.start.0 - s.start.0;
-    }
-    t.len <= s.start.0 - t.start.0
 }

@@ -182,11 +182,7 @@ fn course_fits(io: u64, tables: u64, c: Course) -> bool
 fn bank_fits(area: Area, b: Bank) -> bool
     ensures { λ r. ⌜ r ≡ bankFits area b ⌝ }
 {
-    let at = b.at.0;
-    if area.size < at {
-        return false;
-    }
-    b.count <= area.size - at
+    word::run_within(b.at.0, b.count, 0, area.size)
 }
 
 fn segment_fits(area: Area, io: u64, tables: u64, c: Course, g: Segment) -> bool

@@ -8,3 +8,4 @@ pub mod Word
 pub mod Stretch
 pub mod Each
 pub mod Fill
+pub mod Runs

@@ -1,5 +1,5 @@
 -- A stretch of a list written number by number: what stands in it, and what stands outside. Assumes nothing.
-use mathlib.Core.Path.{_≡_, refl, sym, ap, _∙_}
+use mathlib.Core.Path.{_≡_, refl, sym, _∙_}
 use mathlib.Core.Bool.{Bool, true}
 use mathlib.Core.List.{List, [], _∷_, append-assoc}
 use mathlib.Core.Logic.{_⊎_, inl, inr, ⊎-elim, _≢_}
@@ -11,7 +11,7 @@ use lib.Seq.{paste-zero, take-suc-set, take-set-le, drop-set-lt, getD-set-other}
 use Rattle.word.specs.Lists.{every, range, splice, cleared}
 use Rattle.word.proofs.Cases.{and-left, and-right}
 use Rattle.word.proofs.Says.{every-at, says-every}
-use Rattle.word.proofs.Lists.{getD-range, length-range-min, length-splice, range-splice-same}
+use Rattle.word.proofs.Lists.{getD-range, length-range-min, length-splice}
 
 -- one number after another
 pub splice-none : (l : List ℕ) (a : ℕ) → splice l a [] ≡ l

@@ -1,8 +1,9 @@
-// A core word and its fields, the three sorts of number, an area and a fault: what every other crate builds on.
+// A core word and its fields, the three sorts of number, an area, runs of words and a fault: what every other crate builds on.
 ghost use mathlib.Core.Path.{_≡_};
 ghost use Prim.Native.Nat.{_+_, _<_, _^_};
 ghost use lib.ListN.{getD};
 ghost use Rattle.word.specs.Word.{fieldOf, fieldStored, aField, aStored};
+ghost use Rattle.word.specs.Runs.{within, apart};
 ghost use Rattle.word.specs.Sorts.{absoluteOf};
 
 // A half of a program word. Its field is bits 33-18 of the left half, bits 15-0 of the right one.
@@ -44,6 +45,35 @@ pub fn word_at(words: &[u64], i: usize) -> u64
     ensures { λ r. ⌜ r ≡ getD (now (words .entry)) i 0 ⌝ }
 {
     if i < words.len() { words[i] } else { 0 }
+}
+
+// Whether n words from a lie inside m words from b. The four may be any numbers: a sum could wrap, these differences cannot.
+pub fn run_within(a: u64, n: u64, b: u64, m: u64) -> bool
+    ensures { λ r. ⌜ r ≡ within a n b m ⌝ }
+{
+    if a < b {
+        return false;
+    }
+    if m < a - b {
+        return false;
+    }
+    n <= m - (a - b)
+}
+
+// Whether n words from a and m words from b share none; an empty run shares none. Differences for the same reason.
+pub fn runs_apart(a: u64, n: u64, b: u64, m: u64) -> bool
+    ensures { λ r. ⌜ r ≡ apart a n b m ⌝ }
+{
+    if n == 0 {
+        return true;
+    }
+    if m == 0 {
+        return true;
+    }
+    if a <= b {
+        return n <= b - a;
+    }
+    m <= a - b
 }
 
 // The field of a half.

@@ -25,13 +25,14 @@ mul-s c = omega arith
 array-copy-out-s : tie.Need-array-copy-out-s Inv-loop μ-loop
 array-copy-out-s c = omega arith
 
-in-core-requires : tie.Need-in-core-requires Inv-loop μ-loop
-in-core-requires c κs = omega arith
+run-within-requires : tie.Need-run-within-requires Inv-loop μ-loop
+run-within-requires c κs = omega arith
 
 returns : tie.Need-returns Inv-loop μ-loop
+unfolding inCore
 returns c =
     let l = c .before .before .before .before .loop in
-    every-fails _ none _ (l .r) _ (omega arith) (sym (c .before .in-core .ensures) ∙ not-true _ (c .if1 .taken)) (l .inv .1)
+    every-fails _ none _ (l .r) _ (omega arith) (sym (c .before .run-within .ensures) ∙ not-true _ (c .if1 .taken)) (l .inv .1)
 
 add-r : tie.Need-add-r Inv-loop μ-loop
 add-r c = omega arith
@@ -40,10 +41,11 @@ loop-less : tie.Need-loop-less Inv-loop μ-loop
 loop-less c = omega arith
 
 loop-again : tie.Need-loop-again Inv-loop μ-loop
+unfolding inCore
 loop-again c =
     let l = c .before .before .before .before .loop in
     let m = c .before .before .before .before .before .args .t2 in
-    (omega arith, every-more _ none m (l .r) _ (omega arith) (sym (c .before .in-core .ensures) ∙ not-false _ (c .if1 .left)) (l .inv .1))
+    (omega arith, every-more _ none m (l .r) _ (omega arith) (sym (c .before .run-within .ensures) ∙ not-false _ (c .if1 .left)) (l .inv .1))
 
 returns-2 : tie.Need-returns-2 Inv-loop μ-loop
 returns-2 c = every-ends _ none _ (c .before .loop .r) _ (omega arith) (c .before .loop .inv .1)
@@ -57,7 +59,7 @@ all-in-core-spec =
     loop-holds
     mul-s
     array-copy-out-s
-    in-core-requires
+    run-within-requires
     returns
     add-r
     loop-less

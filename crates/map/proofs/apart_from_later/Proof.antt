@@ -35,13 +35,14 @@ mul-t c = omega arith
 array-copy-out-t : tie.Need-array-copy-out-t Inv-loop μ-loop
 array-copy-out-t c = omega arith
 
-stretches-apart-requires : tie.Need-stretches-apart-requires Inv-loop μ-loop
-stretches-apart-requires c κs = omega arith
+runs-apart-requires : tie.Need-runs-apart-requires Inv-loop μ-loop
+runs-apart-requires c κs = omega arith
 
 returns : tie.Need-returns Inv-loop μ-loop
+unfolding stretchesApart
 returns c =
     let l = c .before .before .before .before .loop in
-    every-fails _ none _ (l .q) _ (omega arith) (sym (c .before .stretches-apart .ensures) ∙ not-true _ (c .if1 .taken)) (l .inv .3)
+    every-fails _ none _ (l .q) _ (omega arith) (sym (c .before .runs-apart .ensures) ∙ not-true _ (c .if1 .taken)) (l .inv .3)
 
 add-q-2 : tie.Need-add-q-2 Inv-loop μ-loop
 add-q-2 c = omega arith
@@ -50,10 +51,11 @@ loop-less : tie.Need-loop-less Inv-loop μ-loop
 loop-less c = omega arith
 
 loop-again : tie.Need-loop-again Inv-loop μ-loop
+unfolding stretchesApart
 loop-again c =
     let l = c .before .before .before .before .loop in
     let m = c .before .before .before .before .before .before .args .t1 in
-    (omega arith, omega arith, refl, every-more _ none m (l .q) _ (omega arith) (sym (c .before .stretches-apart .ensures) ∙ not-false _ (c .if1 .left)) (l .inv .3))
+    (omega arith, omega arith, refl, every-more _ none m (l .q) _ (omega arith) (sym (c .before .runs-apart .ensures) ∙ not-false _ (c .if1 .left)) (l .inv .3))
 
 returns-2 : tie.Need-returns-2 Inv-loop μ-loop
 returns-2 c = every-ends _ none _ (c .before .loop .q) _ (omega arith) (c .before .loop .inv .3)
@@ -70,7 +72,7 @@ apart-from-later-spec =
     loop-holds
     mul-t
     array-copy-out-t
-    stretches-apart-requires
+    runs-apart-requires
     returns
     add-q-2
     loop-less

@@ -1,17 +1,15 @@
--- `stage::bank_fits` meets its contract: each return by the tests that led to it. Assumes nothing.
-use mathlib.Core.Path.{sym}
+-- `stage::bank_fits` meets its contract: it is the one test. Assumes nothing.
 use Rattle.stage.specs.Ranges.{bankFits}
-use Rattle.stage.proofs.Fits.{within-over, within-left}
+use borrow.Author.Needs.{needs}
 use Rattle.stage.proofs.bank_fits.Statement.{statement}
 use Rattle.stage.proofs.bank_fits.Tie as tie
 
+run-within-requires : tie.Need-run-within-requires
+run-within-requires c κs = search needs
+
 returns : tie.Need-returns
 unfolding bankFits
-returns c = sym (within-over _ _ _ (c .if1 .taken))
-
-returns-2 : tie.Need-returns-2
-unfolding bankFits
-returns-2 c = within-left _ _ _ (c .before .before .if1 .left)
+returns c = c .run-within .ensures
 
 pub bank-fits-spec : {M : Type 1} → statement M
-bank-fits-spec = tie.close (tie.spec returns returns-2)
+bank-fits-spec = tie.close (tie.spec run-within-requires returns)

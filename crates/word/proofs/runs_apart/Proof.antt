@@ -1,8 +1,8 @@
--- `desk::runs_apart` meets its contract: each return by the tests that led to it. Assumes nothing.
-use Rattle.desk.proofs.Runs.{apart-first-empty, apart-second-empty, apart-rising, apart-falling}
+-- `word::runs_apart` meets its contract: each return by the tests that led to it. Assumes nothing.
+use Rattle.word.proofs.Runs.{apart-first-empty, apart-second-empty, apart-rising, apart-falling}
 use borrow.Author.Needs.{needs}
-use Rattle.desk.proofs.runs_apart.Statement.{statement}
-use Rattle.desk.proofs.runs_apart.Tie as tie
+use Rattle.word.proofs.runs_apart.Statement.{statement}
+use Rattle.word.proofs.runs_apart.Tie as tie
 
 returns : tie.Need-returns
 returns c = apart-first-empty _ _ _ _ (c .if1 .taken)
