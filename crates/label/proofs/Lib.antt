@@ -1,3 +1,4 @@
 pub mod Spelt
 pub mod Tables
 pub mod Carried
+pub mod Faults

@@ -1,0 +1,57 @@
+-- The loop over the tables of a modification block: what is left of it decides. Assumes nothing.
+use Prim.Native.Nat.{ℕ, _+_, _≤_, _<_}
+use mathlib.Core.Path.{_≡_, refl, sym, ap, _∙_}
+use mathlib.Core.Bool.{Bool, true, false}
+use mathlib.Core.List.{List}
+use native.Mathlib.Omega.{arith}
+use lib.ListN.{length, getD, drop}
+use Rattle.word.specs.declared.Area.{Area}
+use Rattle.word.specs.Lists.{every, tab}
+use Rattle.word.proofs.Lists.{length-tab, getD-tab, every-more, every-fails, every-ends}
+use Rattle.lists.specs.declared.Table.{Table as CoreTable}
+use Rattle.lists.specs.Kept.{tableAt, tablesIn}
+use Rattle.lists.specs.Obey.{noTable}
+use Rattle.lists.proofs.Kept.{tables-length, tables-at}
+use Rattle.step.specs.Entries.{entryFits, lengthOf, entriesFit}
+
+module _ (io : ℕ) (strict : Bool) (b : ℕ) (block : List ℕ) where
+  -- table t's
+  abbrev fits : List CoreTable → ℕ → Bool
+  fits ts t = entryFits io strict b block (lengthOf ts t) t
+
+  abbrev numbers : List CoreTable → List ℕ
+  numbers ts = tab (λ t. t) (length ts)
+
+  -- every table's from table t on
+  unfoldable pub leftFit : List CoreTable → ℕ → Bool
+  leftFit ts t = every (fits ts) (drop t (numbers ts))
+
+  pub left-first : (ts : List CoreTable) → entriesFit io ts strict b block ≡ leftFit ts 0
+  unfolding entriesFit leftFit
+  left-first ts = refl
+
+  module _ (area : Area) (ws rs : List ℕ) (t : ℕ) (r : Bool) where
+    abbrev ts : List CoreTable
+    ts = tablesIn area ws rs
+
+    many : length (numbers ts) ≡ length rs
+    many = length-tab (λ (k : ℕ). k) (length ts) ∙ tables-length area ws rs
+
+    this : (x : CoreTable) → t < length rs → x ≡ tableAt area ws rs t → fits ts (getD (numbers ts) t 0) ≡ entryFits io strict b block (x .len) t
+    this x h q =
+        ap (fits ts) (getD-tab (λ (k : ℕ). k) (length ts) t 0 (omega (arith, tables-length area ws rs)))
+        ∙ ap (λ (y : CoreTable). entryFits io strict b block (y .len) t) (tables-at area ws rs t noTable h ∙ sym q)
+
+    pub left-more : (x : CoreTable) → t < length rs → x ≡ tableAt area ws rs t → entryFits io strict b block (x .len) t ≡ true
+        → r ≡ leftFit ts t → r ≡ leftFit ts (t + 1)
+    unfolding leftFit
+    left-more x h q e = every-more (fits ts) 0 (numbers ts) t r (omega (arith, many)) (this x h q ∙ e)
+
+    pub left-fails : (x : CoreTable) → t < length rs → x ≡ tableAt area ws rs t → entryFits io strict b block (x .len) t ≡ false
+        → r ≡ leftFit ts t → false ≡ r
+    unfolding leftFit
+    left-fails x h q e = every-fails (fits ts) 0 (numbers ts) t r (omega (arith, many)) (this x h q ∙ e)
+
+    pub left-ends : length rs ≤ t → r ≡ leftFit ts t → true ≡ r
+    unfolding leftFit
+    left-ends h = every-ends (fits ts) 0 (numbers ts) t r (omega (arith, many))

@@ -1,0 +1,51 @@
+-- `step::entry_step` meets its contract: each return by the tests that led to it. Assumes nothing.
+use mathlib.Core.Path.{sym, _∙_}
+use denote.Ref.{now}
+use borrow.Author.Needs.{needs}
+use borrow.Author.Tests.{lt-ltb, le-ltb, not-true, not-false}
+use Rattle.lists.proofs.Kept.{tables-length}
+use Rattle.step.specs.Entries.{afterEntries, entryStep}
+use Rattle.step.proofs.entry_step.Statement.{statement}
+use Rattle.step.proofs.entry_step.Tie as tie
+
+entries-fit-requires : tie.Need-entries-fit-requires
+entries-fit-requires c κs = search needs
+
+returns : tie.Need-returns
+unfolding entryStep
+returns c = rw (sym (c .before .entries-fit .ensures) ∙ not-true _ (c .if1 .taken))
+
+add-if2 : tie.Need-add-if2
+add-if2 c = search needs
+
+entry-blocks-requires : tie.Need-entry-blocks-requires
+entry-blocks-requires c κs = search needs
+
+add-t16 : tie.Need-add-t16
+add-t16 c = search needs
+
+returns-2 : tie.Need-returns-2
+unfolding entryStep afterEntries
+returns-2 c =
+    let s = c .before .before in
+    let a = s .before .before .before .before .before .args in
+    rw (sym (s .before .entries-fit .ensures) ∙ not-false _ (s .if1 .left), tables-length (a .area) (now (a .words)) (now (a .ranks)), ← c .before .entry-blocks .ensures, lt-ltb _ _ (c .if2 .taken))
+
+returns-3 : tie.Need-returns-3
+unfolding entryStep afterEntries
+returns-3 c =
+    let s = c .before .before in
+    let a = s .before .before .before .before .before .args in
+    rw (sym (s .before .entries-fit .ensures) ∙ not-false _ (s .if1 .left), tables-length (a .area) (now (a .words)) (now (a .ranks)), ← c .before .entry-blocks .ensures, le-ltb _ _ (c .if2 .left))
+
+pub entry-step-spec : {M : Type 1} → statement M
+entry-step-spec =
+    tie.close
+    (tie.spec
+    entries-fit-requires
+    returns
+    add-if2
+    entry-blocks-requires
+    add-t16
+    returns-2
+    returns-3)

@@ -1,0 +1,4 @@
+pub mod Due
+pub mod Label
+pub mod Entries
+pub mod Termination

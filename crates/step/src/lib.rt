@@ -1,0 +1,165 @@
+// The blocks that are read whole: the label, the modification blocks and the termination block. Each leads to what is due next, to
+// the start, or to the first fault in reading order.
+ghost use mathlib.Core.Path.{_≡_};
+ghost use Prim.Native.Nat.{_+_, _≤_, _<_};
+ghost use lib.ListN.{length};
+ghost use Rattle.label.specs.declared.LabelRead.the-variants.{Good};
+ghost use Rattle.label.specs.Label.{Carried};
+ghost use Rattle.lists.specs.Kept.{numbersIn, tablesIn};
+ghost use Rattle.step.specs.Due.{recordDue, isOver};
+ghost use Rattle.step.specs.Label.{withLabel, labelStep};
+ghost use Rattle.step.specs.Entries.{entryFits, entriesFit, entryStep};
+ghost use Rattle.step.specs.Termination.{terminationStep};
+use block::Record;
+use label::Label;
+use label::LabelRead;
+use program::Bank;
+use stage::Course;
+use stage::Stage;
+use word::Absolute;
+use word::Area;
+use word::Fault;
+use word::Reference;
+
+// What a block leads to.
+pub enum Step {
+    More(Stage),
+    Done(Absolute),
+    Refused(Fault),
+}
+
+// The record that a block must be of.
+pub fn record_due(s: Stage) -> Record
+    ensures { λ r. ⌜ r ≡ recordDue s ⌝ }
+{
+    match s {
+        Stage::Label => Record::Label,
+        Stage::Entry(_, _, _) => Record::Modification,
+        Stage::Segment(_) => Record::Program,
+        Stage::SegmentGroup(_, _) => Record::Program,
+        Stage::Table(_, _, _) => Record::Program,
+        Stage::TableGroup(_, _, _) => Record::Program,
+        Stage::Termination(_) => Record::Termination,
+        Stage::Complete => Record::Termination,
+        Stage::Broken => Record::Termination,
+    }
+}
+
+// Whether no block is due any more (10).
+pub fn is_over(s: Stage) -> bool
+    ensures { λ r. ⌜ r ≡ isOver s ⌝ }
+{
+    match s {
+        Stage::Label => false,
+        Stage::Entry(_, _, _) => false,
+        Stage::Segment(_) => false,
+        Stage::SegmentGroup(_, _) => false,
+        Stage::Table(_, _, _) => false,
+        Stage::TableGroup(_, _, _) => false,
+        Stage::Termination(_) => false,
+        Stage::Complete => true,
+        Stage::Broken => true,
+    }
+}
+
+// The label, held against n I/O numbers, kept as ios, and as many core tables.
+pub fn label_step(ios: &[u64], n: u64, tables: u64, block: &[u64]) -> Step
+    requires { ⌜ (n ≤ 128) × (tables ≤ 128) × (length (now block) ≡ 256) ⌝ }
+    ensures { λ r. ⌜ r ≡ labelStep (numbersIn (now (ios .entry)) n) tables (now (block .entry)) ⌝ }
+{
+    match label::read_label(block) {
+        LabelRead::Good(l) => take_label(ios, n, tables, l),
+        LabelRead::Bad(f) => Step::Refused(f),
+    }
+}
+
+// A label that is one: the assignments must fit it, and entries are due if there are any.
+fn take_label(ios: &[u64], n: u64, tables: u64, l: Label) -> Step
+    requires { ⌜ (n ≤ 128) × (tables ≤ 128) × (Carried l) ⌝ }
+    ensures { λ r. ⌜ r ≡ withLabel (numbersIn (now (ios .entry)) n) tables (Good l) ⌝ }
+{
+    if !modification::assignments_fit(l, ios, n, tables) {
+        return Step::Refused(Fault { number: 16 });
+    }
+    let c = Course {
+        near: l.switches + l.channels,
+        sections: l.sections,
+    };
+    if modification::entry_blocks(n, tables) == 0 {
+        return Step::More(Stage::Segment(c));
+    }
+    Step::More(Stage::Entry(c, l.strict, 0))
+}
+
+// Modification block b, counted from 0: words and ranks are the load's kept tables, io counts its I/O references.
+pub fn entry_step(
+    area: Area,
+    words: &[u64],
+    ranks: &[u64],
+    io: u64,
+    c: Course,
+    strict: bool,
+    b: u64,
+    block: &[u64],
+) -> Step
+    requires { ⌜ (area .at .0 + area .size ≤ 65536) × (io ≤ 128) × (length (now ranks) ≤ 128) × (b < 65536) × (length (now block) ≡ 256) ⌝ }
+    ensures { λ r. ⌜ r ≡ entryStep io (tablesIn area (now (words .entry)) (now (ranks .entry))) c strict b (now (block .entry)) ⌝ }
+{
+    if !entries_fit(area, words, ranks, io, strict, b, block) {
+        return Step::Refused(Fault { number: 16 });
+    }
+    if b + 1 < modification::entry_blocks(io, ranks.len() as u64) {
+        return Step::More(Stage::Entry(c, strict, b + 1));
+    }
+    Step::More(Stage::Segment(c))
+}
+
+// Whether each table's length fits its entry, as far as the entry's third word stands in block b.
+fn entries_fit(
+    area: Area,
+    words: &[u64],
+    ranks: &[u64],
+    io: u64,
+    strict: bool,
+    b: u64,
+    block: &[u64],
+) -> bool
+    requires { ⌜ (area .at .0 + area .size ≤ 65536) × (io ≤ 128) × (length (now ranks) ≤ 128) × (length (now block) ≡ 256) ⌝ }
+    ensures { λ r. ⌜ r ≡ entriesFit io (tablesIn area (now (words .entry)) (now (ranks .entry))) strict b (now (block .entry)) ⌝ }
+{
+    let tables = ranks.len() as u64;
+    let mut t: u64 = 0;
+    while t < tables {
+        let len = lists::table_at(words, ranks, area, Reference(t)).len;
+        if !entry_fits(io, strict, b, block, len, t) {
+            return false;
+        }
+        t += 1;
+    }
+    true
+}
+
+// The same of table t, of length len.
+fn entry_fits(io: u64, strict: bool, b: u64, block: &[u64], len: u64, t: u64) -> bool
+    requires { ⌜ (io ≤ 128) × (t ≤ 128) × (length (now block) ≡ 256) ⌝ }
+    ensures { λ r. ⌜ r ≡ entryFits io strict b (now (block .entry)) len t ⌝ }
+{
+    let s = modification::length_spot(io, Reference(t));
+    if s.block != b {
+        return true;
+    }
+    let least = modification::minimum_length(block[s.word as usize]);
+    modification::length_fits(strict, least, len)
+}
+
+// The termination block: the start must lie in the IBANK.
+pub fn termination_step(area: Area, ibank: Bank, block: &[u64]) -> Step
+    requires { ⌜ area .at .0 ≤ 65536 ⌝ }
+    ensures { λ r. ⌜ r ≡ terminationStep area ibank (now (block .entry)) ⌝ }
+{
+    let start = program::read_start(block);
+    if !program::in_bank(ibank, start) {
+        return Step::Refused(Fault { number: 22 });
+    }
+    Step::Done(word::placed(area, start))
+}
