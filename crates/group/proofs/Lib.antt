@@ -1,4 +1,6 @@
+pub mod Acts
 pub mod Examples
+pub mod Faults
 pub mod Group
 pub mod Halves
 pub mod Homes

@@ -44,8 +44,7 @@ enum Stepped {
     Stop(Fault),
 }
 
-// The group whose identifier stands at place i of a block, into the core. The lent block is copied first (01, "blocks of 256 words
-// built with repeat arrays").
+// The group whose identifier stands at place i of a block, into the core.
 pub fn group_step(
     s: Setting,
     section: Section,
@@ -59,11 +58,8 @@ pub fn group_step(
     requires { ⌜ Ready (s .area) section (now block) i (now core) ⌝ }
     ensures { λ r. ⌜ Meets (groupStep (assigned s (now (words .entry)) (now (ranks .entry)) (now (ios .entry))) section (now (block .entry)) i (now (core .entry))) r (now (core .exit)) ⌝ }
 {
-    let mut b = [0u64; 256];
-    slices::copy_in(&mut b, 0, block);
-    let w = b[i];
-    match program::read_group(w) {
-        GroupRead::Good(g) => fit_group(s, section, words, ranks, ios, &b, i, g, core),
+    match program::read_group(block[i]) {
+        GroupRead::Good(g) => fit_group(s, section, words, ranks, ios, block, i, g, core),
         GroupRead::Bad(f) => GroupStep::Refused(f),
     }
 }

@@ -179,7 +179,8 @@ fn course_fits(io: u64, tables: u64, c: Course) -> bool
     c.sections <= tables
 }
 
-fn bank_fits(area: Area, b: Bank) -> bool
+// Whether a bank lies in the area.
+pub fn bank_fits(area: Area, b: Bank) -> bool
     ensures { λ r. ⌜ r ≡ bankFits area b ⌝ }
 {
     word::run_within(b.at.0, b.count, 0, area.size)
@@ -220,7 +221,8 @@ fn table_fits(
     bank_fits(area, i)
 }
 
-fn count_fits(area: Area, words: &[u64], ranks: &[u64], t: TableSection) -> bool
+// Whether a table section is of a table that there is, and of no more words than the table has.
+pub fn count_fits(area: Area, words: &[u64], ranks: &[u64], t: TableSection) -> bool
     requires { ⌜ area .at .0 + area .size ≤ 65536 ⌝ }
     ensures { λ r. ⌜ r ≡ countFits (tablesIn area (now (words .entry)) (now (ranks .entry))) t ⌝ }
 {

@@ -1,0 +1,194 @@
+-- A group's refusal is 18, 19, 20 or 21. Assumes nothing.
+use Prim.Native.Nat.{ℕ, _+_, _-_, _≤_}
+use mathlib.Core.Bool.{Bool}
+use mathlib.Core.List.{List, [], _∷_}
+use native.Mathlib.Omega.{arith}
+use lib.ListN.{length, getD}
+use lib.Dec.{ltb, leb, eqb}
+use Rattle.word.specs.declared.Absolute.{Absolute}
+use Rattle.word.specs.declared.Area.{Area}
+use Rattle.word.specs.declared.Fault.{Fault}
+use Rattle.word.specs.declared.Half.{Half}
+use Rattle.word.specs.declared.Half.the-variants.{Left, Right}
+use Rattle.word.specs.declared.Reference.{Reference}
+use Rattle.word.specs.declared.Relative.{Relative}
+use Rattle.word.specs.Sorts.{absoluteOf}
+use Rattle.word.specs.Word.{part, isSet, fieldOf, aField}
+use Rattle.word.proofs.Cases.{both}
+use Rattle.lists.specs.declared.Table.{Table}
+use Rattle.program.specs.declared.Group.{Group}
+use Rattle.program.specs.declared.GroupRead.{GroupRead}
+use Rattle.program.specs.declared.GroupRead.the-variants.{Good, Bad as no-group}
+use Rattle.program.specs.Groups.{groupOf}
+use Rattle.field.specs.declared.Becomes.{Becomes}
+use Rattle.field.specs.declared.Becomes.the-variants.{Value, Bad}
+use Rattle.field.specs.declared.Changed.{Changed}
+use Rattle.field.specs.declared.Changed.the-variants.{Word, Refused as RefusedWord}
+use Rattle.field.specs.Field.{Assignments, relative, reference, addressOrLength, table, valued, plusOrMinus, movedField, referred, pair, minusZero, short, long, constant, switch, unit, becomes, lowestOf, widthOf, putBack, fieldStep}
+use Rattle.indicator.specs.declared.Indicator.{Indicator}
+use Rattle.indicator.specs.declared.Indicator.the-variants.{Same, Change, Long}
+use Rattle.indicator.specs.Indicator.{indicatorAt, afterField, afterWord, afterAll, justEnough}
+use Rattle.group.specs.declared.GroupStep.{GroupStep}
+use Rattle.group.specs.declared.GroupStep.the-variants.{Done, Refused}
+use Rattle.group.specs.declared.Home.{Home}
+use Rattle.group.specs.declared.Home.the-variants.{At, Outside}
+use Rattle.group.specs.declared.Section.{Section}
+use Rattle.group.specs.Group.{halfStep, thenHalf, wordStep, Words, thenWords, changedWords, wordsIn, bitsIn, homeOf, Outcome, settled, counted, homed, fitted, grouped, groupStep}
+use Rattle.group.specs.Group.Words.{Become, Refuse}
+
+-- the numbers of the table of refusals from m to n
+abbrev pub Among : ℕ → ℕ → Fault → Type 0
+Among m n f = (m ≤ f .number) × (f .number ≤ n)
+
+abbrev ofField : Becomes → Type 0
+ofField (Value v) = Unit {0}
+ofField (Bad f) = Among 18 21 f
+
+abbrev ofWord : Changed → Type 0
+ofWord (Word v) = Unit {0}
+ofWord (RefusedWord f) = Among 18 21 f
+
+abbrev ofWords : Words → Type 0
+ofWords (Become vs) = Unit {0}
+ofWords (Refuse f) = Among 18 21 f
+
+abbrev pub ofGroup : GroupStep → Type 0
+ofGroup (Done p last) = Unit {0}
+ofGroup (Refused f) = Among 18 21 f
+
+-- ---- a field
+valued-fault : (v : ℕ) → ofField (valued v)
+unfolding valued
+valued-fault v = both ofField (ltb v 65536) tt (omega arith, omega arith)
+
+plus-fault : (minus : Bool) (base amount : ℕ) → ofField (plusOrMinus minus base amount)
+unfolding plusOrMinus
+plus-fault minus base amount =
+    both ofField minus (both ofField (leb amount base) (valued-fault (base - amount)) (omega arith, omega arith)) (valued-fault (base + amount))
+
+moved-fault : (area : Area) (r : Relative) → ofField (movedField area r)
+unfolding movedField
+moved-fault area r = valued-fault (absoluteOf area r .0)
+
+module _ (ts : List Table) where
+  referred-fault : (sized : Bool) (k : Reference) (minus : Bool) (amount : ℕ) → ofField (referred ts sized k minus amount)
+  unfolding referred
+  referred-fault sized k minus amount =
+      both ofField (ltb (k .0) (length ts)) (plus-fault minus (addressOrLength sized (table ts k)) amount) (omega arith, omega arith)
+
+  pair-fault : (f : ℕ) → ofField (pair ts f)
+  unfolding pair
+  pair-fault f =
+      both ofField (isSet 15 f) (omega arith, omega arith)
+      (both ofField (ltb (part 0 7 f) (length ts)) (referred-fault _ _ _ _) (omega arith, omega arith))
+
+  short-fault : (f : ℕ) → ofField (short ts f)
+  unfolding short
+  short-fault f = both ofField (minusZero (isSet 14 f) (part 0 6 f)) (omega arith, omega arith) (referred-fault _ _ _ _)
+
+  long-fault : (f x : ℕ) → ofField (long ts f x)
+  unfolding long
+  long-fault f x =
+      both ofField (ltb (part 0 14 f) 64) (omega arith, omega arith)
+      (both ofField (isSet 7 x) (omega arith, omega arith) (referred-fault _ _ _ _))
+
+  constant-fault : (f x : ℕ) → ofField (constant ts f x)
+  unfolding constant
+  constant-fault f x = both ofField (isSet 15 f) (long-fault f x) (short-fault f)
+
+switch-fault : (ios : List ℕ) (near : ℕ) (h : Half) (k : Reference) → ofField (switch ios near h k)
+unfolding switch
+switch-fault ios near Left k = both ofField (leb near (k .0)) (omega arith, omega arith) tt
+switch-fault ios near Right k = (omega arith, omega arith)
+
+unit-fault : (ios : List ℕ) (near all : ℕ) (k : Reference) → ofField (unit ios near all k)
+unfolding unit
+unit-fault ios near all k =
+    both ofField (ltb (k .0) near) (omega arith, omega arith)
+    (both ofField (ltb (k .0) all) (valued-fault (getD ios (k .0) 0)) (omega arith, omega arith))
+
+becomes-fault : (a : Assignments) (h : Half) (t w x : ℕ) → ofField (becomes a h t w x)
+unfolding becomes
+becomes-fault a h t w x =
+    both ofField (eqb t 0) (moved-fault (a .area) (relative (fieldOf h w)))
+    (both ofField (eqb t 1) (pair-fault (a .tables) (fieldOf h w))
+    (both ofField (eqb t 2) (constant-fault (a .tables) (fieldOf h w) x)
+    (both ofField (eqb t 4) (switch-fault (a .ios) (a .near) h (reference (aField w)))
+    (both ofField (eqb t 7) (unit-fault (a .ios) (a .near) (a .all) (reference (fieldOf h w)))
+    (omega arith, omega arith)))))
+
+put-fault : (k n w : ℕ) (b : Becomes) → ofField b → ofWord (putBack k n w b)
+unfolding putBack
+put-fault k n w (Value v) h = tt
+put-fault k n w (Bad f) h = h
+
+-- ---- the program words
+then-half : (r : Changed) (next : ℕ → Changed) → ofWord r → ((v : ℕ) → ofWord (next v)) → ofWord (thenHalf r next)
+then-half (Word v) next h k = k v
+then-half (RefusedWord f) next h k = h
+
+then-words : (r : Changed) (rest : Words) → ofWord r → ofWords rest → ofWords (thenWords r rest)
+then-words (Word v) (Become vs) h k = tt
+then-words (Word v) (Refuse f) h k = k
+then-words (RefusedWord f) rest h k = h
+
+module _ (a : Assignments) where
+  field-fault : (h : Half) (t w x : ℕ) → ofWord (fieldStep a h t w x)
+  unfolding fieldStep
+  field-fault h t w x = put-fault (lowestOf h t) (widthOf t) w (becomes a h t w x) (becomes-fault a h t w x)
+
+  half-fault : (h : Half) (m : Indicator) (w : ℕ) → ofWord (halfStep a h m w)
+  unfolding halfStep
+  half-fault h Same w = tt
+  half-fault h (Change t) w = field-fault h t w 0
+  half-fault h (Long x) w = field-fault h 2 w x
+
+  word-fault : (bits : List ℕ) (p w : ℕ) → ofWord (wordStep a bits p w)
+  unfolding wordStep
+  word-fault bits p w =
+      then-half (halfStep a Left (indicatorAt bits p (fieldOf Left w)) w) _ (half-fault Left (indicatorAt bits p (fieldOf Left w)) w)
+      (half-fault Right (indicatorAt bits (afterField bits p (fieldOf Left w)) (fieldOf Right w)))
+
+  words-fault : (bits : List ℕ) (p : ℕ) (ws : List ℕ) → ofWords (changedWords a bits p ws)
+  unfolding changedWords
+  words-fault bits p [] = tt
+  words-fault bits p (w ∷ ws) = then-words (wordStep a bits p w) _ (word-fault bits p w) (words-fault bits (afterWord bits p w) ws)
+
+  -- ---- the group
+  module _ (section : Section) (block : List ℕ) (i : ℕ) (core : List ℕ) where
+    abbrev Answered : Outcome → Type 0
+    Answered o = ofGroup (o .answer)
+
+    settled-fault : (g : Group) (to : Absolute) (r : Words) → ofWords r → Answered (settled i g to core r)
+    unfolding settled
+    settled-fault g to (Become vs) h = tt
+    settled-fault g to (Refuse f) h = h
+
+    homed-fault : (g : Group) (home : Home) → Answered (homed a block i g home core)
+    unfolding homed counted
+    homed-fault g (At to) =
+        both Answered (justEnough (afterAll (bitsIn block i g) 0 (wordsIn block i g)) (g .words - g .program))
+        (settled-fault g to (changedWords a (bitsIn block i g) 0 (wordsIn block i g)) (words-fault (bitsIn block i g) 0 (wordsIn block i g)))
+        (omega arith, omega arith)
+    homed-fault g Outside = (omega arith, omega arith)
+
+    abbrev ofRead : GroupRead → Type 0
+    ofRead (Good g) = Unit {0}
+    ofRead (no-group f) = Among 18 21 f
+
+    read-fault : (w : ℕ) → ofRead (groupOf w)
+    unfolding groupOf
+    read-fault w =
+        both ofRead (eqb (part 34 2 w) 2) (both ofRead (eqb (part 18 8 w) 0) (omega arith, omega arith) tt) (omega arith, omega arith)
+
+    grouped-fault : (r : GroupRead) → ofRead r → Answered (grouped a section block i r core)
+    unfolding grouped fitted
+    grouped-fault (Good g) h =
+        both Answered (leb (i + g .words) 254)
+        (both Answered (leb (g .program) (g .words)) (homed-fault g (homeOf (a .area) section g)) (omega arith, omega arith))
+        (omega arith, omega arith)
+    grouped-fault (no-group f) h = h
+
+    pub group-faults : ofGroup (groupStep a section block i core .answer)
+    unfolding groupStep
+    group-faults = grouped-fault (groupOf (getD block i 0)) (read-fault (getD block i 0))

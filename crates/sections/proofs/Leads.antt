@@ -1,0 +1,187 @@
+-- Where an item leads: onward in the block and to a stage whose numbers are in their ranges, or to a refusal from 17 to 21. Assumes nothing.
+use Prim.Native.Nat.{ℕ, _+_, _-_, _≤_, _<_}
+use mathlib.Core.Path.{_≡_, refl}
+use mathlib.Core.Bool.{Bool, true}
+use mathlib.Core.List.{List}
+use native.Mathlib.Omega.{arith}
+use lib.ListN.{getD}
+use lib.Dec.{eqb, leb}
+use borrow.Author.Tests.{leb-true}
+use Rattle.word.specs.declared.Reference.{Reference}
+use Rattle.word.specs.Word.{part}
+use Rattle.word.proofs.Cases.{both, when, and-left, and-right}
+use Rattle.word.proofs.Says.{says-and, says-le}
+use Rattle.program.specs.declared.Bank.{Bank}
+use Rattle.program.specs.declared.BankRead.{BankRead}
+use Rattle.program.specs.declared.BankRead.the-variants.{Good as bank-read, Bad as no-bank}
+use Rattle.program.specs.declared.Segment.{Segment}
+use Rattle.program.specs.declared.SegmentRead.{SegmentRead}
+use Rattle.program.specs.declared.SegmentRead.the-variants.{Good as segment-read, Bad as no-segment}
+use Rattle.program.specs.declared.TableSectionRead.{TableSectionRead}
+use Rattle.program.specs.declared.TableSectionRead.the-variants.{Good as section-read, Bad as no-section}
+use Rattle.program.specs.Sections.{bankOf, withDbank, withIbank, segmentOf, tableSectionOf}
+use Rattle.lists.specs.Obey.{noTable}
+use Rattle.group.specs.declared.GroupStep.{GroupStep}
+use Rattle.group.specs.declared.GroupStep.the-variants.{Done as group-done, Refused as group-refused}
+use Rattle.group.specs.declared.Section.{Section}
+use Rattle.group.specs.declared.Section.the-variants.{Segment as in-segment, Table as in-table}
+use Rattle.group.specs.Group.{groupStep}
+use Rattle.group.proofs.Faults.{Among, ofGroup, group-faults}
+use Rattle.group.proofs.Group as groups
+use Rattle.stage.specs.declared.Course.{Course}
+use Rattle.stage.specs.declared.Stage.{Stage}
+use Rattle.stage.specs.declared.Stage.the-variants.{Label, Entry, Segment as segment-due, SegmentGroup, Table as table-due, TableGroup, Termination, Complete, Broken}
+use Rattle.stage.specs.Ranges.{courseFits, bankFits, countFits, stageFits}
+use Rattle.step.specs.declared.Step.{Step}
+use Rattle.step.specs.declared.Step.the-variants.{More, Done, Refused}
+use Rattle.sections.specs.declared.Item.{Item}
+use Rattle.sections.specs.declared.Item.the-variants.{Go, Stop}
+use Rattle.sections.specs.Load.{Load, assignments}
+use Rattle.sections.specs.Heads.{banksFit, withSegment, segmentStep, withSection, sectionStep}
+use Rattle.sections.specs.Program.{afterLast, afterGroup, itemStep}
+use Rattle.sections.proofs.Ranges.{Fits, CourseFits, BankFits, says-segment, says-due, says-table}
+
+-- an answer for a load that waited for s
+abbrev pub Told : Load → Stage → Step → Type 0
+Told x s (More t) = Fits x s → Fits x t
+Told x s (Done a) = ⊥
+Told x s (Refused f) = Among 17 21 f
+
+-- an item at place i, where s is due
+abbrev pub Leads : Load → Stage → ℕ → Item → Type 0
+Leads x s i (Go t p) = (i < p) × (p ≤ 255) × (Fits x s → Fits x t)
+Leads x s i (Stop r) = Told x s r
+
+-- ---- heads
+abbrev ofBank : BankRead → Type 0
+ofBank (bank-read b) = Unit {0}
+ofBank (no-bank f) = Among 17 21 f
+
+abbrev ofSegment : SegmentRead → Type 0
+ofSegment (segment-read g) = Unit {0}
+ofSegment (no-segment f) = Among 17 21 f
+
+abbrev ofSection : TableSectionRead → Type 0
+ofSection (section-read t) = Unit {0}
+ofSection (no-section f) = Among 17 21 f
+
+bank-fault : (w : ℕ) → ofBank (bankOf w)
+unfolding bankOf
+bank-fault w = both ofBank (eqb (part 34 2 w) 0) (both ofBank (eqb (part 16 2 w) 0) tt (omega arith, omega arith)) (omega arith, omega arith)
+
+dbank-fault : (i : Bank) (d : BankRead) → ofBank d → ofSegment (withDbank i d)
+dbank-fault i (bank-read d) h = tt
+dbank-fault i (no-bank f) h = h
+
+ibank-fault : (i d : BankRead) → ofBank i → ofBank d → ofSegment (withIbank i d)
+ibank-fault (bank-read i) d h k = both ofSegment (eqb (i .count) 0) (omega arith, omega arith) (dbank-fault i d k)
+ibank-fault (no-bank f) d h k = h
+
+segment-fault : (v w : ℕ) → ofSegment (segmentOf v w)
+unfolding segmentOf
+segment-fault v w = ibank-fault (bankOf v) (bankOf w) (bank-fault v) (bank-fault w)
+
+section-fault : (w : ℕ) → ofSection (tableSectionOf w)
+unfolding tableSectionOf
+section-fault w =
+    both ofSection (eqb (part 34 2 w) 1)
+    (both ofSection (eqb (part 8 10 w) 0) (both ofSection (eqb (part 18 16 w) 0) (omega arith, omega arith) tt) (omega arith, omega arith))
+    (omega arith, omega arith)
+
+module _ (x : Load) where
+  banks-both : (g : Segment) → banksFit (x .area) (x .tables) g ≡ true → BankFits x (g .ibank) × BankFits x (g .dbank)
+  unfolding banksFit
+  banks-both g q =
+      let i = bankFits (x .area) (g .ibank) in
+      let d = bankFits (x .area) (g .dbank) in
+      (and-left i _ q, and-left d _ (and-right i _ q))
+
+  with-segment : (c : Course) (i : ℕ) → i + 3 ≤ 254 → (r : SegmentRead) → ofSegment r
+      → Leads x (segment-due c) i (withSegment (x .area) (x .tables) c (i + 4) r)
+  unfolding withSegment stageFits
+  with-segment c i h (segment-read g) k =
+      when (Leads x (segment-due c) i) (banksFit (x .area) (x .tables) g)
+      (λ q. (omega arith, omega arith, λ f. says-segment x c g .test (f, banks-both g q)))
+      (λ q. (omega arith, omega arith))
+  with-segment c i h (no-segment f) k = k
+
+  segment-leads : (c : Course) (block : List ℕ) (i : ℕ) → Leads x (segment-due c) i (segmentStep (x .area) (x .tables) c block i)
+  unfolding segmentStep
+  segment-leads c block i =
+      when (Leads x (segment-due c) i) (leb (i + 3) 254)
+      (λ q. with-segment c i (leb-true (i + 3) 254 q) (segmentOf (getD block i 0) (getD block (i + 1) 0)) (segment-fault (getD block i 0) (getD block (i + 1) 0)))
+      (λ q. (omega arith, omega arith))
+
+  -- one section fewer to come is no more
+  fewer-fits : (io tables : ℕ) (c : Course) → courseFits io tables c ≡ true → courseFits io tables (record { near = c .near; sections = c .sections - 1 }) ≡ true
+  unfolding courseFits
+  fewer-fits io tables c q =
+      let s = says-and (says-le (c .near) io) (says-le (c .sections) tables) .fact q in
+      says-and (says-le (c .near) io) (says-le (c .sections - 1) tables) .test (s .0, omega arith)
+
+  with-section : (c : Course) (least : Reference) (ibank : Bank) (i : ℕ) → i ≤ 254 → (r : TableSectionRead) → ofSection r
+      → Leads x (table-due c least ibank) i (withSection (x .tables) c (least .0) ibank (i + 1) r)
+  unfolding withSection
+  with-section c least ibank i h (section-read t) k =
+      both (Leads x (table-due c least ibank) i) (leb (least .0) (t .number .0))
+      (when (Leads x (table-due c least ibank) i) (countFits (x .tables) t)
+      (λ q. (omega arith, omega arith, λ f. let d = says-due x c least ibank .fact f in says-table x (record { near = c .near; sections = c .sections - 1 }) t ibank .test (fewer-fits _ _ c (d .0), (q, d .1))))
+      (λ q. (omega arith, omega arith)))
+      (omega arith, omega arith)
+  with-section c least ibank i h (no-section f) k = k
+
+  section-leads : (c : Course) (least : Reference) (ibank : Bank) (block : List ℕ) (i : ℕ) → i ≤ 254
+      → Leads x (table-due c least ibank) i (sectionStep (x .tables) c (least .0) ibank block i)
+  unfolding sectionStep
+  section-leads c least ibank block i h = with-section c least ibank i h (tableSectionOf (getD block i 0)) (section-fault (getD block i 0))
+
+  -- ---- groups: their section's stage fits, so what the section leaves fits
+  module _ (s : Stage) (c : Course) (least i : ℕ) (ibank : Bank) (due : Fits x s → CourseFits x c × BankFits x ibank) where
+    last-leads : (p : ℕ) → i < p → p ≤ 255 → Leads x s i (afterLast c least ibank p)
+    unfolding afterLast stageFits
+    last-leads p h k =
+        both (Leads x s i) (eqb (c .sections) 0) (λ f. due f .1) (h, k, λ f. says-due x c (record { 0 = least }) ibank .test (due f))
+
+    answer-leads : (r : GroupStep) → ofGroup r → ((p : ℕ) (last : Bool) → r ≡ group-done p last → (i < p) × (p ≤ 255)) → Leads x s i (afterGroup s c least ibank r)
+    unfolding afterGroup
+    answer-leads (group-done p last) h k =
+        let l = k p last refl in
+        both (Leads x s i) last (last-leads p (l .0) (l .1)) (l .0, l .1, λ f. f)
+    answer-leads (group-refused f) h k = (omega arith, h .1)
+
+    group-leads : (section : Section) (block core : List ℕ) → Leads x s i (afterGroup s c least ibank (groupStep (assignments x c) section block i core .answer))
+    group-leads section block core =
+        answer-leads (groupStep (assignments x c) section block i core .answer) (group-faults (assignments x c) section block i core)
+        (λ p last q. let e = groups.group-done (assignments x c) section block i core p last q in (e .after, e .most))
+
+  pub item-leads : (s : Stage) (block : List ℕ) (i : ℕ) (core : List ℕ) → i ≤ 254 → Leads x s i (itemStep x s block i core .item)
+  unfolding itemStep
+  item-leads Label block i core h = λ f. f
+  item-leads (Entry c strict b) block i core h = λ f. f
+  item-leads (segment-due c) block i core h = segment-leads c block i
+  item-leads (SegmentGroup c g) block i core h =
+      group-leads (SegmentGroup c g) c 0 i (g .ibank)
+      (λ f. let d = says-segment x c g .fact f in (d .0, d .1 .0))
+      (in-segment g) block core
+  item-leads (table-due c t ibank) block i core h = section-leads c t ibank block i h
+  item-leads (TableGroup c t ibank) block i core h =
+      group-leads (TableGroup c t ibank) c (t .number .0 + 1) i ibank
+      (λ f. let d = says-table x c t ibank .fact f in (d .0, d .1 .1))
+      (in-table (getD (x .tables) (t .number .0) noTable) (t .count)) block core
+  item-leads (Termination ibank) block i core h = λ f. f
+  item-leads Complete block i core h = λ f. f
+  item-leads Broken block i core h = λ f. f
+
+  -- an item that goes on goes to a later place, at most 255, and keeps the stage's numbers in their ranges
+  pub item-onward : (s : Stage) (block : List ℕ) (i : ℕ) (core : List ℕ) (t : Stage) (p : ℕ) → itemStep x s block i core .item ≡ Go t p → i ≤ 254
+      → (i < p) × (p ≤ 255)
+  item-onward s block i core t p e h = let l : Leads x s i (Go t p) = rw e at (item-leads s block i core h) in (l .0, l .1)
+
+  pub item-fits : (s : Stage) (block : List ℕ) (i : ℕ) (core : List ℕ) (t : Stage) (p : ℕ) → itemStep x s block i core .item ≡ Go t p → i ≤ 254
+      → Fits x s → Fits x t
+  item-fits s block i core t p e h = let l : Leads x s i (Go t p) = rw e at (item-leads s block i core h) in l .2
+
+  -- and so does one that closes the block
+  pub item-closes : (s : Stage) (block : List ℕ) (i : ℕ) (core : List ℕ) (t : Stage) → itemStep x s block i core .item ≡ Stop (More t) → i ≤ 254
+      → Fits x s → Fits x t
+  item-closes s block i core t e h = rw e at (item-leads s block i core h)

@@ -1,0 +1,4 @@
+pub mod Ranges
+pub mod Leads
+pub mod Turns
+pub mod Blocks

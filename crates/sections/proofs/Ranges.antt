@@ -1,0 +1,108 @@
+-- What the ranges of a stage's numbers say, and what has been seen to before a group is read. Assumes nothing.
+use Prim.Native.Nat.{ℕ, _+_, _≤_, _<_}
+use mathlib.Core.Path.{_≡_}
+use mathlib.Core.Bool.{Bool, true}
+use mathlib.Core.List.{List}
+use native.Mathlib.Omega.{arith}
+use lib.ListN.{length, getD}
+use Rattle.word.specs.declared.Area.{Area}
+use Rattle.word.specs.declared.Reference.{Reference}
+use Rattle.word.specs.Lists.{every}
+use Rattle.word.specs.Runs.{Says}
+use Rattle.word.proofs.Every.{every-place}
+use Rattle.word.proofs.Says.{says-within, says-and, says-lt, says-le}
+use Rattle.program.specs.declared.Bank.{Bank}
+use Rattle.program.specs.declared.Segment.{Segment}
+use Rattle.program.specs.declared.TableSection.{TableSection}
+use Rattle.lists.specs.declared.Table.{Table as CoreTable}
+use Rattle.lists.specs.Obey.{noTable, tableInside}
+use Rattle.lists.proofs.Obey.{says-inside}
+use Rattle.group.specs.declared.Section.{Section}
+use Rattle.group.specs.declared.Section.the-variants.{Segment as in-segment, Table as in-table}
+use Rattle.group.specs.Group.{InArea, Ready}
+use Rattle.stage.specs.declared.Course.{Course}
+use Rattle.stage.specs.declared.Stage.{Stage}
+use Rattle.stage.specs.declared.Stage.the-variants.{SegmentGroup, Table as table-due, TableGroup}
+use Rattle.stage.specs.Ranges.{courseFits, bankFits, countFits, stageFits}
+use Rattle.sections.specs.Load.{Load, Waits}
+
+pub bank-inside : (area : Area) (b : Bank) → bankFits area b ≡ true → b .at .0 + b .count ≤ area .size
+unfolding bankFits
+bank-inside area b q = let f = says-within (b .at .0) (b .count) 0 (area .size) .fact q in omega arith
+
+pub count-inside : (ts : List CoreTable) (t : TableSection) → countFits ts t ≡ true
+    → (t .number .0 < length ts) × (t .count ≤ getD ts (t .number .0) noTable .len)
+unfolding countFits
+count-inside ts t = says-and (says-lt (t .number .0) (length ts)) (says-le (t .count) (getD ts (t .number .0) noTable .len)) .fact
+
+-- a stage's numbers are in their ranges, and what that says of each stage that a program block is read for
+abbrev pub Fits : Load → Stage → Type 0
+Fits x s = stageFits (x .area) (x .tables) (length (x .ios)) s ≡ true
+
+abbrev pub CourseFits : Load → Course → Type 0
+CourseFits x c = courseFits (length (x .ios)) (length (x .tables)) c ≡ true
+
+abbrev pub BankFits : Load → Bank → Type 0
+BankFits x b = bankFits (x .area) b ≡ true
+
+says-true : (b : Bool) → Says b (b ≡ true)
+says-true b = record { fact = λ q. q; test = λ q. q }
+
+module _ (x : Load) (c : Course) where
+  says-course : Says (courseFits (length (x .ios)) (length (x .tables)) c) (CourseFits x c)
+  says-course = says-true (courseFits (length (x .ios)) (length (x .tables)) c)
+
+  says-bank : (b : Bank) → Says (bankFits (x .area) b) (BankFits x b)
+  says-bank b = says-true (bankFits (x .area) b)
+
+  pub says-segment : (g : Segment)
+      → Says (stageFits (x .area) (x .tables) (length (x .ios)) (SegmentGroup c g)) (CourseFits x c × (BankFits x (g .ibank) × BankFits x (g .dbank)))
+  unfolding stageFits
+  says-segment g = says-and says-course (says-and (says-bank (g .ibank)) (says-bank (g .dbank)))
+
+  pub says-due : (t : Reference) (ibank : Bank)
+      → Says (stageFits (x .area) (x .tables) (length (x .ios)) (table-due c t ibank)) (CourseFits x c × BankFits x ibank)
+  unfolding stageFits
+  says-due t ibank = says-and says-course (says-bank ibank)
+
+  pub says-table : (t : TableSection) (ibank : Bank)
+      → Says (stageFits (x .area) (x .tables) (length (x .ios)) (TableGroup c t ibank)) (CourseFits x c × ((countFits (x .tables) t ≡ true) × BankFits x ibank))
+  unfolding stageFits
+  says-table t ibank = says-and says-course (says-and (says-true (countFits (x .tables) t)) (says-bank ibank))
+
+module _ (x : Load) where
+  -- the section's room lies in the area
+  pub segment-room : (c : Course) (g : Segment) → Fits x (SegmentGroup c g) → InArea (x .area) (in-segment g)
+  segment-room c g q =
+      let f = says-segment x c g .fact q in
+      (bank-inside (x .area) (g .ibank) (f .1 .0), bank-inside (x .area) (g .dbank) (f .1 .1))
+
+  pub table-there : (c : Course) (t : TableSection) (ibank : Bank) → Fits x (TableGroup c t ibank)
+      → (t .number .0 < length (x .tables)) × (t .count ≤ getD (x .tables) (t .number .0) noTable .len)
+  table-there c t ibank q = count-inside (x .tables) t (says-table x c t ibank .fact q .1 .0)
+
+  pub table-room : (c : Course) (t : TableSection) (ibank : Bank) → every (tableInside (x .area)) (x .tables) ≡ true → Fits x (TableGroup c t ibank)
+      → InArea (x .area) (in-table (getD (x .tables) (t .number .0) noTable) (t .count))
+  table-room c t ibank e q =
+      let h = table-there c t ibank q in
+      let f = says-inside (x .area) (getD (x .tables) (t .number .0) noTable) .fact (every-place noTable (tableInside (x .area)) (x .tables) (t .number .0) (h .0) e) in
+      (f .0, f .1, h .1)
+
+  -- a load that waits for a group is ready for it
+  module _ (block core : List ℕ) (i : ℕ) (place : i ≤ 254) where
+    ready : (s : Stage) (section : Section) → InArea (x .area) section → Waits x s block core → Ready (x .area) section block i core
+    ready s section room w = record {
+      inside = w .inside;
+      most = w .most;
+      room = room;
+      long = w .long;
+      words = w .words;
+      place = place;
+    }
+
+    pub segment-ready : (c : Course) (g : Segment) → Waits x (SegmentGroup c g) block core → Ready (x .area) (in-segment g) block i core
+    segment-ready c g w = ready _ _ (segment-room c g (w .stage)) w
+
+    pub table-ready : (c : Course) (t : TableSection) (ibank : Bank) → Waits x (TableGroup c t ibank) block core
+        → Ready (x .area) (in-table (getD (x .tables) (t .number .0) noTable) (t .count)) block i core
+    table-ready c t ibank w = ready _ _ (table-room c t ibank (w .tables) (w .stage)) w

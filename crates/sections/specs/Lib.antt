@@ -1,0 +1,3 @@
+pub mod Load
+pub mod Heads
+pub mod Program

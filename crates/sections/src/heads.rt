@@ -1,0 +1,124 @@
+// The words that head a section: the segment's four, and a table section's one.
+ghost use mathlib.Core.Path.{_≡_};
+ghost use Prim.Native.Nat.{_+_, _-_, _≤_};
+ghost use lib.ListN.{length};
+ghost use Rattle.word.specs.Lists.{every};
+ghost use Rattle.lists.specs.Kept.{tablesIn};
+ghost use Rattle.sections.specs.Heads.{besideTable, banksFit, segmentStep, sectionStep};
+use crate::Item;
+use program::Bank;
+use program::Segment;
+use program::SegmentRead;
+use program::TableSectionRead;
+use stage::Course;
+use stage::Stage;
+use step::Step;
+use word::Area;
+use word::Fault;
+use word::Reference;
+
+// The segment section's four words at place i: 17 where they do not stay in the block, are none, or the banks do not fit.
+pub fn segment_head(
+    area: Area,
+    words: &[u64],
+    ranks: &[u64],
+    c: Course,
+    block: &[u64],
+    i: usize,
+) -> Item
+    requires { ⌜ (area .at .0 + area .size ≤ 65536) × (length (now block) ≡ 256) × (i ≤ 254) ⌝ }
+    ensures { λ r. ⌜ r ≡ segmentStep area (tablesIn area (now (words .entry)) (now (ranks .entry))) c (now (block .entry)) i ⌝ }
+{
+    if 254 < i + 3 {
+        return Item::Stop(Step::Refused(Fault { number: 17 }));
+    }
+    match program::read_segment(block[i], block[i + 1]) {
+        SegmentRead::Good(g) => {
+            if banks_fit(area, words, ranks, g) {
+                return Item::Go(Stage::SegmentGroup(c, g), i + 4);
+            }
+            Item::Stop(Step::Refused(Fault { number: 17 }))
+        }
+        SegmentRead::Bad(f) => Item::Stop(Step::Refused(f)),
+    }
+}
+
+// A table section's word at place i: 17 where it is none, its number does not rise, or there is no such table or one too short.
+pub fn section_head(
+    area: Area,
+    words: &[u64],
+    ranks: &[u64],
+    c: Course,
+    least: Reference,
+    ibank: Bank,
+    block: &[u64],
+    i: usize,
+) -> Item
+    requires { ⌜ (area .at .0 + area .size ≤ 65536) × (length (now block) ≡ 256) × (i ≤ 254) ⌝ }
+    ensures { λ r. ⌜ r ≡ sectionStep (tablesIn area (now (words .entry)) (now (ranks .entry))) c (least .0) ibank (now (block .entry)) i ⌝ }
+{
+    match program::read_table_section(block[i]) {
+        TableSectionRead::Good(t) => {
+            if t.number.0 < least.0 {
+                return Item::Stop(Step::Refused(Fault { number: 17 }));
+            }
+            if stage::count_fits(area, words, ranks, t) {
+                return Item::Go(Stage::TableGroup(one_fewer(c), t, ibank), i + 1);
+            }
+            Item::Stop(Step::Refused(Fault { number: 17 }))
+        }
+        TableSectionRead::Bad(f) => Item::Stop(Step::Refused(f)),
+    }
+}
+
+// The course with one section fewer to come; there is one where a section is due.
+fn one_fewer(c: Course) -> Course
+    ensures { λ r. ⌜ r ≡ record { near = c .near; sections = c .sections - 1 } ⌝ }
+{
+    if c.sections == 0 {
+        return c;
+    }
+    Course {
+        near: c.near,
+        sections: c.sections - 1,
+    }
+}
+
+// Whether the banks lie in the area and share no word with each other or a table.
+fn banks_fit(area: Area, words: &[u64], ranks: &[u64], g: Segment) -> bool
+    requires { ⌜ area .at .0 + area .size ≤ 65536 ⌝ }
+    ensures { λ r. ⌜ r ≡ banksFit area (tablesIn area (now (words .entry)) (now (ranks .entry))) g ⌝ }
+{
+    let i = g.ibank;
+    let d = g.dbank;
+    if !stage::bank_fits(area, i) {
+        return false;
+    }
+    if !stage::bank_fits(area, d) {
+        return false;
+    }
+    if !word::runs_apart(i.at.0, i.count, d.at.0, d.count) {
+        return false;
+    }
+    if !bank_beside_tables(area, words, ranks, i) {
+        return false;
+    }
+    bank_beside_tables(area, words, ranks, d)
+}
+
+// Whether a bank in the area shares no word with a table.
+fn bank_beside_tables(area: Area, words: &[u64], ranks: &[u64], bank: Bank) -> bool
+    requires { ⌜ (area .at .0 + area .size ≤ 65536) × (bank .at .0 ≤ area .size) ⌝ }
+    ensures { λ r. ⌜ r ≡ every (besideTable area bank) (tablesIn area (now (words .entry)) (now (ranks .entry))) ⌝ }
+{
+    let at = area.at.0 + bank.at.0;
+    let mut k: usize = 0;
+    while k < ranks.len() {
+        let t = lists::table_at(words, ranks, area, Reference(k as u64));
+        if !word::runs_apart(at, bank.count, t.at.0, t.len) {
+            return false;
+        }
+        k += 1;
+    }
+    true
+}
