@@ -52,8 +52,8 @@ extern "C" {
 #define CLAMP_CODE(answer) ((uint64_t)(answer) >> 32)
 #define CLAMP_VALUE(answer) ((uint64_t)(answer) & 0xffffffffu)
 
-/* A code from 1 to 63 is a refusal's number, and the value is 0. The calls below give 1 to 9. Refusals 1 to 9 change nothing: desk
-   and core are left as they were. Of several that are due the lowest is given.
+/* A code from 1 to 63 is a refusal's number, and the value is 0. The calls below give 1 to 22. Refusals 1 to 12 change nothing: desk
+   and core are left as they were. Of several that are due the lowest is given. Refusals 13 to 22 are feed's alone, and break the load.
 
      1   the desk is not clamp_desk_words() long, or cannot be right
      2   the core length is 0, over 65,536, or not the one that the desk was made with
@@ -65,6 +65,7 @@ extern "C" {
      8   a list is too long, ends in half a pair or has a number out of range; a table is not inside the area; or two tables share
          a word
      9   the place is over 11, free, or another room's
+     10 to 22   see feed
 
    The codes from 64 on are the answers of a call that was accepted. The value is 0 but where it is named. */
 
@@ -138,7 +139,47 @@ uint64_t clamp_open(uint64_t *desk, uint64_t desk_len,
                     const uint64_t *tables, uint64_t tables_len);
 
 
-/* Feed, clamp_feed, takes the blocks of a load one by one. It comes with the next part of the library. */
+/* Feed: the next block of a load.
+
+     desk, desk_len     the desk
+     core, core_len     the core; core_len is what the desk was made with
+     room, place        the room, and the place that open gave it for this load
+     block, block_len   the block: 256 words, each below 2^36. It is only read.
+
+   The blocks of a file are fed in the file's order: one label, the modification blocks (none where the label counts no entries),
+   the program blocks, one termination block. Loads of several places may be fed by turns, in any order.
+
+   Answers:
+
+     CLAMP_MORE, 0        the block is accepted. Its words are stored in the area, and the next block is due.
+     CLAMP_DONE, start    the termination block is accepted and the load is complete: the area holds the program's image, and start
+                          is the absolute address at which it begins. The place and the area are the room's until released.
+     1, 0                 the desk is not of its length, or cannot be right
+     2, 0                 core_len is not what the desk was made with
+     4, 0                 room is over 7
+     9, 0                 place is over 11, free, or another room's
+     10, 0                the load is complete or broken: release it
+     11, 0                block_len is not 256, or a word is 2^36 or more
+     12, 0                the checksum word differs. The same block may be read and fed again.
+     13, 0                the block is of the wrong record
+     14, 0                the label's program type flag is not 001
+     15, 0                the label is at fault
+     16, 0                the lists that were given to open do not fit the file
+     17, 0                a section is at fault
+     18, 0                a group is at fault
+     19, 0                a modification type that is not carried, or a field of the wrong form
+     20, 0                a field refers to an entry that there is not
+     21, 0                a field's value would be outside 0 to 65,535
+     22, 0                the start is not in the IBANK
+
+   Refused with 1 to 12, desk and core are as they were: the load still waits for the same block. Refused with 13 to 22, every word of
+   the area is zero and the load is broken; it holds its place and area until released. In every case no core word outside the
+   area is changed. From 13 on the first fault in reading order is given, and of several at one word or field the lowest. */
+
+uint64_t clamp_feed(uint64_t *desk, uint64_t desk_len,
+                    uint64_t *core, uint64_t core_len,
+                    uint64_t room, uint64_t place,
+                    const uint64_t *block, uint64_t block_len);
 
 
 /* Release: a place and its area are given back.
@@ -171,7 +212,7 @@ uint64_t clamp_release(uint64_t *desk, uint64_t desk_len,
      const uint64_t tables[2] = {560, 16};
      uint64_t words = clamp_desk_words();
      uint64_t *desk = malloc(words * sizeof *desk);
-     uint64_t answer, place;
+     uint64_t answer, place, block[256];
 
      answer = clamp_make(desk, words, 4096, map, 16);
      if (CLAMP_CODE(answer) != CLAMP_MADE)
@@ -180,7 +221,12 @@ uint64_t clamp_release(uint64_t *desk, uint64_t desk_len,
      if (CLAMP_CODE(answer) != CLAMP_OPENED)
        return refused(CLAMP_CODE(answer));
      place = CLAMP_VALUE(answer);
-     .. feed the load's blocks, then run the program ..
+     do {
+       read_block(block);
+       answer = clamp_feed(desk, words, core, 4096, 0, place, block, 256);
+     } while (CLAMP_CODE(answer) == CLAMP_MORE);
+     if (CLAMP_CODE(answer) == CLAMP_DONE)
+       run_from(CLAMP_VALUE(answer));
      answer = clamp_release(desk, words, 4096, 0, place);
      if (CLAMP_CODE(answer) != CLAMP_RELEASED)
        return refused(CLAMP_CODE(answer)); */

@@ -36,10 +36,10 @@ module _ (d : List ℕ) (long : length d ≡ deskWords) (p : ℕ) (h : p < 12) w
   pub freed-map : mapNumbers (set d (base p) 0) ≡ mapNumbers d
   freed-map = rw freed-as (map-kept d long p h 0 (0 ∷ []) (omega arith))
 
-  freed-other : (q : ℕ) → (q ≡ p → ⊥) → placeIn (set d (base p) 0) q ≡ placeIn d q
+  pub freed-other : (q : ℕ) → (q ≡ p → ⊥) → placeIn (set d (base p) 0) q ≡ placeIn d q
   freed-other q ne = rw freed-as (place-kept d long p h 0 (0 ∷ []) (omega arith) q ne)
 
-  freed-holders : holders (set d (base p) 0) ≡ set (holders d) p 0
+  pub freed-holders : holders (set d (base p) 0) ≡ set (holders d) p 0
   freed-holders = rw freed-as (holders-written d long p h 0 (0 ∷ []) (omega arith) refl (omega arith))
 
   freed-free : holderOf (placeIn (set d (base p) 0) p) ≡ 0

@@ -90,6 +90,9 @@ module _ (d : List ℕ) (n : ℕ) (m : List ℕ) (long : length d ≡ deskWords)
       rw (← fresh-as) (map-freed _ fixed-length 12 (omega arith)
       ∙ rw (← map) (range-splice-same (set d 0 n) 1 m (rw length-set (omega arith))))
 
+  fresh-holders : holders (freshDesk d n m) ≡ fresh
+  fresh-holders = rw (← fresh-as) (holders-freed _ fixed-length)
+
   -- all holders are 0, so that the map is all that is asked
   fresh-sound : coreFits n ≡ true → mapObeys n (mapOf m) ≡ true → Sound (freshDesk d n m)
   fresh-sound c o =
@@ -99,25 +102,38 @@ module _ (d : List ℕ) (n : ℕ) (m : List ℕ) (long : length d ≡ deskWords)
         long = rw (← fresh-as) (length-freed 12 _ ∙ fixed-length);
         core = rw fresh-core c;
         map = rw (fresh-core, fresh-map) o;
-        fair = rw (← fresh-as, holders-freed _ fixed-length) fresh-fair;
+        fair = rw fresh-holders fresh-fair;
         place = λ p h. free-fits _ _ (f p h);
         two = λ p q l h. free-first _ _ (f p (omega arith));
       }
 
--- ---- make
-pub make-sound : (d : List ℕ) (n : ℕ) (m : List ℕ) → makeOf d n m .answer ≡ Made → sound (makeOf d n m .desk) ≡ true
+-- ---- make: what holds of the fresh desk holds of the desk that is made
+make-by : (P : List ℕ → Type 0) (d : List ℕ) (n : ℕ) (m : List ℕ)
+    → (length d ≡ deskWords → coreFits n ≡ true → length m ≡ 16 → mapObeys n (mapOf m) ≡ true → P (freshDesk d n m))
+    → makeOf d n m .answer ≡ Made → P (makeOf d n m .desk)
 unfolding makeOf
-make-sound d n m =
-    let P : Outcome → Type 0 = λ o. o .answer ≡ Made → sound (o .desk) ≡ true in
-    when P (eqb (length d) deskWords)
-    (λ a. when P (coreFits n)
-    (λ c. when P (eqb (length m) 16)
-    (λ b. when P (mapObeys n (mapOf m))
-    (λ o q. sound-says (freshDesk d n m) .test (fresh-sound d n m (eqb-true (length d) deskWords a) (eqb-true (length m) 16 b) c o))
+make-by P d n m k =
+    let Q : Outcome → Type 0 = λ o. o .answer ≡ Made → P (o .desk) in
+    when Q (eqb (length d) deskWords)
+    (λ a. when Q (coreFits n)
+    (λ c. when Q (eqb (length m) 16)
+    (λ b. when Q (mapObeys n (mapOf m))
+    (λ o q. k (eqb-true (length d) deskWords a) c (eqb-true (length m) 16 b) o)
     (λ o q. absurd (omega (arith, ap codeOf q))))
     (λ b q. absurd (omega (arith, ap codeOf q))))
     (λ c q. absurd (omega (arith, ap codeOf q))))
     (λ a q. absurd (omega (arith, ap codeOf q)))
+
+module _ (d : List ℕ) (n : ℕ) (m : List ℕ) (q : makeOf d n m .answer ≡ Made) where
+  pub make-sound : sound (makeOf d n m .desk) ≡ true
+  make-sound = make-by (λ e. sound e ≡ true) d n m (λ a c b o. sound-says (freshDesk d n m) .test (fresh-sound d n m a b c o)) q
+
+  pub make-core : coreLength (makeOf d n m .desk) ≡ n
+  make-core = make-by (λ e. coreLength e ≡ n) d n m (λ a c b o. fresh-core d n m a b) q
+
+  -- all places are free
+  pub make-holders : holders (makeOf d n m .desk) ≡ fresh
+  make-holders = make-by (λ e. holders e ≡ fresh) d n m (λ a c b o. fresh-holders d n m a b) q
 
 pub make-small : (d : List ℕ) (n : ℕ) (m : List ℕ) → Small (makeOf d n m .answer)
 unfolding makeOf

@@ -4,7 +4,7 @@ use mathlib.Core.Path.{_≡_, refl, sym, ap, _∙_}
 use mathlib.Core.Bool.{Bool, true, false}
 use mathlib.Core.List.{List, [], _∷_}
 use native.Mathlib.Omega.{arith}
-use lib.ListN.{length, getD, take}
+use lib.ListN.{length, getD, take, set}
 use lib.Dec.{eqb, leb}
 use borrow.Author.Tests.{eq-eqb, ne-eqb, eqb-true, leb-true, le-leb, lt-leb}
 use Rattle.word.specs.Lists.{every, splice, range, cleared}
@@ -34,7 +34,7 @@ use Rattle.layout.specs.Layout.{coreLength, mapNumbers, base, placeIn, places, 
 use Rattle.layout.proofs.Places.{holder-at, getD-holders, place-length}
 use Rattle.desk.specs.Sound.{areaIn, countsFit, loadFits, heldFits, placeFits, areasApart, sound}
 use Rattle.desk.proofs.Facts.{sound-says, sound-long, free-first, core-small, sound-map, sound-fair, stretch-in-core}
-use Rattle.desk.proofs.Replaced.{Replaced, replaced-none, replaced-more, areas-by, replaced-sound}
+use Rattle.desk.proofs.Replaced.{Replaced, replaced-none, replaced-more, areas-by, replaced-sound, holders-replaced}
 use Rattle.desk.proofs.Tested.{load-is, places-length, places-at}
 use Rattle.answer.specs.Answer.{Small}
 use Rattle.answer.specs.declared.Answer.the-variants.{Refused, Opened}
@@ -184,10 +184,10 @@ module _ (l own numbers ws rs : List ℕ) (long : length l ≡ 303) (o : length 
   long-1 : length (splice l 0 own) ≡ 303
   long-1 = length-splice l 0 own (omega arith) ∙ long
 
-  long-2 : length (splice (splice l 0 own) 15 numbers) ≡ 303
+  pub long-2 : length (splice (splice l 0 own) 15 numbers) ≡ 303
   long-2 = length-splice (splice l 0 own) 15 numbers (omega (arith, long-1)) ∙ long-1
 
-  long-3 : length (splice (splice (splice l 0 own) 15 numbers) 47 ws) ≡ 303
+  pub long-3 : length (splice (splice (splice l 0 own) 15 numbers) 47 ws) ≡ 303
   long-3 = length-splice (splice (splice l 0 own) 15 numbers) 47 ws (omega (arith, long-2)) ∙ long-2
 
   own-read : range filled 0 15 ≡ own
@@ -212,15 +212,15 @@ module _ (r : ℕ) (a : Area) (ios tables l : List ℕ) (n : (i : ℕ) → i < 1
   abbrev own : Place
   own = record { holder = r + 1; area = a; io = length ios; tables = length (tablesOf tables); kept = length (wordsKept (tablesOf tables)) }
 
-  holder-opened : holderOf l ≡ r + 1
+  pub holder-opened : holderOf l ≡ r + 1
   unfolding openedOwn
   holder-opened = n 0 (omega arith)
 
-  own-opened : ownOf l ≡ own
+  pub own-opened : ownOf l ≡ own
   unfolding ownOf openedOwn
   own-opened = rw (n 0 (omega arith), n 1 (omega arith), n 2 (omega arith), n 3 (omega arith), n 4 (omega arith), n 5 (omega arith))
 
-  stage-opened : stageIn l ≡ Label
+  pub stage-opened : stageIn l ≡ Label
   unfolding stageIn stageOf openedOwn numbersOf
   stage-opened = rw (getD-range l 6 9 0 (omega arith), n 6 (omega arith))
 
@@ -257,24 +257,24 @@ module _ (d : List ℕ) (s : sound d ≡ true) (r : ℕ) (a : Area) (ios tables 
       splice (splice (splice (splice (placeIn d place)
       0 (openedOwn r a ios tables)) 15 (numbersKept ios)) 47 (wordsKept (tablesOf tables))) 175 (ranksKept (tablesOf tables))
 
-  in-desk : place < 12
+  pub in-desk : place < 12
   in-desk = given-place (holders d) r (sound-fair d s) room given
 
   -- the place that is given was free
   pub given-free : holderIn d place ≡ 0
   given-free = sym (getD-holders d place in-desk) ∙ lowest-is-free (holders d)
 
-  own-length : length (openedOwn r a ios tables) ≡ 15
+  pub own-length : length (openedOwn r a ios tables) ≡ 15
   unfolding openedOwn numbersOf
   own-length = refl
 
-  numbers-few : length (numbersKept ios) ≤ 32
+  pub numbers-few : length (numbersKept ios) ≤ 32
   numbers-few = let o = lists-obey a ios tables obey in omega (arith, numbers-kept-length ios, o .ios-few)
 
-  words-most : length (wordsKept (tablesOf tables)) ≤ 128
+  pub words-most : length (wordsKept (tablesOf tables)) ≤ 128
   words-most = let o = lists-obey a ios tables obey in omega (arith, words-few (tablesOf tables), o .tables-few)
 
-  ranks-most : length (ranksKept (tablesOf tables)) ≤ 128
+  pub ranks-most : length (ranksKept (tablesOf tables)) ≤ 128
   ranks-most = let o = lists-obey a ios tables obey in omega (arith, ranks-length (tablesOf tables), o .tables-few)
 
   -- every other place, the map and the core length are as they were
@@ -287,8 +287,14 @@ module _ (d : List ℕ) (s : sound d ≡ true) (r : ℕ) (a : Area) (ios tables 
       (replaced-more d place _ _ 15 (numbersKept ios) in-desk (omega (arith, numbers-few))
       (rw z at (replaced-more d place _ _ 0 (openedOwn r a ios tables) in-desk (omega (arith, own-length)) (replaced-none d place (sound-long d s))))))
 
-  own-is : (i : ℕ) → i < 15 → getD numbers i 0 ≡ getD (openedOwn r a ios tables) i 0
+  pub own-is : (i : ℕ) → i < 15 → getD numbers i 0 ≡ getD (openedOwn r a ios tables) i 0
   own-is = filled-own (placeIn d place) _ _ _ _ (place-length d (sound-long d s) place in-desk) own-length numbers-few words-most ranks-most
+
+  -- the place is the room's, and every other holder is as it was
+  pub opened-holders : holders (openedDesk d place r a ios tables) ≡ set (holders d) place (r + 1)
+  opened-holders =
+      holders-replaced d place numbers _ in-desk opened-replaced
+      ∙ ap (λ (h : ℕ). set (holders d) place h) (holder-opened r a ios tables numbers own-is)
 
   -- with the area of a place that any room holds it shares no word
   beside-each : (q : ℕ) → q < 12 → areasApart (placeIn d q) numbers ≡ true

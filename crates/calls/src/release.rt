@@ -30,7 +30,7 @@ pub fn release_place(desk: &mut [u64], core: u64, room: u64, place: u64) -> Answ
 }
 
 // Whether the room holds the place; a place over 11 nobody holds.
-fn holds_place(desk: &[u64], room: u64, place: u64) -> bool
+pub fn holds_place(desk: &[u64], room: u64, place: u64) -> bool
     requires { ⌜ (length (now desk) ≡ deskWords) × (room ≤ 7) ⌝ }
     ensures { λ r. ⌜ r ≡ holds (now (desk .entry)) room place ⌝ }
 {

@@ -5,6 +5,7 @@ ghost use Rattle.layout.specs.Layout.{deskWords};
 ghost use Rattle.calls.specs.Make.{makeOf};
 ghost use Rattle.calls.specs.Open.{openOf};
 ghost use Rattle.calls.specs.Release.{releaseOf};
+ghost use Rattle.feed.specs.Feed.{feedOf};
 ghost use Rattle.clamp.specs.Told.{Told};
 use word::Absolute;
 use word::Area;
@@ -51,4 +52,18 @@ pub extern "C" fn clamp_release(desk: &mut [u64], core: u64, room: u64, place: u
     ensures { λ r. ⌜ Told (releaseOf (now (desk .entry)) core room place) r (now (desk .exit)) [] ⌝ }
 {
     answer::pack(calls::release::release_place(desk, core, room, place))
+}
+
+// A block for a load.
+#[no_mangle]
+pub extern "C" fn clamp_feed(
+    desk: &mut [u64],
+    core: &mut [u64],
+    room: u64,
+    place: u64,
+    block: &[u64],
+) -> u64
+    ensures { λ r. ⌜ Told (feedOf (now (desk .entry)) (now (core .entry)) room place (now (block .entry))) r (now (desk .exit)) (now (core .exit)) ⌝ }
+{
+    answer::pack(feed::feed_block(desk, core, room, place, block))
 }

@@ -1,0 +1,125 @@
+-- The laws of a block's step, from those of the four records. Assumes nothing.
+use Prim.Native.Nat.{ℕ, _≤_}
+use mathlib.Core.Path.{_≡_, refl}
+use mathlib.Core.Bool.{Bool, true, false, cond}
+use mathlib.Core.List.{List}
+use native.Mathlib.Omega.{arith}
+use lib.ListN.{length, getD}
+use Rattle.word.specs.Fault.{fault}
+use Rattle.word.specs.Sorts.{absoluteOf}
+use Rattle.word.specs.declared.Absolute.{Absolute}
+use Rattle.word.specs.declared.Fault.{Fault}
+use Rattle.word.proofs.Cases.{when}
+use Rattle.block.specs.Records.{ofRecord}
+use Rattle.program.specs.declared.Bank.{Bank}
+use Rattle.program.specs.Start.{startOf, inBank}
+use Rattle.stage.specs.declared.Stage.{Stage}
+use Rattle.stage.specs.declared.Stage.the-variants.{Label, Entry, Segment, SegmentGroup, Table, TableGroup, Termination, Complete, Broken}
+use Rattle.stage.specs.Ranges.{stageFits}
+use Rattle.step.specs.declared.Step.{Step}
+use Rattle.step.specs.declared.Step.the-variants.{More, Done, Refused}
+use Rattle.step.specs.Due.{recordDue}
+use Rattle.step.specs.Termination.{terminationStep}
+use Rattle.step.proofs.Fits.{label-fits, entry-fits, label-not-done, entry-not-done, label-fault, entry-fault, termination-fault, termination-not-more}
+use Rattle.sections.specs.Load.{Load}
+use Rattle.sections.specs.Program.{StepOutcome, programStep}
+use Rattle.sections.proofs.Turns.{Stands}
+use Rattle.sections.proofs.Blocks.{program-fits, program-not-done, program-faults, program-length, program-area, program-same, program-alike}
+use Rattle.feed.specs.Block.{only, dueStep, blockStep}
+use Rattle.feed.proofs.Laws.{Fit, Holds, Alike, BlockLaws}
+
+-- a record whose block is read whole stores nothing; a program block is read word by word. P speaks of the outcome as a function of the core.
+module _ (x : Load) (block : List ℕ) (P : (List ℕ → StepOutcome) → Type 0) (none : (r : Step) → P (only r)) where
+  due-cases : (s : Stage) → P (programStep x s block) → P (dueStep x s block)
+  unfolding dueStep
+  due-cases Label k = none _
+  due-cases (Entry c strict b) k = none _
+  due-cases (Segment c) k = k
+  due-cases (SegmentGroup c g) k = k
+  due-cases (Table c t i) k = k
+  due-cases (TableGroup c t i) k = k
+  due-cases (Termination i) k = none _
+  due-cases Complete k = none _
+  due-cases Broken k = none _
+
+  block-cases : (s : Stage) → P (programStep x s block) → P (blockStep x s block)
+  unfolding blockStep
+  block-cases s k = by-record (ofRecord (recordDue s) block) (due-cases s k)
+    where
+      by-record : (b : Bool) → P (dueStep x s block) → P (λ core. cond b (dueStep x s block core) (only (Refused (fault 13)) core))
+      by-record true h = h
+      by-record false h = none (Refused (fault 13))
+
+-- ---- what it leads to
+module _ (x : Load) (block core : List ℕ) where
+  -- 13 comes before the record's own rules
+  due-or-13 : (s : Stage) (P : Step → Type 0) → P (Refused (fault 13)) → P (dueStep x s block core .step) → P (blockStep x s block core .step)
+  unfolding blockStep
+  due-or-13 s P n k = by-record (ofRecord (recordDue s) block)
+    where
+      by-record : (b : Bool) → P (cond b (dueStep x s block core) (only (Refused (fault 13)) core) .step)
+      by-record true = k
+      by-record false = n
+
+  due-fits : (s t : Stage) → Fit x s → dueStep x s block core .step ≡ More t → stageFits (x .area) (x .tables) (length (x .ios)) t ≡ true
+  unfolding dueStep
+  due-fits Label t f q = label-fits (x .area) (x .tables) (x .ios) block t q
+  due-fits (Entry c strict b) t f q = entry-fits (x .area) (x .tables) (length (x .ios)) c strict b block t (f .stage) q
+  due-fits (Segment c) t f q = program-fits x block (Segment c) core t (f .stage) q
+  due-fits (SegmentGroup c g) t f q = program-fits x block (SegmentGroup c g) core t (f .stage) q
+  due-fits (Table c n i) t f q = program-fits x block (Table c n i) core t (f .stage) q
+  due-fits (TableGroup c n i) t f q = program-fits x block (TableGroup c n i) core t (f .stage) q
+  due-fits (Termination i) t f q = absurd (termination-not-more (x .area) i block t q)
+  due-fits Complete t f q = let e : Complete ≡ t = cc in rw (← e) (f .stage)
+  due-fits Broken t f q = let e : Broken ≡ t = cc in rw (← e) (f .stage)
+
+  due-faults : (s : Stage) (f : Fault) → dueStep x s block core .step ≡ Refused f → (13 ≤ f .number) × (f .number ≤ 22)
+  unfolding dueStep
+  due-faults Label f q = label-fault (x .ios) (length (x .tables)) block f q
+  due-faults (Entry c strict b) f q = entry-fault (length (x .ios)) (x .tables) c strict b block f q
+  due-faults (Segment c) f q = let k = program-faults x block (Segment c) core f q in (omega arith, omega arith)
+  due-faults (SegmentGroup c g) f q = let k = program-faults x block (SegmentGroup c g) core f q in (omega arith, omega arith)
+  due-faults (Table c n i) f q = let k = program-faults x block (Table c n i) core f q in (omega arith, omega arith)
+  due-faults (TableGroup c n i) f q = let k = program-faults x block (TableGroup c n i) core f q in (omega arith, omega arith)
+  due-faults (Termination i) f q = termination-fault (x .area) i block f q
+  due-faults Complete f q = let z : _≡_ {A = ℕ} 0 1 = cc in absurd (omega arith)
+  due-faults Broken f q = let z : _≡_ {A = ℕ} 0 1 = cc in absurd (omega arith)
+
+  termination-value : (i : Bank) (a : Absolute) → terminationStep (x .area) i block ≡ Done a → a ≡ absoluteOf (x .area) (startOf block)
+  unfolding terminationStep
+  termination-value i a =
+      when (λ (r : Step). r ≡ Done a → a ≡ absoluteOf (x .area) (startOf block)) (inBank i (startOf block)) (λ t q. cc)
+      (λ t q. let z : _≡_ {A = ℕ} 0 1 = cc in absurd (omega arith))
+
+  due-starts : (s : Stage) (a : Absolute) → dueStep x s block core .step ≡ Done a → a ≡ absoluteOf (x .area) (startOf block)
+  unfolding dueStep
+  due-starts Label a q = absurd (label-not-done (x .ios) (length (x .tables)) block a q)
+  due-starts (Entry c strict b) a q = absurd (entry-not-done (length (x .ios)) (x .tables) c strict b block a q)
+  due-starts (Segment c) a q = absurd (program-not-done x block (Segment c) core a q)
+  due-starts (SegmentGroup c g) a q = absurd (program-not-done x block (SegmentGroup c g) core a q)
+  due-starts (Table c n i) a q = absurd (program-not-done x block (Table c n i) core a q)
+  due-starts (TableGroup c n i) a q = absurd (program-not-done x block (TableGroup c n i) core a q)
+  due-starts (Termination i) a q = termination-value i a q
+  due-starts Complete a q = let z : _≡_ {A = ℕ} 0 1 = cc in absurd (omega arith)
+  due-starts Broken a q = let z : _≡_ {A = ℕ} 0 1 = cc in absurd (omega arith)
+
+standing : (x : Load) (s : Stage) (core : List ℕ) → Fit x s → Holds x core → Stands x s core
+standing x s core f h = record { inside = h; tables = f .tables; stage = f .stage }
+
+pub block-laws : BlockLaws
+block-laws = record {
+  fits = λ x s t block core f. due-or-13 x block core s (λ (r : Step). r ≡ More t → stageFits (x .area) (x .tables) (length (x .ios)) t ≡ true)
+      (λ q. let z : _≡_ {A = ℕ} 0 1 = cc in absurd (omega arith)) (due-fits x block core s t f);
+  faults = λ x s block core f. due-or-13 x block core s (λ (r : Step). r ≡ Refused f → (13 ≤ f .number) × (f .number ≤ 22))
+      (λ q. let e : fault 13 ≡ f = cc in rw (← e) (omega arith, omega arith)) (due-faults x block core s f);
+  long = λ x s block core f h. block-cases x block (λ (g : List ℕ → StepOutcome). length (g core .core) ≡ length core) (λ r. refl) s
+      (program-length x block s core (standing x s core f h));
+  beside = λ x s block core f h j b. block-cases x block (λ (g : List ℕ → StepOutcome). getD (g core .core) j 0 ≡ getD core j 0) (λ r. refl) s
+      (program-area x block j b s core (standing x s core f h));
+  same-step = λ x s block core other f h k. block-cases x block (λ (g : List ℕ → StepOutcome). g core .step ≡ g other .step) (λ r. refl) s
+      (program-same x block s core other (standing x s core f h) (standing x s other f k));
+  same-words = λ x s block core other f h k a. block-cases x block (λ (g : List ℕ → StepOutcome). Alike x (g core .core) (g other .core)) (λ r. a) s
+      (program-alike x block s core other (standing x s core f h) (standing x s other f k) a);
+  starts = λ x s block core a. due-or-13 x block core s (λ (r : Step). r ≡ Done a → a ≡ absoluteOf (x .area) (startOf block))
+      (λ q. let z : _≡_ {A = ℕ} 0 1 = cc in absurd (omega arith)) (due-starts x block core s a);
+}

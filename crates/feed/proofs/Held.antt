@@ -1,0 +1,55 @@
+-- What a sound desk says of the load at a held place: it waits for a block, in the sense that the block's step asks for. Assumes nothing.
+use Prim.Native.Nat.{ℕ, _+_, _≤_, _<_}
+use mathlib.Core.Path.{_≡_}
+use mathlib.Core.Bool.{true}
+use mathlib.Core.List.{List}
+use lib.ListN.{length}
+use Rattle.word.specs.Lists.{every}
+use Rattle.word.specs.Word.{isWord}
+use Rattle.word.proofs.Cases.{and-left}
+use Rattle.word.proofs.Lists.{length-tab}
+use Rattle.lists.specs.Kept.{numberIn, numbersIn}
+use Rattle.lists.specs.Obey.{tableInside, tablesObey}
+use Rattle.layout.specs.Layout.{coreLength, holderIn, placeIn, stageIn, iosIn}
+use Rattle.desk.specs.Sound.{sound, ownIn, HeldFacts}
+use Rattle.desk.proofs.Facts.{held-facts}
+use Rattle.sections.specs.Load.{Waits}
+use Rattle.feed.specs.Feed.{loadIn}
+use Rattle.feed.proofs.Laws.{Fit}
+
+-- as many I/O numbers as there are references
+pub length-numbers : (ws : List ℕ) (n : ℕ) → length (numbersIn ws n) ≡ n
+unfolding numbersIn
+length-numbers ws n = length-tab (numberIn ws) n
+
+module _ (d : List ℕ) (s : sound d ≡ true) (p : ℕ) (h : p < 12) (z : holderIn d p ≡ 0 → ⊥) where
+  facts : HeldFacts d p
+  facts = held-facts d s p h z
+
+  pub held-inside : loadIn (placeIn d p) .area .at .0 + loadIn (placeIn d p) .area .size ≤ coreLength d
+  unfolding loadIn
+  held-inside = facts .inside
+
+  tables-inside : every (tableInside (loadIn (placeIn d p) .area)) (loadIn (placeIn d p) .tables) ≡ true
+  unfolding loadIn tablesObey
+  tables-inside = and-left _ _ (facts .obey)
+
+  pub held-fit : Fit (loadIn (placeIn d p)) (stageIn (placeIn d p))
+  held-fit = record {
+    tables = tables-inside;
+    stage = unfold loadIn in (rw (length-numbers (iosIn (placeIn d p)) (ownIn d p .io)) (facts .stage));
+  }
+
+  -- and so does its whole block
+  pub held-waits : (block core : List ℕ) → length core ≡ coreLength d → length block ≡ 256 → every isWord block ≡ true
+      → Waits (loadIn (placeIn d p)) (stageIn (placeIn d p)) block core
+  held-waits block core e l w = record {
+    inside = rw e held-inside;
+    most = rw e (facts .core);
+    io = unfold loadIn in (rw (length-numbers (iosIn (placeIn d p)) (ownIn d p .io)) (facts .io));
+    few = unfold loadIn in (rw (facts .count) (facts .tables));
+    tables = held-fit .tables;
+    stage = held-fit .stage;
+    long = l;
+    words = w;
+  }

@@ -1,0 +1,38 @@
+-- One block, whole and with its checksum, for a load that waits for it: what it leads to, and the core as its stores left it. "13 or more: the
+-- first fault in reading order."
+use Prim.Native.Nat.{ℕ}
+use mathlib.Core.Bool.{cond}
+use mathlib.Core.List.{List}
+use lib.ListN.{length}
+use Rattle.word.specs.Fault.{fault}
+use Rattle.block.specs.Records.{ofRecord}
+use Rattle.stage.specs.declared.Stage.{Stage}
+use Rattle.stage.specs.declared.Stage.the-variants.{Label, Entry, Segment, SegmentGroup, Table, TableGroup, Termination, Complete, Broken}
+use Rattle.step.specs.declared.Step.{Step}
+use Rattle.step.specs.declared.Step.the-variants.{More, Refused}
+use Rattle.step.specs.Due.{recordDue}
+use Rattle.step.specs.Label.{labelStep}
+use Rattle.step.specs.Entries.{entryStep}
+use Rattle.step.specs.Termination.{terminationStep}
+use Rattle.sections.specs.Load.{Load}
+use Rattle.sections.specs.Program.{StepOutcome, programStep}
+
+-- a block that stores nothing
+abbrev pub only : Step → List ℕ → StepOutcome
+only s core = record { step = s; core = core }
+
+-- a block of the record that is due; no block is due for a load that is over (10)
+unfoldable pub dueStep : Load → Stage → List ℕ → List ℕ → StepOutcome
+dueStep x Label block core = only (labelStep (x .ios) (length (x .tables)) block) core
+dueStep x (Entry c strict b) block core = only (entryStep (length (x .ios)) (x .tables) c strict b block) core
+dueStep x (Segment c) block core = programStep x (Segment c) block core
+dueStep x (SegmentGroup c g) block core = programStep x (SegmentGroup c g) block core
+dueStep x (Table c t i) block core = programStep x (Table c t i) block core
+dueStep x (TableGroup c t i) block core = programStep x (TableGroup c t i) block core
+dueStep x (Termination i) block core = only (terminationStep (x .area) i block) core
+dueStep x Complete block core = only (More Complete) core
+dueStep x Broken block core = only (More Broken) core
+
+-- "block of the wrong record" is 13
+unfoldable pub blockStep : Load → Stage → List ℕ → List ℕ → StepOutcome
+blockStep x s block core = cond (ofRecord (recordDue s) block) (dueStep x s block core) (only (Refused (fault 13)) core)

@@ -1,0 +1,79 @@
+-- "Feed takes room, place and one block." Refusals 1, 2, 4, 9, 10, 11 and 12 in that order, which change nothing; then 13 to 22, which "set the
+-- whole area to zero and mark the load broken". "An accepted block answers *more*, and the termination block answers *done* with the
+-- absolute start."
+use Prim.Native.Nat.{ℕ, _+_}
+use mathlib.Core.Bool.{cond}
+use mathlib.Core.List.{List}
+use lib.ListN.{length}
+use lib.Dec.{eqb, leb}
+use Rattle.word.specs.Lists.{splice, cleared}
+use Rattle.word.specs.declared.Area.{Area}
+use Rattle.block.specs.declared.Verdict.{Verdict}
+use Rattle.block.specs.declared.Verdict.the-variants.{Pass, Refused as refused-block}
+use Rattle.block.specs.Block.{verdict}
+use Rattle.stage.specs.declared.Stage.{Stage}
+use Rattle.stage.specs.declared.Stage.the-variants.{Complete, Broken}
+use Rattle.stage.specs.Stage.{numbersOf}
+use Rattle.step.specs.declared.Step.{Step}
+use Rattle.step.specs.declared.Step.the-variants.{More as step-more, Done as step-done, Refused as step-refused}
+use Rattle.step.specs.Due.{recordDue, isOver}
+use Rattle.sections.specs.Load.{Load, loadOf}
+use Rattle.layout.specs.declared.Place.{Place}
+use Rattle.layout.specs.Layout.{coreLength, base, placeIn, ownOf, stageIn, iosIn, wordsIn, ranksIn}
+use Rattle.desk.specs.Sound.{sound}
+use Rattle.answer.specs.declared.Answer.the-variants.{Refused, More, Done}
+use Rattle.calls.specs.Outcome.{Outcome, refused}
+use Rattle.calls.specs.Release.{holds}
+use Rattle.feed.specs.Block.{blockStep}
+
+-- what the load at a place was given, from the place's numbers
+abbrev pub loadBy : Place → List ℕ → Load
+loadBy o l = loadOf (o .area) (o .io) (wordsIn l (o .kept)) (ranksIn l (o .tables)) (iosIn l)
+
+unfoldable pub loadIn : List ℕ → Load
+loadIn l = loadBy (ownOf l) l
+
+-- place p waits for s
+unfoldable pub staged : List ℕ → ℕ → Stage → List ℕ
+staged d p s = splice d (base p + 6) (numbersOf s)
+
+-- the area's words, all zero
+abbrev pub wiped : Area → List ℕ → List ℕ
+wiped area core = cleared core (area .at .0) (area .size)
+
+-- what the load at place p is left with: d and core as they were, `after` the core as the block's stores left it
+unfoldable pub settledOf : List ℕ → List ℕ → ℕ → Area → Step → List ℕ → Outcome
+settledOf d core p area (step-more s) after = record { answer = More; desk = staged d p s; core = after }
+settledOf d core p area (step-done a) after = record { answer = Done a; desk = staged d p Complete; core = after }
+settledOf d core p area (step-refused f) after = record { answer = Refused f; desk = staged d p Broken; core = wiped area core }
+
+-- from refusal 13 on
+unfoldable pub takenOf : List ℕ → List ℕ → ℕ → List ℕ → Outcome
+takenOf d core p block =
+    settledOf d core p (loadIn (placeIn d p) .area)
+    (blockStep (loadIn (placeIn d p)) (stageIn (placeIn d p)) block core .step)
+    (blockStep (loadIn (placeIn d p)) (stageIn (placeIn d p)) block core .core)
+
+-- 11 and 12: the checksum word is where the record that is due has it
+unfoldable pub checkedOf : List ℕ → List ℕ → ℕ → List ℕ → Verdict → Outcome
+checkedOf d core p block Pass = takenOf d core p block
+checkedOf d core p block (refused-block f) = record { answer = Refused f; desk = d; core = core }
+
+-- from refusal 10 on
+unfoldable pub heldOf : List ℕ → List ℕ → ℕ → List ℕ → Outcome
+heldOf d core p block =
+    cond (isOver (stageIn (placeIn d p)))
+    (refused 10 d core)
+    (checkedOf d core p block (verdict (recordDue (stageIn (placeIn d p))) block))
+
+unfoldable pub feedOf : List ℕ → List ℕ → ℕ → ℕ → List ℕ → Outcome
+feedOf d core r p block =
+    cond (sound d)
+    (cond (eqb (length core) (coreLength d))
+    (cond (leb r 7)
+    (cond (holds d r p)
+    (heldOf d core p block)
+    (refused 9 d core))
+    (refused 4 d core))
+    (refused 2 d core))
+    (refused 1 d core)

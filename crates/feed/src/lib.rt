@@ -1,0 +1,189 @@
+// Feed: one block for a load, with its refusals in 01's order. Refusals 1, 2, 4 and 9 to 12 change nothing; 13 to 22 set the load's
+// area to zero and break the load.
+ghost use mathlib.Core.Path.{_≡_};
+ghost use mathlib.Core.Bool.{true};
+ghost use Prim.Native.Nat.{_+_, _≤_, _<_};
+ghost use lib.ListN.{length};
+ghost use Rattle.layout.specs.Layout.{deskWords, coreLength, holderIn, placeIn, ownOf, stageIn};
+ghost use Rattle.desk.specs.Sound.{sound};
+ghost use Rattle.calls.specs.Outcome.{Meets};
+ghost use Rattle.word.specs.Lists.{every};
+ghost use Rattle.word.specs.Word.{isWord};
+ghost use Rattle.sections.specs.Load.{loadOf, Waits};
+ghost use Rattle.sections.specs.Program.{StepMeets};
+ghost use Rattle.feed.specs.Block.{dueStep, blockStep};
+ghost use Rattle.feed.specs.Feed.{loadIn, staged, settledOf, takenOf, heldOf, feedOf};
+use answer::Answer;
+use block::Verdict;
+use stage::Stage;
+use step::Step;
+use word::Area;
+use word::Fault;
+
+// A block for the load that the room has at the place.
+pub fn feed_block(
+    desk: &mut [u64],
+    core: &mut [u64],
+    room: u64,
+    place: u64,
+    block: &[u64],
+) -> Answer
+    ensures { λ a. ⌜ Meets (feedOf (now (desk .entry)) (now (core .entry)) room place (now (block .entry))) a (now (desk .exit)) (now (core .exit)) ⌝ }
+{
+    if !desk::is_sound(desk) {
+        return Answer::Refused(Fault { number: 1 });
+    }
+    if core.len() as u64 != desk[0] {
+        return Answer::Refused(Fault { number: 2 });
+    }
+    if 7 < room {
+        return Answer::Refused(Fault { number: 4 });
+    }
+    if !calls::release::holds_place(desk, room, place) {
+        return Answer::Refused(Fault { number: 9 });
+    }
+    feed_held(desk, core, place as usize, block)
+}
+
+// From refusal 10 on: place p is held.
+fn feed_held(desk: &mut [u64], core: &mut [u64], p: usize, block: &[u64]) -> Answer
+    requires { ⌜ (sound (now desk) ≡ true) × (length (now core) ≡ coreLength (now desk)) × (p < 12) × (1 ≤ holderIn (now desk) p) ⌝ }
+    ensures { λ a. ⌜ Meets (heldOf (now (desk .entry)) (now (core .entry)) p (now (block .entry))) a (now (desk .exit)) (now (core .exit)) ⌝ }
+{
+    let s = layout::stage_of(layout::place_at(desk, p));
+    if step::is_over(s) {
+        return Answer::Refused(Fault { number: 10 });
+    }
+    match block::check_block(block, step::record_due(s)) {
+        Verdict::Pass => take_block(desk, core, p, block),
+        Verdict::Refused(f) => Answer::Refused(f),
+    }
+}
+
+// A block that is whole and has its checksum.
+fn take_block(desk: &mut [u64], core: &mut [u64], p: usize, block: &[u64]) -> Answer
+    requires { ⌜ (sound (now desk) ≡ true) × (length (now core) ≡ coreLength (now desk)) × (p < 12) × (1 ≤ holderIn (now desk) p) × (length (now block) ≡ 256) × (every isWord (now block) ≡ true) ⌝ }
+    ensures { λ a. ⌜ Meets (takenOf (now (desk .entry)) (now (core .entry)) p (now (block .entry))) a (now (desk .exit)) (now (core .exit)) ⌝ }
+{
+    let r = load_step(layout::place_at(desk, p), block, core);
+    let area = layout::own_of(layout::place_at(desk, p)).area;
+    settle(desk, core, p, area, r)
+}
+
+// What the block leads to for the load at a place.
+fn load_step(place: &[u64], block: &[u64], core: &mut [u64]) -> Step
+    requires { ⌜ (length (now place) ≡ 303) × (ownOf (now place) .kept ≤ 128) × (ownOf (now place) .tables ≤ 128) × (Waits (loadIn (now place)) (stageIn (now place)) (now block) (now core)) ⌝ }
+    ensures { λ r. ⌜ StepMeets (blockStep (loadIn (now (place .entry))) (stageIn (now (place .entry))) (now (block .entry)) (now (core .entry))) r (now (core .exit)) ⌝ }
+{
+    let o = layout::own_of(place);
+    let s = layout::stage_of(place);
+    if !block::of_record(block, step::record_due(s)) {
+        return Step::Refused(Fault { number: 13 });
+    }
+    let words = layout::words_of(place, o.kept as usize);
+    let ranks = layout::ranks_of(place, o.tables as usize);
+    due_step(
+        o.area,
+        o.io,
+        words,
+        ranks,
+        layout::ios_of(place),
+        s,
+        block,
+        core,
+    )
+}
+
+// A block of the record that is due.
+fn due_step(
+    area: Area,
+    io: u64,
+    words: &[u64],
+    ranks: &[u64],
+    ios: &[u64],
+    s: Stage,
+    block: &[u64],
+    core: &mut [u64],
+) -> Step
+    requires { ⌜ Waits (loadOf area io (now words) (now ranks) (now ios)) s (now block) (now core) ⌝ }
+    ensures { λ r. ⌜ StepMeets (dueStep (loadOf area io (now (words .entry)) (now (ranks .entry)) (now (ios .entry))) s (now (block .entry)) (now (core .entry))) r (now (core .exit)) ⌝ }
+{
+    match s {
+        Stage::Label => step::label_step(ios, io, ranks.len() as u64, block),
+        Stage::Entry(c, strict, b) => step::entry_step(area, words, ranks, io, c, strict, b, block),
+        Stage::Termination(i) => step::termination_step(area, i, block),
+        Stage::Segment(_) => sections::items::program_step(
+            area,
+            io,
+            words,
+            ranks,
+            ios,
+            s,
+            block,
+            core,
+        ),
+        Stage::SegmentGroup(_, _) => sections::items::program_step(
+            area,
+            io,
+            words,
+            ranks,
+            ios,
+            s,
+            block,
+            core,
+        ),
+        Stage::Table(_, _, _) => sections::items::program_step(
+            area,
+            io,
+            words,
+            ranks,
+            ios,
+            s,
+            block,
+            core,
+        ),
+        Stage::TableGroup(_, _, _) => sections::items::program_step(
+            area,
+            io,
+            words,
+            ranks,
+            ios,
+            s,
+            block,
+            core,
+        ),
+        Stage::Complete => Step::More(Stage::Complete),
+        Stage::Broken => Step::More(Stage::Broken),
+    }
+}
+
+// The answer, and what the load at place p is left with.
+fn settle(desk: &mut [u64], core: &mut [u64], p: usize, area: Area, r: Step) -> Answer
+    requires { ⌜ (length (now desk) ≡ deskWords) × (p < 12) × (area .at .0 + area .size ≤ length (now core)) ⌝ }
+    ensures { λ a. ⌜ Meets (settledOf (now (desk .entry)) (now (core .entry)) p area r (now (core .entry))) a (now (desk .exit)) (now (core .exit)) ⌝ }
+{
+    match r {
+        Step::More(s) => {
+            write_stage(desk, p, s);
+            Answer::More
+        }
+        Step::Done(a) => {
+            write_stage(desk, p, Stage::Complete);
+            Answer::Done(a)
+        }
+        Step::Refused(f) => {
+            write_stage(desk, p, Stage::Broken);
+            slices::clear(core, area.at.0 as usize, area.size as usize);
+            Answer::Refused(f)
+        }
+    }
+}
+
+// Place p waits for s.
+fn write_stage(desk: &mut [u64], p: usize, s: Stage)
+    requires { ⌜ (length (now desk) ≡ deskWords) × (p < 12) ⌝ }
+    ensures { λ _. ⌜ now (desk .exit) ≡ staged (now (desk .entry)) p s ⌝ }
+{
+    let n = stage::stage_numbers(s);
+    slices::copy_in(desk, 17 + p * 303 + 6, &n);
+}
