@@ -1,0 +1,28 @@
+-- `load_printer::lines::end_text` meets its contract: each return by the tests that led to it. Assumes nothing.
+use mathlib.Core.Path.{refl}
+use Rattle.word.proofs.Tests.{tests}
+use Rattle.load_printer.specs.Lines.{isWhole, ended}
+use borrow.Author.Needs.{needs}
+use Rattle.load_printer.proofs.lines.end_text.Statement.{statement}
+use Rattle.load_printer.proofs.lines.end_text.Tie as tie
+
+returns : tie.Need-returns
+unfolding isWhole ended
+returns c = rw (c .if1 .taken) (refl, refl)
+
+slice-write-text : tie.Need-slice-write-text
+slice-write-text c = search needs
+
+same-length : tie.Need-same-length
+same-length c = search needs
+
+returns-2 : tie.Need-returns-2
+unfolding isWhole ended
+returns-2 c = rw (c .if2 .taken) (refl, refl)
+
+returns-3 : tie.Need-returns-3
+unfolding isWhole ended
+returns-3 c = search tests
+
+pub end-text-spec : {M : Type 1} → statement M
+end-text-spec = tie.close (tie.spec returns slice-write-text same-length returns-2 returns-3)
