@@ -1,0 +1,139 @@
+/* file.c: a whole file: its parts by turns, with the records that are short, and the faults of whole blocks. */
+
+#include <stddef.h>
+#include <stdlib.h>
+#include <string.h>
+
+#include "writer.h"
+
+/* ---- modification blocks */
+
+/* What the third word of a core entry tells as the least length. */
+static uint64_t least_length(struct writer *writer, uint64_t length) {
+  struct chance *chance = writer->chance;
+  if (length < 65535 && fires_sometime(writer, LENGTH_SHORT))
+    return one_in(chance, 2) ? length + 1 : between(chance, length + 1, 65535);
+  if (length > 0 && fires_sometime(writer, LENGTH_STRICT))
+    return one_in(chance, 2) ? length - 1 : below(chance, length);
+  if (writer->file->no_longer_tables || one_in(chance, 3))
+    return smaller(length, 65535);
+  return below(chance, smaller(length, 65535) + 1);
+}
+
+/* One word of an entry, in this block or the next. */
+static void write_entry_word(struct writer *writer, uint64_t word) {
+  if (writer->at > 254) {
+    end_block(writer);
+    begin_block(writer, "*MODRC");
+  }
+  write_word(writer, word);
+}
+
+void write_entries(struct writer *writer) {
+  const struct file *file = writer->file;
+  if (file->io_count + file->table_count == 0)
+    return;
+  begin_block(writer, "*MODRC");
+  for (uint64_t i = 0; i < 2 * file->io_count; i++)
+    write_entry_word(writer, any_word(writer->chance));
+  for (uint64_t table = 0; table < file->table_count; table++) {
+    write_entry_word(writer, any_word(writer->chance));
+    write_entry_word(writer, any_word(writer->chance));
+    write_entry_word(writer, any_word(writer->chance)); /* the third word; a fault is marked in the block that it stands in */
+    uint64_t *third = &block_of(writer)[writer->at - 1];
+    *third = put(*third, 15, 0, least_length(writer, file->tables[table].length));
+  }
+  end_block(writer);
+}
+
+/* ---- the termination block */
+
+void write_termination(struct writer *writer) {
+  struct chance *chance = writer->chance;
+  struct file *file = writer->file;
+  uint64_t start = file->ibank.start + (one_in(chance, 3) ? file->ibank.length - 1 : below(chance, file->ibank.length));
+  uint64_t past = file->ibank.start + file->ibank.length;
+  begin_block(writer, "*TRMRC");
+  file->termination = file->count - 1;
+  file->start = file->area.start + start;
+  if (past <= 65535 && one_in(chance, 2) && fires(writer, START_AWAY))
+    start = one_in(chance, 2) ? past : between(chance, past, 65535);
+  else if (file->ibank.start > 0 && fires(writer, START_AWAY))
+    start = one_in(chance, 2) ? file->ibank.start - 1 : below(chance, file->ibank.start);
+  write_word(writer, put(any_word(chance), 15, 0, start));
+  end_block(writer);
+}
+
+/* ---- faults of whole blocks, once a file is written */
+
+static uint64_t other_identifier(struct chance *chance, uint64_t identifier) {
+  static const char *const records[3] = {"*MODRC", "*PRORC", "*TRMRC"};
+  uint64_t other;
+  do
+    other = one_in(chance, 2)   ? fieldata(records[below(chance, 3)])
+            : one_in(chance, 4) ? 0
+                                : identifier ^ (uint64_t)1 << below(chance, 36);
+  while (other == identifier);
+  return other;
+}
+
+static void turn_bits(struct chance *chance, uint64_t *block) {
+  uint64_t most = one_in(chance, 2) ? 8 : 256;
+  for (uint64_t times = between(chance, 1, 3); times > 0; times--) {
+    uint64_t *word = &block[below(chance, most)];
+    *word ^= (uint64_t)1 << below(chance, 36);
+  }
+}
+
+static void block_faults(struct chance *chance, struct file *file) {
+  unsigned later = (unsigned)between(chance, 1, file->count - 1), one = (unsigned)below(chance, file->count);
+  if (file->wanted == RECORD) {
+    file->blocks[later][0] = other_identifier(chance, file->blocks[later][0]);
+    seal(file->blocks[later], false);
+    mark(file, later);
+  } else if (file->wanted == WILD_BITS) {
+    turn_bits(chance, file->blocks[one]);
+    seal(file->blocks[one], one == 0);
+    mark(file, one);
+  } else if (file->wanted == BLOCK_SKIPPED) {
+    memmove(file->blocks[one], file->blocks[one + 1], (file->count - one - 1) * sizeof file->blocks[0]);
+    file->count--;
+    mark(file, one);
+  } else if (file->wanted == BLOCK_TWICE && file->count < BLOCKS_MOST) {
+    memmove(file->blocks[one + 1], file->blocks[one], (file->count - one) * sizeof file->blocks[0]);
+    file->count++;
+    mark(file, one + 1);
+  }
+}
+
+/* ---- files */
+
+struct file *file_make(struct chance *chance, struct run area, enum fault wanted) {
+  static const unsigned earlies[4] = {0, 40, 8, 3}, rares[3] = {1, 4, 30};
+  struct file *file = malloc(sizeof *file);
+  struct writer writer = {.chance = chance, .file = file};
+  if (file == NULL)
+    abort();
+  memset(file, 0, offsetof(struct file, blocks));
+  file->area = area;
+  file->wanted = wanted;
+  file->image = calloc(area.length, sizeof *file->image);
+  if (file->image == NULL)
+    abort();
+  writer.early = earlies[below(chance, 4)];
+  writer.rare = rares[below(chance, 3)];
+  lay_out(chance, file);
+  write_label(&writer);
+  write_entries(&writer);
+  write_program(&writer);
+  write_termination(&writer);
+  block_faults(chance, file);
+  return file;
+}
+
+void file_drop(struct file *file) {
+  if (file == NULL)
+    return;
+  free(file->image);
+  free(file);
+}

@@ -1,0 +1,317 @@
+/* program.c: the program blocks, right or with one fault: the words that head sections, then groups. */
+
+#include "fields.h"
+#include "writer.h"
+
+/* ---- program blocks: the words that head sections */
+
+/* Where an identifier is due: closes the block early by chance, and always where so many words do not fit. */
+static void make_room(struct writer *writer, unsigned words) {
+  while (writer->at + words > 255 || (writer->early != 0 && one_in(writer->chance, writer->early))) {
+    if (writer->at <= 254)
+      write_word(writer, 0);
+    end_block(writer);
+    begin_block(writer, "*PRORC");
+    if (writer->file->count > BLOCKS_MOST / 2)
+      writer->early = 0;
+  }
+}
+
+static uint64_t bank_word(struct run bank) {
+  return bank.length << 18 | bank.start;
+}
+
+/* A run of at least one word in this one. */
+static struct run some_of(struct chance *chance, struct run run) {
+  uint64_t from = below(chance, run.length);
+  return (struct run){run.start + from, between(chance, 1, run.length - from)};
+}
+
+/* A wrong layout of the banks: of each, where and how long. */
+static void bank_faults(struct writer *writer, struct run *ibank, struct run *dbank) {
+  struct chance *chance = writer->chance;
+  struct file *file = writer->file;
+  uint64_t size = file->area.length, table = file->table_count == 0 ? 0 : below(chance, file->table_count);
+  struct run *bank = one_in(chance, 2) ? ibank : dbank;
+  if (fires(writer, IBANK_EMPTY))
+    *ibank = (struct run){between(chance, 1, smaller(size, 65535)), 0};
+  if (size - bank->start < 65535 && fires(writer, BANK_LONG))
+    bank->length = size - bank->start + 1;
+  if (size < 65535 && fires(writer, BANK_AWAY))
+    bank->start = one_in(chance, 2) ? size + (bank == dbank && bank->length == 0) : between(chance, size + 1, 65535);
+  if (fires(writer, BANKS_SHARE))
+    *dbank = some_of(chance, *ibank);
+  if (file->table_count != 0 && file->tables[table].length != 0 && fires(writer, BANK_ON_TABLE)) {
+    *bank = some_of(chance, file->tables[table]);
+    bank->start -= file->area.start;
+    *bank = as_bank(*bank);
+  }
+  if (wants(writer, WHOLE_TABLE))
+    mark(file, file->count - 1);
+}
+
+static void write_segment(struct writer *writer) {
+  static const unsigned zero_bits[4] = {35, 34, 17, 16};
+  struct chance *chance = writer->chance;
+  struct run ibank = writer->file->ibank, dbank = writer->file->dbank;
+  make_room(writer, 4);
+  bank_faults(writer, &ibank, &dbank);
+  write_word(writer, bank_word(ibank));
+  write_word(writer, bank_word(dbank));
+  if (fires(writer, BANK_BITS)) {
+    uint64_t which = between(chance, writer->at - 2, writer->at - 1);
+    block_of(writer)[which] |= (uint64_t)1 << zero_bits[below(chance, 4)];
+  }
+  write_word(writer, one_in(chance, 3) ? 0 : any_word(chance));
+  write_word(writer, one_in(chance, 3) ? 0 : any_word(chance));
+}
+
+/* A wrong count or number of a table section; `before` is the table of the section before it, or -1. */
+static void section_faults(struct writer *writer, int before, uint64_t *count, uint64_t *table) {
+  struct chance *chance = writer->chance;
+  const struct file *file = writer->file;
+  uint64_t next = between(chance, (uint64_t)(before + 1), file->table_count - 1); /* any that may come next, an empty one too */
+  uint64_t past = file->tables[next].length + 1;
+  if (fires_sometime(writer, SECTION_EMPTY))
+    *count = 0;
+  if (past <= 65535 && fires_sometime(writer, SECTION_LONG)) {
+    *table = next;
+    *count = one_in(chance, 2) ? past : between(chance, past, 65535);
+  }
+  if (fires_sometime(writer, SECTION_NUMBER))
+    *table = one_in(chance, 3) ? file->table_count : one_in(chance, 2) ? *table | 128 : between(chance, file->table_count, 255);
+  if (before >= 0 && fires_sometime(writer, SECTION_ORDER)) {
+    do
+      *table = below(chance, (uint64_t)before + 1);
+    while (file->tables[*table].length == 0);
+    *count = 1;
+  }
+}
+
+static void write_table_section(struct writer *writer, int before, uint64_t table, uint64_t count) {
+  static const uint64_t others[3] = {0, 2, 3};
+  struct chance *chance = writer->chance;
+  uint64_t kind = 1, bits = 0;
+  make_room(writer, 1);
+  section_faults(writer, before, &count, &table);
+  if (fires_sometime(writer, SECTION_KIND))
+    kind = others[below(chance, 3)];
+  if (fires_sometime(writer, SECTION_BITS))
+    bits = (uint64_t)1 << between(chance, 8, 17);
+  write_word(writer, kind << 34 | count << 18 | bits | table);
+}
+
+/* ---- program blocks: groups */
+
+/* Where the groups of a section go: the relative addresses, whether that is in a table, what the group's bit 16 is, and the word of
+   the area that relative address 0 is. */
+struct home {
+  struct run run;
+  bool in_table, bit_16;
+  uint64_t zero;
+};
+
+/* A group while it is put together. */
+struct group {
+  uint64_t program[254], becomes[254];
+  uint64_t indicators[254]; /* the first is to be the group's last word */
+  unsigned words, bits;
+  unsigned density; /* a half is changed so many times in four */
+  bool wild;
+};
+
+static void add_bits(struct writer *writer, struct group *group, uint64_t value, unsigned count) {
+  while (count-- > 0) {
+    unsigned low = 35 - group->bits % 36;
+    uint64_t *word = &group->indicators[group->bits / 36];
+    if (low == 35)
+      *word = any_word(writer->chance); /* its spare bits by chance */
+    *word = put(*word, low, low, value >> count);
+    group->bits++;
+  }
+}
+
+static bool is_field_fault(enum fault fault) {
+  return TYPE_NOT_CARRIED <= fault && fault <= LONG_OVER;
+}
+
+/* What this half is to be. False: it is not changed. */
+static bool choose_change(struct writer *writer, const struct group *group, bool left, struct change *change) {
+  struct chance *chance = writer->chance;
+  struct file *file = writer->file;
+  if (is_field_fault(file->wanted) && !file->faulty && one_in(chance, writer->rare) && faulty_change(chance, file, left, change)) {
+    mark(file, file->count - 1);
+    return true;
+  }
+  if (group->wild) {
+    wild_change(chance, change);
+    return one_in(chance, 2);
+  }
+  return below(chance, 4) < group->density && right_change(chance, file, left, change);
+}
+
+/* A half's indicator and field, and what becomes of the field. */
+static void add_half(struct writer *writer, struct group *group, bool left) {
+  struct change change;
+  unsigned low = left ? 18 : 0, at = group->words;
+  bool changed = choose_change(writer, group, left, &change);
+  add_bits(writer, group, changed, 1);
+  if (!changed)
+    return;
+  add_bits(writer, group, change.type, 3);
+  if (change_length(&change) == 13)
+    add_bits(writer, group, change.nine, 9);
+  group->program[at] = put(group->program[at], low + 15, low, change.field);
+  group->becomes[at] = put(group->becomes[at], low + 15, low, change.becomes);
+}
+
+/* Adds program words while another one, with two of the longest indicators, is sure to fit. */
+static void fill_group(struct writer *writer, struct group *group, unsigned most, unsigned space) {
+  while (group->words < most && group->words + 1 + (group->bits + 26 + 35) / 36 <= space) {
+    group->program[group->words] = group->becomes[group->words] = one_in(writer->chance, 10) ? 0 : any_word(writer->chance);
+    add_half(writer, group, true);
+    add_half(writer, group, false);
+    group->words++;
+  }
+}
+
+/* A wrong bank or relative address for a group. */
+static void home_faults(struct writer *writer, const struct home *home, uint64_t program_words, bool *bit_16, uint64_t *relative) {
+  struct chance *chance = writer->chance;
+  const struct file *file = writer->file;
+  uint64_t past = home->run.start + home->run.length - program_words + 1;
+  bool before = home->run.start > 0 && one_in(chance, 2);
+  if (before && fires_sometime(writer, GROUP_AWAY))
+    *relative = one_in(chance, 2) ? home->run.start - 1 : below(chance, home->run.start);
+  else if (past <= 65535 && fires_sometime(writer, GROUP_AWAY))
+    *relative = one_in(chance, 2) ? past : between(chance, past, 65535);
+  if (fires_sometime(writer, GROUP_BIT_16))
+    *bit_16 = !*bit_16;
+  if (!home->in_table && file->dbank.length == 0 && fires_sometime(writer, GROUP_EMPTY_DBANK)) {
+    *bit_16 = true;
+    *relative = one_in(chance, 2) ? file->dbank.start : *relative;
+  }
+}
+
+/* The identifier of a group, wrong in one place if that is wanted. `words` follow it, and `space` could in this block. */
+static uint64_t group_word(struct writer *writer, const struct home *home, uint64_t words, uint64_t program_words,
+                           uint64_t relative, bool last, uint64_t space) {
+  static const uint64_t others[3] = {0, 1, 3};
+  struct chance *chance = writer->chance;
+  bool bit_16 = home->bit_16;
+  uint64_t kind = 2;
+  home_faults(writer, home, program_words, &bit_16, &relative);
+  if (fires_sometime(writer, GROUP_KIND))
+    kind = others[below(chance, 3)];
+  if (fires_sometime(writer, GROUP_PAST_254))
+    words = one_in(chance, 2) ? space + 1 : between(chance, space + 1, 255);
+  if (fires_sometime(writer, GROUP_FEW_WORDS))
+    words = one_in(chance, 2) ? program_words - 1 : below(chance, program_words);
+  if (fires_sometime(writer, GROUP_NO_WORDS)) {
+    program_words = 0;
+    words = one_in(chance, 2) ? 0 : words;
+  }
+  return kind << 34 | words << 26 | program_words << 18 | (uint64_t)last << 17 | (uint64_t)bit_16 << 16 | relative;
+}
+
+/* Writes the group: identifier, program words, so many words more than are needed, indicator words from the last but `fewer` to the
+   first. */
+static void lay_down(struct writer *writer, const struct group *group, uint64_t identifier, unsigned more, unsigned fewer) {
+  write_word(writer, identifier);
+  for (unsigned i = 0; i < group->words; i++)
+    write_word(writer, group->program[i]);
+  for (unsigned i = 0; i < more; i++)
+    write_word(writer, one_in(writer->chance, 2) ? 0 : any_word(writer->chance));
+  for (unsigned i = (group->bits + 35) / 36 - fewer; i > 0; i--)
+    write_word(writer, group->indicators[i - 1]);
+}
+
+/* How many program words a group is to have at most. */
+static unsigned group_most(const struct writer *writer, uint64_t length) {
+  struct chance *chance = writer->chance;
+  if (writer->file->count > BLOCKS_MOST / 2)
+    return 1;
+  return (unsigned)smaller(length, one_in(chance, 4) ? 254 : between(chance, 1, one_in(chance, 3) ? 60 : 5));
+}
+
+/* The identifier of a group at the start of its home with one indicator word. */
+static void write_plain_group(struct writer *writer, const struct home *home, uint64_t program_words) {
+  write_word(writer,
+             (uint64_t)2 << 34 | (program_words + 1) << 26 | program_words << 18 | (uint64_t)home->bit_16 << 16 | home->run.start);
+}
+
+/* A group that would be right, did its only indicator word not stand in word 255: the upper bits of a checksum word are zeros, and
+   say "no change" for up to 8 words. Groups of one word lead up to it. */
+static bool write_past_254(struct writer *writer, const struct home *home) {
+  if (home->run.length < 8 || !wants(writer, GROUP_PAST_254) || one_in(writer->chance, 2))
+    return false;
+  make_room(writer, 3);
+  fires(writer, GROUP_PAST_254);
+  while (writer->at < 246) {
+    write_plain_group(writer, home, 1);
+    write_word(writer, any_word(writer->chance));
+    write_word(writer, any_word(writer->chance) >> 2);
+  }
+  write_plain_group(writer, home, 254 - writer->at);
+  writer->at = 255;
+  return true;
+}
+
+static void write_group(struct writer *writer, const struct home *home, bool last) {
+  struct chance *chance = writer->chance;
+  struct group group;
+  unsigned more, fewer, most, space;
+  if (write_past_254(writer, home))
+    return;
+  make_room(writer, wants(writer, INDICATORS_MORE) ? 4 : 3);
+  space = 254 - writer->at;
+  more = fires_sometime(writer, INDICATORS_MORE);
+  fewer = fires_sometime(writer, INDICATORS_FEWER);
+  most = group_most(writer, home->run.length);
+  group.words = group.bits = 0;
+  group.density = (unsigned)below(chance, 5);
+  if (fewer) { /* long, with many indicators: so that the words end in the middle of one */
+    most = (unsigned)smaller(home->run.length, 40);
+    group.density = 4;
+  }
+  if (more && home->run.length >= 18 && one_in(chance, 2)) { /* just 36 bits: so that the words end where they do */
+    most = 18;
+    group.density = 0;
+  }
+  uint64_t relative = home->run.start + below(chance, home->run.length - most + 1);
+  group.wild = fires_sometime(writer, WILD_FIELDS) || (more + fewer > 0 && group.density != 0 && one_in(chance, 2)); /* 18 first */
+  fill_group(writer, &group, most, space - more);
+  uint64_t words = group.words + (group.bits + 35) / 36 + more - fewer;
+  lay_down(writer, &group, group_word(writer, home, words, group.words, relative, last, space), more, fewer);
+  for (unsigned i = 0; i < group.words; i++)
+    writer->file->image[home->zero + relative + i] = group.becomes[i];
+}
+
+/* The groups of one section, which go to one of two homes; the second may be empty. */
+static void write_groups(struct writer *writer, const struct home *first, const struct home *second) {
+  struct chance *chance = writer->chance;
+  uint64_t groups = one_in(chance, 12) ? between(chance, 1, 60) : between(chance, 1, 4);
+  for (uint64_t i = 0; i < groups; i++) {
+    bool last = i + 1 == groups || writer->file->count > BLOCKS_MOST / 2;
+    write_group(writer, second->run.length > 0 && one_in(chance, 2) ? second : first, last);
+    if (last)
+      return;
+  }
+}
+
+void write_program(struct writer *writer) {
+  const unsigned *chosen = writer->file->section_tables;
+  struct file *file = writer->file;
+  const struct home ibank = {file->ibank, false, false, 0}, dbank = {file->dbank, false, true, 0}, none = {{0, 0}, true, true, 0};
+  begin_block(writer, "*PRORC");
+  write_segment(writer);
+  write_groups(writer, &ibank, &dbank);
+  for (unsigned i = 0; i < file->sections; i++) {
+    struct run table = file->tables[chosen[i]];
+    uint64_t count = one_in(writer->chance, 2) ? table.length : between(writer->chance, 1, table.length);
+    const struct home home = {{0, count}, true, true, table.start - file->area.start};
+    write_table_section(writer, i == 0 ? -1 : (int)chosen[i - 1], chosen[i], count);
+    write_groups(writer, &home, &none);
+  }
+  end_block(writer);
+}

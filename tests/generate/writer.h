@@ -1,0 +1,54 @@
+/* writer.h: what the parts of the generator share. A writer puts a file together word by word. */
+
+#ifndef WRITER_H
+#define WRITER_H
+
+#include "generate.h"
+
+struct writer {
+  struct chance *chance;
+  struct file *file;
+  unsigned at;    /* the next word of the block that is written */
+  unsigned early; /* a block is closed early once in so many times; 0: never */
+  unsigned rare;  /* a fault that could be in many places is put in once in so many times */
+};
+
+/* A count up to most: mostly a few, now and then none, one, all but one or all. */
+uint64_t few(struct chance *chance, uint64_t most);
+uint64_t smaller(uint64_t one, uint64_t other);
+
+/* The word with bits high to low replaced by the value. */
+uint64_t put(uint64_t word, unsigned high, unsigned low, uint64_t value);
+
+/* ---- faults */
+
+/* The wanted fault stands in this block: what comes from here on is foretold no longer. */
+void mark(struct file *file, unsigned block);
+
+/* Whether the file still wants this fault. */
+bool wants(const struct writer *writer, enum fault fault);
+
+/* Whether this fault is to be put in here, in the block that is written; it is marked then. Asked only where it can be: for what a
+   file has once, and for what it has often. */
+bool fires(struct writer *writer, enum fault fault);
+bool fires_sometime(struct writer *writer, enum fault fault);
+
+/* ---- blocks */
+
+void begin_block(struct writer *writer, const char *identifier); /* all its other words by chance */
+void end_block(struct writer *writer);
+uint64_t *block_of(const struct writer *writer); /* the block that is written */
+void write_word(struct writer *writer, uint64_t word);
+
+/* A bank word has 16 bits for the start and 16 for the length: the run, but neither over 65,535. */
+struct run as_bank(struct run run);
+
+/* ---- the parts of a file, in this order */
+
+void lay_out(struct chance *chance, struct file *file); /* layout.c: banks, tables and I/O numbers */
+void write_label(struct writer *writer);                /* label.c */
+void write_entries(struct writer *writer);              /* file.c: modification blocks */
+void write_program(struct writer *writer);              /* program.c */
+void write_termination(struct writer *writer);          /* file.c */
+
+#endif

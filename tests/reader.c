@@ -1,0 +1,639 @@
+/* reader.c: the calls of reader.h. Sentences in quotes are 01's. Every test stands in the order in which 01 has it made. */
+
+#include "reader.h"
+
+#include <string.h>
+
+/* "Identifiers in octal Fieldata" */
+static const uint64_t MODRC = 0502224112710, PRORC = 0502527242710, TRMRC = 0503127222710;
+
+/* ---- words and runs */
+
+/* Bits high to low of a word: part(word, 33, 18) is 01's "bits 33-18". */
+static uint64_t part(uint64_t word, unsigned high, unsigned low) {
+  return word >> low & (((uint64_t)1 << (high - low + 1)) - 1);
+}
+
+static bool bit(uint64_t word, unsigned at) {
+  return word >> at & 1;
+}
+
+/* The word with bits high to low replaced by a value that fits there. */
+static uint64_t with(uint64_t word, unsigned high, unsigned low, uint64_t value) {
+  uint64_t mask = (((uint64_t)1 << (high - low + 1)) - 1) << low;
+  return (word & ~mask) | value << low;
+}
+
+/* "its start may be the end of what holds it": so an empty run may start there. Nothing here can pass 2^64. */
+static bool inside(struct run inner, struct run outer) {
+  uint64_t from = inner.start - outer.start;
+  return inner.start >= outer.start && from <= outer.length && inner.length <= outer.length - from;
+}
+
+/* "An empty table, bank or stretch shares no word with anything". Neither run ends past 2^64: each was found inside another. */
+static bool share(struct run one, struct run other) {
+  return one.length != 0 && other.length != 0 && one.start < other.start + other.length && other.start < one.start + one.length;
+}
+
+/* Whether any two of the runs share a word. */
+static bool any_share(const struct run *runs, uint64_t count) {
+  for (uint64_t i = 0; i < count; i++)
+    for (uint64_t j = 0; j < i; j++)
+      if (share(runs[i], runs[j]))
+        return true;
+  return false;
+}
+
+static bool any_shares_with(struct run one, const struct run *runs, uint64_t count) {
+  for (uint64_t i = 0; i < count; i++)
+    if (share(one, runs[i]))
+      return true;
+  return false;
+}
+
+static uint64_t answer(uint64_t code, uint64_t value) {
+  return code << 32 | value;
+}
+
+/* "A refusal returns its number and the value 0." */
+static uint64_t refused(uint64_t number) {
+  return answer(number, 0);
+}
+
+/* ---- make */
+
+/* Refusal 3: "map not eight pairs, or breaking its rule": "The stretches lie inside the core and share no word." */
+static bool read_map(struct run *stretches, uint64_t core_length, const uint64_t *map, uint64_t map_length) {
+  struct run core = {0, core_length};
+  if (map_length != 2 * ROOMS)
+    return false;
+  for (unsigned room = 0; room < ROOMS; room++) {
+    stretches[room] = (struct run){map[2 * room], map[2 * room + 1]};
+    if (!inside(stretches[room], core))
+      return false;
+  }
+  return !any_share(stretches, ROOMS);
+}
+
+uint64_t reader_make(struct reader *desk, uint64_t core_length, const uint64_t *map, uint64_t map_length) {
+  struct run stretches[ROOMS];
+  if (core_length == 0 || core_length > CORE_MOST)
+    return refused(2);
+  if (!read_map(stretches, core_length, map, map_length))
+    return refused(3);
+  memset(desk, 0, sizeof *desk);
+  desk->core_length = core_length;
+  memcpy(desk->map, stretches, sizeof stretches);
+  return answer(MADE, 0);
+}
+
+/* ---- open */
+
+/* How many places the room holds. */
+static unsigned places_held(const struct reader *desk, uint64_t room) {
+  unsigned held = 0;
+  for (unsigned place = 0; place < PLACES; place++)
+    held += desk->places[place].stage != FREE && desk->places[place].room == room;
+  return held;
+}
+
+/* "Say F places are free and H rooms hold none" */
+static unsigned places_free(const struct reader *desk) {
+  unsigned free = 0;
+  for (unsigned place = 0; place < PLACES; place++)
+    free += desk->places[place].stage == FREE;
+  return free;
+}
+
+static unsigned rooms_without(const struct reader *desk) {
+  unsigned rooms = 0;
+  for (unsigned room = 0; room < ROOMS; room++)
+    rooms += places_held(desk, room) == 0;
+  return rooms;
+}
+
+/* Refusal 7: "area empty, not inside the room's stretch, or sharing a word with one the room holds" */
+static bool area_fits(const struct reader *desk, uint64_t room, struct run area) {
+  if (area.length == 0 || !inside(area, desk->map[room]))
+    return false;
+  for (unsigned place = 0; place < PLACES; place++)
+    if (desk->places[place].stage != FREE && desk->places[place].room == room && share(area, desk->places[place].area))
+      return false;
+  return true;
+}
+
+/* Refusal 8: "over 128 entries, half a pair, an I/O number over 65,535, a table not inside the area, or two tables sharing a
+   word". The lists are copied into the load. */
+static bool read_lists(struct load *load, const uint64_t *io, uint64_t io_length, const uint64_t *tables, uint64_t tables_length) {
+  if (io_length > ENTRIES_MOST || tables_length > 2 * ENTRIES_MOST || tables_length % 2 != 0)
+    return false;
+  load->io_count = io_length;
+  load->table_count = tables_length / 2;
+  for (uint64_t i = 0; i < load->io_count; i++) {
+    load->io[i] = io[i];
+    if (io[i] > 65535)
+      return false;
+  }
+  for (uint64_t i = 0; i < load->table_count; i++) {
+    load->tables[i] = (struct run){tables[2 * i], tables[2 * i + 1]};
+    if (!inside(load->tables[i], load->area))
+      return false;
+  }
+  return !any_share(load->tables, load->table_count);
+}
+
+/* "sets each word of the area to zero" */
+static void clear_area(const struct load *load, uint64_t *core) {
+  memset(core + load->area.start, 0, load->area.length * sizeof *core);
+}
+
+uint64_t reader_open(struct reader *desk, uint64_t *core, uint64_t core_length, uint64_t room, uint64_t area, uint64_t size,
+                     const uint64_t *io, uint64_t io_length, const uint64_t *tables, uint64_t tables_length) {
+  struct load load = {.stage = LABEL_DUE, .room = room, .area = {area, size}};
+  unsigned place = 0;
+  if (core_length != desk->core_length)
+    return refused(2);
+  if (room >= ROOMS)
+    return refused(4);
+  if (places_held(desk, room) == 2)
+    return refused(5);
+  if (places_held(desk, room) == 1 && places_free(desk) <= rooms_without(desk)) /* "F is not greater than H" */
+    return refused(6);
+  if (!area_fits(desk, room, load.area))
+    return refused(7);
+  if (!read_lists(&load, io, io_length, tables, tables_length))
+    return refused(8);
+  while (desk->places[place].stage != FREE) /* "It gives the lowest free place": one is free, for F is at least H */
+    place++;
+  desk->places[place] = load;
+  clear_area(&load, core);
+  return answer(OPENED, place);
+}
+
+/* ---- the label */
+
+/* "A to Z are octal 06 to 37, 0 to 9 are 60 to 71" */
+static bool letter_or_digit(uint64_t character) {
+  return (character >= 006 && character <= 037) || (character >= 060 && character <= 071);
+}
+
+/* "The first is a letter or digit; spaces only at the end." Hyphen 41, space 05. */
+static bool name_is_right(const uint64_t *block) {
+  bool ended = false;
+  for (unsigned i = 0; i < 12; i++) {
+    unsigned low = 30 - 6 * (i % 6);
+    uint64_t character = part(block[i / 6], low + 5, low);
+    bool named = letter_or_digit(character) || (i > 0 && character == 041);
+    if (i > 0 && character == 005)
+      ended = true;
+    else if (ended || !named)
+      return false;
+  }
+  return true;
+}
+
+/* "table types carried are 0 (jump switch), 2 (channel), 3 (unit) and 12 (core), in rising order, none twice, none with 0 entries."
+   Word 3 counts tables in bits 28-18 and entries in bits 10-0; a table's word has its type in bits 35-32, its entries in bits 8-0.
+   Gives the entries of each type. */
+static bool read_label_tables(const uint64_t *block, uint64_t entries[16]) {
+  uint64_t tables = part(block[3], 28, 18), total = 0, type_least = 0;
+  if (tables > 4) /* four types, none twice */
+    return false;
+  for (uint64_t i = 0; i < tables; i++) {
+    uint64_t type = part(block[4 + i], 35, 32), count = part(block[4 + i], 8, 0);
+    if (type != 0 && type != 2 && type != 3 && type != 12)
+      return false;
+    if (type < type_least || count == 0)
+      return false;
+    entries[type] = count;
+    type_least = type + 1;
+    total += count;
+  }
+  return total == part(block[3], 10, 0); /* "The entry total must agree" */
+}
+
+/* "Types 0 and 2 together have at most 16 entries, with type 3 at most 128; type 12 has at most 128." */
+static bool entries_in_bounds(const uint64_t entries[16]) {
+  return entries[0] + entries[2] <= 16 && entries[0] + entries[2] + entries[3] <= 128 && entries[12] <= 128;
+}
+
+/* "Word 253: bits 33-18 segments, bits 15-0 table sections, rest zero"; "the segment count is 1, and table sections are no more
+   than core entries." */
+static bool counts_are_right(uint64_t word, uint64_t core_entries) {
+  return part(word, 35, 34) == 0 && part(word, 33, 18) == 1 && part(word, 17, 16) == 0 && part(word, 15, 0) <= core_entries;
+}
+
+/* "Then 16 if the lists' counts differ from the file's or a jump switch or channel number is over 15." */
+static bool lists_suit(const struct load *load, const uint64_t entries[16]) {
+  if (load->io_count != load->channels + entries[3] || load->table_count != entries[12])
+    return false;
+  for (uint64_t i = 0; i < load->channels; i++)
+    if (load->io[i] > 15)
+      return false;
+  return true;
+}
+
+/* The label. Gives the fault's number, or 0. */
+static unsigned read_label(struct load *load, const uint64_t *block) {
+  uint64_t entries[16] = {0};
+  if (!name_is_right(block))
+    return 15;
+  if (part(block[2], 35, 33) != 1)
+    return 14;
+  if (!read_label_tables(block, entries) || !entries_in_bounds(entries))
+    return 15;
+  if (!counts_are_right(block[253], entries[12]))
+    return 15;
+  if (block[255] != block[0]) /* "Word 255 repeats word 0." */
+    return 15;
+  load->no_longer_tables = bit(block[3], 35);
+  load->channels = entries[0] + entries[2];
+  load->sections = part(block[253], 15, 0);
+  if (!lists_suit(load, entries))
+    return 16;
+  /* "With no entries there is no modification block." */
+  load->stage = load->io_count + load->table_count == 0 ? SEGMENT_DUE : ENTRIES_DUE;
+  return 0;
+}
+
+/* ---- modification blocks */
+
+/* "The assigned length must be at least this, and equal to it when the label's bit 35 is set (16)." */
+static bool length_suits(const struct load *load, uint64_t table, uint64_t minimum) {
+  uint64_t assigned = load->tables[table].length;
+  return assigned == minimum || (assigned > minimum && !load->no_longer_tables);
+}
+
+/* "Words 1 to 254 hold entries, split across blocks where needed": "two words for types 0, 2 and 3, three for type 12"; "only the
+   third word's bits 15-0 matter, the minimum length." */
+static unsigned read_entries(struct load *load, const uint64_t *block) {
+  uint64_t io_words = 2 * load->io_count, words = io_words + 3 * load->table_count;
+  for (unsigned at = 1; at <= 254 && load->entry_words < words; at++) {
+    uint64_t core_word = load->entry_words - io_words; /* among the words of the core entries, once those are reached */
+    bool third = load->entry_words >= io_words && core_word % 3 == 2;
+    if (third && !length_suits(load, core_word / 3, part(block[at], 15, 0)))
+      return 16;
+    load->entry_words++;
+  }
+  if (load->entry_words == words)
+    load->stage = SEGMENT_DUE;
+  return 0;
+}
+
+/* ---- program blocks: what heads a section */
+
+/* "In a bank word bits 35, 34, 17, 16 are zero, bits 33-18 the word count, bits 15-0 the relative address." */
+static bool read_bank(uint64_t word, struct run *bank) {
+  *bank = (struct run){part(word, 15, 0), part(word, 33, 18)};
+  return part(word, 35, 34) == 0 && part(word, 17, 16) == 0;
+}
+
+/* "Both lie in the area, sharing no word with each other or a table." Tables are absolute. */
+static bool bank_lies_right(const struct load *load, struct run bank) {
+  struct run absolute = {load->area.start + bank.start, bank.length};
+  return inside(absolute, load->area) && !any_shares_with(absolute, load->tables, load->table_count);
+}
+
+/* "Segment section, first and once, four words: IBANK, DBANK, two disregarded." A zero word or the end closes a block before it,
+   so that it always heads a block: its four words are never split. */
+static unsigned read_segment(struct load *load, const uint64_t *block, unsigned *at) {
+  if (!read_bank(block[*at], &load->ibank) || !read_bank(block[*at + 1], &load->dbank))
+    return 17;
+  if (load->ibank.length == 0) /* "IBANK count at least 1; DBANK may be 0." */
+    return 17;
+  if (!bank_lies_right(load, load->ibank) || !bank_lies_right(load, load->dbank) || share(load->ibank, load->dbank))
+    return 17;
+  load->in_table = false;
+  load->stage = GROUP_DUE;
+  *at += 4;
+  return 0;
+}
+
+/* "Table section, one word: bits 35-34 are 01, bits 33-18 a count from 1 to the assigned length, bits 17-8 zero, bits 7-0 the
+   table's number, rising from section to section. All other words, and a number with no table, are 17." */
+static unsigned read_table_section(struct load *load, const uint64_t *block, unsigned *at) {
+  uint64_t word = block[*at], count = part(word, 33, 18), table = part(word, 7, 0);
+  if (part(word, 35, 34) != 1 || part(word, 17, 8) != 0)
+    return 17;
+  if (table < load->table_least || table >= load->table_count)
+    return 17;
+  if (count == 0 || count > load->tables[table].length)
+    return 17;
+  load->in_table = true;
+  load->table = table;
+  load->section_words = count;
+  load->table_least = table + 1;
+  load->sections--;
+  load->stage = GROUP_DUE;
+  *at += 1;
+  return 0;
+}
+
+/* ---- program blocks: fields */
+
+/* Type 001: "table address plus or minus a table length". "type 001 has bit 15 zero, bit 14 set for minus, bits 13-7 the address's
+   number, bits 6-0 the length's." */
+static unsigned pair_value(const struct load *load, uint64_t field, int64_t *value) {
+  uint64_t address = part(field, 13, 7), length = part(field, 6, 0);
+  if (bit(field, 15))
+    return 19;
+  if (address >= load->table_count || length >= load->table_count)
+    return 20;
+  int64_t added = (int64_t)load->tables[length].length;
+  *value = (int64_t)load->tables[address].start + (bit(field, 14) ? -added : added);
+  return 0;
+}
+
+/* Type 010: "table address or length, plus or minus a constant". "short: bit 15 zero, bit 14 set for minus, bit 13 set for a
+   length, bits 12-6 the number, bits 5-0 the constant." "long: bit 15 set, bit 14 set for minus, bits 13-0 a constant of 64 or
+   more, and nine more indicator bits: set for a length, a zero, and seven bits of number. Any other form, and minus with constant
+   0, is 19." */
+static unsigned table_value(const struct load *load, uint64_t field, uint64_t nine, int64_t *value) {
+  bool is_long = bit(field, 15), minus = bit(field, 14);
+  bool length = is_long ? bit(nine, 8) : bit(field, 13);
+  uint64_t number = is_long ? part(nine, 6, 0) : part(field, 12, 6);
+  int64_t constant = (int64_t)(is_long ? part(field, 13, 0) : part(field, 5, 0));
+  if (is_long && (constant < 64 || bit(nine, 7)))
+    return 19;
+  if (minus && constant == 0)
+    return 19;
+  if (number >= load->table_count)
+    return 20;
+  struct run table = load->tables[number];
+  *value = (int64_t)(length ? table.length : table.start) + (minus ? -constant : constant);
+  return 0;
+}
+
+/* Type 100: "left only: bits 25-22, a number below the type 0 and 2 count, become its assignment" */
+static unsigned change_channel(const struct load *load, bool left, uint64_t *word) {
+  uint64_t number = part(*word, 25, 22);
+  if (!left)
+    return 19;
+  if (number >= load->channels)
+    return 20;
+  *word = with(*word, 25, 22, load->io[number]);
+  return 0;
+}
+
+/* Type 111: "the field, a number of a type 3 entry, becomes its assignment" */
+static unsigned unit_value(const struct load *load, uint64_t field, int64_t *value) {
+  if (field < load->channels || field >= load->io_count)
+    return 20;
+  *value = (int64_t)load->io[field];
+  return 0;
+}
+
+/* Changes one half of a word as its type says, or gives the fault's number. "The 16-bit fields are bits 33-18 and 15-0." */
+static unsigned change_half(const struct load *load, bool left, uint64_t type, uint64_t nine, uint64_t *word) {
+  unsigned low = left ? 18 : 0, fault = 0;
+  uint64_t field = part(*word, low + 15, low);
+  int64_t value = 0;
+  switch (type) {
+  case 0: /* 000: "field plus the area's address" */
+    value = (int64_t)(field + load->area.start);
+    break;
+  case 1:
+    fault = pair_value(load, field, &value);
+    break;
+  case 2:
+    fault = table_value(load, field, nine, &value);
+    break;
+  case 4:
+    return change_channel(load, left, word);
+  case 7:
+    fault = unit_value(load, field, &value);
+    break;
+  default:
+    fault = 19; /* "Others are 19." */
+  }
+  if (fault != 0)
+    return fault;
+  if (value < 0 || value > 65535)
+    return 21;
+  *word = with(*word, low + 15, low, (uint64_t)value);
+  return 0;
+}
+
+/* ---- program blocks: groups */
+
+/* The words of a group after its identifier. "The program words come first." */
+struct group {
+  const uint64_t *words;
+  uint64_t program_words;
+  uint64_t indicator_bits; /* 36 for each of the words after those */
+  const uint64_t *last;    /* its last word */
+};
+
+/* `count` of the indicator bits, from bit `at` on. "Indicators are read from the last word of the group, most significant bit
+   first, and run on into the word before it." */
+static uint64_t indicator(const struct group *group, uint64_t at, unsigned count) {
+  const uint64_t *word = group->last - at / 36;
+  unsigned unread = 36 - (unsigned)(at % 36); /* so many bits of this word are still to be read */
+  if (count <= unread)
+    return part(*word, unread - 1, unread - count);
+  return part(*word, unread - 1, 0) << (count - unread) | *(word - 1) >> (36 - (count - unread));
+}
+
+/* How many bits the indicator at bit `at` has: "1 bit for no change, 13 for type 010 with the field's bit 15 set, 4 for any other
+   type, carried or not." Gives 0 where the indicator words end in its middle. */
+static unsigned indicator_length(const struct group *group, uint64_t at, uint64_t word, bool left) {
+  uint64_t there = group->indicator_bits - at;
+  unsigned length;
+  if (there == 0)
+    return 0;
+  if (indicator(group, at, 1) == 0)
+    return 1;
+  if (there < 4)
+    return 0;
+  length = indicator(group, at + 1, 3) == 2 && bit(word, left ? 33 : 15) ? 13 : 4;
+  return length <= there ? length : 0;
+}
+
+/* "The group has just as many indicator words as the bits need". */
+static bool indicators_fit(const struct group *group) {
+  uint64_t at = 0;
+  for (uint64_t half = 0; half < 2 * group->program_words; half++) {
+    unsigned length = indicator_length(group, at, group->words[half / 2], half % 2 == 0);
+    if (length == 0)
+      return false;
+    at += length;
+  }
+  return group->indicator_bits - at < 36;
+}
+
+/* "Each program word has a left indicator, then a right": changes the words and stores them from `to` on. Words stored before a
+   fault do not matter, since the fault has the whole area set to zero. */
+static unsigned store_words(const struct load *load, const struct group *group, uint64_t *to) {
+  uint64_t at = 0;
+  for (uint64_t i = 0; i < group->program_words; i++) {
+    uint64_t word = group->words[i];
+    for (int half = 0; half < 2; half++) {
+      unsigned length = indicator_length(group, at, group->words[i], half == 0), fault = 0;
+      uint64_t nine = length == 13 ? indicator(group, at + 4, 9) : 0;
+      if (length > 1)
+        fault = change_half(load, half == 0, indicator(group, at + 1, 3), nine, &word);
+      if (fault != 0)
+        return fault;
+      at += length;
+    }
+    to[i] = word;
+  }
+  return 0;
+}
+
+/* Where a group's relative address 0 is in the core, and the run of relative addresses in which its words must lie. "Group
+   addresses count from the Program Name, or from the table's first word, and the words must lie in that bank, or in the table
+   section's count." */
+struct home {
+  uint64_t zero;
+  struct run run;
+};
+
+/* "bit 16 zero for the IBANK and set for the DBANK or a table section" */
+static bool find_home(const struct load *load, bool bit_16, struct home *home) {
+  if (load->in_table)
+    *home = (struct home){load->tables[load->table].start, {0, load->section_words}};
+  else
+    *home = (struct home){load->area.start, bit_16 ? load->dbank : load->ibank};
+  return bit_16 || !load->in_table;
+}
+
+/* After a section's last group. "After the last section's last group the rest of the block is disregarded and the termination block
+   is due." */
+static void end_section(struct load *load) {
+  load->stage = load->sections == 0 ? TERMINATION_DUE : TABLE_SECTION_DUE;
+}
+
+/* "Group: bits 35-34 are 10, bits 33-26 the words after the identifier, bits 25-18 the program words (at least 1), bit 17 set on
+   the section's last group, .. bits 15-0 the relative address." It stays in one block, "Otherwise 18, tested before any field". */
+static unsigned read_group(struct load *load, uint64_t *core, const uint64_t *block, unsigned *at) {
+  uint64_t word = block[*at], words = part(word, 33, 26), program_words = part(word, 25, 18), relative = part(word, 15, 0);
+  struct home home;
+  unsigned fault;
+  if (part(word, 35, 34) != 2 || program_words == 0 || program_words > words || *at + words > 254)
+    return 18;
+  if (!find_home(load, bit(word, 16), &home) || !inside((struct run){relative, program_words}, home.run))
+    return 18;
+  struct group group = {block + *at + 1, program_words, 36 * (words - program_words), block + *at + words};
+  if (!indicators_fit(&group))
+    return 18;
+  fault = store_words(load, &group, core + home.zero + relative);
+  if (bit(word, 17))
+    end_section(load);
+  *at += 1 + (unsigned)words;
+  return fault;
+}
+
+/* "where an identifier's first word is due, a zero word or the end at word 254 closes the block." */
+static unsigned read_program(struct load *load, uint64_t *core, const uint64_t *block) {
+  unsigned at = 1, fault = 0;
+  while (fault == 0 && load->stage != TERMINATION_DUE && at <= 254 && block[at] != 0) {
+    if (load->stage == SEGMENT_DUE)
+      fault = read_segment(load, block, &at);
+    else if (load->stage == TABLE_SECTION_DUE)
+      fault = read_table_section(load, block, &at);
+    else
+      fault = read_group(load, core, block, &at);
+  }
+  return fault;
+}
+
+/* ---- the termination block */
+
+/* "Termination: word 1 bits 15-0 give the start, relative to the Program Name." Refusal 22: "start not in the IBANK". */
+static unsigned read_termination(struct load *load, const uint64_t *block) {
+  uint64_t start = part(block[1], 15, 0);
+  if (!inside((struct run){start, 1}, load->ibank))
+    return 22;
+  load->start = load->area.start + start;
+  load->stage = COMPLETE;
+  return 0;
+}
+
+/* ---- feed */
+
+/* "Sum the other 255 words, drop overflow above bit 35, and add the upper 18 bits of the result to the lower 18" */
+uint64_t reader_checksum(const uint64_t *block, unsigned at) {
+  uint64_t sum = 0;
+  for (unsigned i = 0; i < WORDS_IN_BLOCK; i++)
+    sum += block[i];
+  sum -= block[at];
+  return part(sum, 35, 18) + part(sum, 17, 0);
+}
+
+/* Refusal 11: "block not 256 words, or a word of 2^36 or more" */
+static bool is_block(const uint64_t *block, uint64_t block_length) {
+  if (block_length != WORDS_IN_BLOCK)
+    return false;
+  for (unsigned i = 0; i < WORDS_IN_BLOCK; i++)
+    if (block[i] >> 36 != 0)
+      return false;
+  return true;
+}
+
+/* "The checksum word is word 254 of the label and word 255 elsewhere." */
+static bool is_sealed(const struct load *load, const uint64_t *block) {
+  unsigned at = load->stage == LABEL_DUE ? 254 : 255;
+  return block[at] == reader_checksum(block, at);
+}
+
+/* "Order: one label, modification blocks, program blocks, one termination block. A label is known by its place alone and never
+   gives 13." */
+static unsigned read_block(struct load *load, uint64_t *core, const uint64_t *block) {
+  switch (load->stage) {
+  case LABEL_DUE:
+    return read_label(load, block);
+  case ENTRIES_DUE:
+    return block[0] == MODRC ? read_entries(load, block) : 13;
+  case TERMINATION_DUE:
+    return block[0] == TRMRC ? read_termination(load, block) : 13;
+  default:
+    return block[0] == PRORC ? read_program(load, core, block) : 13;
+  }
+}
+
+/* Refusal 9: "place over 11, free, or another room's" */
+static bool holds(const struct reader *desk, uint64_t room, uint64_t place) {
+  return place < PLACES && desk->places[place].stage != FREE && desk->places[place].room == room;
+}
+
+uint64_t reader_feed(struct reader *desk, uint64_t *core, uint64_t core_length, uint64_t room, uint64_t place,
+                     const uint64_t *block, uint64_t block_length) {
+  struct load *load;
+  unsigned fault;
+  if (core_length != desk->core_length)
+    return refused(2);
+  if (room >= ROOMS)
+    return refused(4);
+  if (!holds(desk, room, place))
+    return refused(9);
+  load = &desk->places[place];
+  if (load->stage == COMPLETE || load->stage == BROKEN)
+    return refused(10);
+  if (!is_block(block, block_length))
+    return refused(11);
+  if (!is_sealed(load, block))
+    return refused(12);
+  fault = read_block(load, core, block);
+  if (fault != 0) { /* "Refusals 13 to 22 set the whole area to zero and mark the load broken." */
+    clear_area(load, core);
+    load->stage = BROKEN;
+    return refused(fault);
+  }
+  /* "An accepted block answers more, and the termination block answers done with the absolute start." */
+  return load->stage == COMPLETE ? answer(DONE, load->start) : answer(MORE, 0);
+}
+
+/* ---- release */
+
+/* "frees the place and its area, which serve again, and writes no core word" */
+uint64_t reader_release(struct reader *desk, uint64_t core_length, uint64_t room, uint64_t place) {
+  if (core_length != desk->core_length)
+    return refused(2);
+  if (room >= ROOMS)
+    return refused(4);
+  if (!holds(desk, room, place))
+    return refused(9);
+  desk->places[place].stage = FREE;
+  return answer(RELEASED, 0);
+}
