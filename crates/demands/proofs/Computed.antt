@@ -1,0 +1,67 @@
+-- The hand deck by computing: its image and its start. Assumes nothing.
+use Prim.Native.Nat.{ℕ, _+_}
+use mathlib.Core.Path.{_≡_, refl, _∙_}
+use native.Mathlib.Omega.{arith}
+use mathlib.Core.List.{List, _∷_, flatMap}
+use lib.ListN.{replicate, getD-replicate}
+use Rattle.word.specs.Lists.{every, range, tab}
+use Rattle.word.specs.Runs.{within, apart}
+use Rattle.block.specs.Fieldata.{characters, spelt}
+use Rattle.label.specs.Name.{isName, isRest, letterOrDigit}
+use Rattle.label.specs.Tally.{tableTally, tallied}
+use Rattle.label.specs.Label.{labelOf, finished, programWordFits}
+use Rattle.program.specs.Sections.{bankOf, segmentOf, tableSectionOf}
+use Rattle.program.specs.Groups.{groupOf}
+use Rattle.indicator.specs.Indicator.{bitsOf, indicatorBits, bitsBefore, numberAt, indicatorAt, afterField, afterWord, afterAll}
+use Rattle.field.specs.Field.{valued, movedField, becomes, putBack, fieldStep}
+use Rattle.group.specs.Group.{halfStep, wordStep, changedWords, homeIn, homeOf, settled, counted, homed, fitted, grouped, groupStep}
+use Rattle.demands.specs.Image.{headAt, piecesFrom, pieces, storeOf, storesFrom, reached, wordFrom, storesBeyond, storesOf, imageOf, fileStart}
+use Rattle.demands.specs.HandDeck.{filled, blank, file, load}
+use Rattle.demands.specs.HandDeck as deck
+use Rattle.block.specs.Records.{modification, program, termination}
+use Rattle.modification.specs.Assignments.{assignmentsFit}
+use Rattle.program.specs.Start.{inBank}
+use Rattle.stage.specs.declared.Stage.the-variants.{Label, Segment, Complete}
+use Rattle.stage.specs.Ranges.{bankFits}
+use Rattle.step.specs.Due.{recordDue, isOver}
+use Rattle.step.specs.Label.{afterLabel, withLabel, labelStep}
+use Rattle.step.specs.Termination.{terminationStep}
+use Rattle.sections.specs.Heads.{banksFit, withSegment, segmentStep}
+use Rattle.sections.specs.Program.{afterLast, afterGroup, itemStep, closes, programFrom, programStep}
+use Rattle.feed.specs.Block.{dueStep, blockStep}
+use Rattle.demands.specs.Taking.{Takes}
+use Rattle.demands.proofs.Imaged.{image-is}
+
+-- the one program word is 7, with the area's address added to its right field
+pub deck-image : imageOf (load .area) (load .tables) (load .ios) file ≡ 519 ∷ replicate 63 0
+unfolding deck.label deck.program deck.termination filled blank imageOf storesOf storesBeyond labelOf isName isRest letterOrDigit every
+    characters tableTally tallied range finished programWordFits pieces piecesFrom headAt groupOf tableSectionOf segmentOf bankOf storesFrom
+    storeOf homeOf homeIn within changedWords wordStep halfStep fieldStep becomes movedField valued putBack bitsOf flatMap indicatorBits
+    bitsBefore numberAt indicatorAt afterField afterWord wordFrom reached tab
+deck-image = refl
+
+-- "2 done 512"
+pub deck-start : fileStart (load .area) file ≡ record { 0 = 512 }
+unfolding deck.termination filled blank
+deck-start = refl
+
+-- ---- it is taken to its end, so that the image theorem speaks of it
+abbrev core : List ℕ
+core = replicate 576 0
+
+abbrev afterwards : List ℕ
+afterwards = blockStep load (Segment (record { near = 0; sections = 0 })) deck.program core .core
+
+pub deck-taken : Takes load Label core file Complete afterwards
+unfolding deck.label deck.program deck.termination filled blank labelOf isName isRest letterOrDigit every characters tableTally tallied
+    range finished programWordFits groupOf tableSectionOf segmentOf bankOf homeOf homeIn within changedWords wordStep halfStep fieldStep
+    becomes movedField valued putBack bitsOf flatMap indicatorBits bitsBefore numberAt indicatorAt afterField afterWord Takes isOver blockStep
+    dueStep recordDue labelStep withLabel afterLabel assignmentsFit programStep programFrom closes itemStep segmentStep withSegment banksFit
+    bankFits apart afterGroup afterLast groupStep grouped fitted homed counted settled afterAll terminationStep inBank spelt modification
+    program termination
+deck-taken = (refl, (refl, (refl, (refl, refl))))
+
+-- so the area holds that image
+pub deck-area : range afterwards 512 64 ≡ 519 ∷ replicate 63 0
+unfolding every
+deck-area = image-is load core afterwards file (omega arith) refl (λ k h. getD-replicate {A = ℕ} 576 (512 + k) 0 0 (omega arith)) deck-taken ∙ deck-image

@@ -1,0 +1,24 @@
+-- The demands, proved: each has the type that specs/Demands.antt states for it. Assumes nothing.
+use Rattle.feed.proofs.Blocked.{block-laws}
+use Rattle.feed.proofs.Fed.{feed-sound, feed-long}
+use Rattle.demands.specs.Demands.{Demand2, Demand2Outside, Demand3Orders, Demand3Turns, Demand3Rooms}
+use Rattle.demands.proofs.Imaged.{image-is}
+use Rattle.demands.proofs.Lives as lives
+use Rattle.demands.proofs.Untouched as untouched
+use Rattle.demands.proofs.Frames as frames
+use Rattle.demands.proofs.Served as served
+
+pub demand-2 : Demand2
+demand-2 = lives.demand-2 block-laws feed-sound image-is
+
+pub demand-2-outside : Demand2Outside
+demand-2-outside = untouched.demand-2-outside block-laws
+
+pub demand-3-orders : Demand3Orders
+demand-3-orders = frames.demand-3-orders block-laws feed-sound
+
+pub demand-3-turns : Demand3Turns
+demand-3-turns = frames.demand-3-turns block-laws feed-sound
+
+pub demand-3-rooms : Demand3Rooms
+demand-3-rooms = served.demand-3-rooms (λ d core block r p s e. feed-sound d core block r p s) (λ d core block r p s e. feed-long d core block r p)

@@ -1,0 +1,121 @@
+-- What a program block holds where something is due, read by its head word alone: the head that the machine was waiting for. Assumes nothing.
+use Prim.Native.Nat.{ℕ, zero, suc, _+_, _-_}
+use mathlib.Core.Path.{_≡_, refl, ap, _∙_}
+use mathlib.Core.Bool.{true, false, cond}
+use mathlib.Core.List.{List, [], _∷_, _++_}
+use native.Mathlib.Omega.{arith}
+use lib.ListN.{getD}
+use lib.Dec.{eqb}
+use borrow.Author.Tests.{eqb-true, ne-eqb}
+use Rattle.word.specs.Word.{part}
+use Rattle.word.specs.Fault.{fault}
+use Rattle.word.proofs.Cases.{by-test}
+use Rattle.program.specs.declared.Bank.{Bank}
+use Rattle.program.specs.declared.BankRead.{BankRead}
+use Rattle.program.specs.declared.BankRead.the-variants.{Good as bank-read, Bad as no-bank}
+use Rattle.program.specs.declared.Segment.{Segment}
+use Rattle.program.specs.declared.SegmentRead.the-variants.{Good as segment-read}
+use Rattle.program.specs.declared.TableSection.{TableSection}
+use Rattle.program.specs.declared.TableSectionRead.the-variants.{Good as section-read, Bad as no-section}
+use Rattle.program.specs.declared.Group.{Group}
+use Rattle.program.specs.declared.GroupRead.the-variants.{Good as group-read, Bad as no-group}
+use Rattle.program.specs.Sections.{bankOf, withIbank, segmentOf, tableSectionOf}
+use Rattle.program.specs.Groups.{groupOf}
+use Rattle.field.specs.Field.{Assignments}
+use Rattle.group.specs.declared.Section.{Section}
+use Rattle.group.specs.declared.Section.the-variants.{Segment as InSegment}
+use Rattle.sections.specs.Program.{closes}
+use Rattle.demands.specs.Image.{Piece, headAt, piecesFrom, storeOf, tableSection, storesBy, storesFrom}
+use Rattle.demands.specs.Image.Head.{SegmentHead, TableHead, GroupHead}
+
+-- ---- bits 35-34 tell a head: 00 the segment's, 01 a table section's, 10 a group's
+module _ (w : ℕ) where
+  no-group-here : (part 34 2 w ≡ 2 → ⊥) → groupOf w ≡ no-group (fault 18)
+  unfolding groupOf
+  no-group-here h = rw (ne-eqb (part 34 2 w) 2 h)
+
+  no-section-here : (part 34 2 w ≡ 1 → ⊥) → tableSectionOf w ≡ no-section (fault 17)
+  unfolding tableSectionOf
+  no-section-here h = rw (ne-eqb (part 34 2 w) 1 h)
+
+  section-bits : (t : TableSection) → tableSectionOf w ≡ section-read t → part 34 2 w ≡ 1
+  unfolding tableSectionOf
+  section-bits t e =
+      by-test (eqb (part 34 2 w) 1) (λ q. eqb-true (part 34 2 w) 1 q)
+      (λ q. let f : no-section (fault 17) ≡ section-read t = rw q at e in let z : _≡_ {A = ℕ} 0 1 = cc in absurd (omega arith))
+
+  bank-bits : (b : Bank) → bankOf w ≡ bank-read b → part 34 2 w ≡ 0
+  unfolding bankOf
+  bank-bits b e =
+      by-test (eqb (part 34 2 w) 0) (λ q. eqb-true (part 34 2 w) 0 q)
+      (λ q. let f : no-bank (fault 17) ≡ bank-read b = rw q at e in let z : _≡_ {A = ℕ} 0 1 = cc in absurd (omega arith))
+
+  segment-by : (second : ℕ) (g : Segment) (r : BankRead) → bankOf w ≡ r → withIbank r (bankOf second) ≡ segment-read g → part 34 2 w ≡ 0
+  segment-by second g (bank-read b) q e = bank-bits b q
+  segment-by second g (no-bank f) q e = let z : _≡_ {A = ℕ} 0 1 = cc in absurd (omega arith)
+
+  segment-bits : (second : ℕ) (g : Segment) → segmentOf w second ≡ segment-read g → part 34 2 w ≡ 0
+  unfolding segmentOf
+  segment-bits second g e = segment-by second g (bankOf w) refl e
+
+-- while a section is still to end, each piece stores
+stores-on : (a : Assignments) (m : ℕ) (section : Section) (p : Piece) (ps : List Piece)
+    → storesFrom a (suc m) section (p ∷ ps)
+    ≡ storesBy a (suc m) section (p .block) (p .at) (p .head) (λ k s. storesFrom a k s ps)
+unfolding storesFrom
+stores-on a m section p ps = rw (ne-eqb (suc m) 0 (omega arith))
+
+module _ (block : List ℕ) (i : ℕ) where
+  abbrev here : ℕ
+  here = getD block i 0
+
+  pub head-group : (g : Group) → groupOf here ≡ group-read g → headAt block i ≡ GroupHead g
+  unfolding headAt
+  head-group g e = rw e
+
+  pub head-table : (t : TableSection) → tableSectionOf here ≡ section-read t → headAt block i ≡ TableHead t
+  unfolding headAt
+  head-table t e = let b = section-bits here t e in rw (no-group-here here (omega arith), e)
+
+  pub head-segment : (g : Segment) → segmentOf here (getD block (i + 1) 0) ≡ segment-read g → headAt block i ≡ SegmentHead g
+  unfolding headAt
+  head-segment g e =
+      let b = segment-bits here (getD block (i + 1) 0) g e in
+      rw (no-group-here here (omega arith), no-section-here here (omega arith), e)
+
+  -- ---- the stores from a head on, `rest` being the pieces of later blocks
+  module _ (a : Assignments) (m : ℕ) (section : Section) (n : ℕ) (rest : List Piece) (more : closes block i ≡ false) where
+    pub stores-segment : (g : Segment) → headAt block i ≡ SegmentHead g
+        → storesFrom a (suc m) section (piecesFrom (suc n) block i ++ rest) ≡ storesFrom a (suc m) (InSegment g) (piecesFrom n block (i + 4) ++ rest)
+    unfolding piecesFrom closes
+    stores-segment g e = rw (more, e) (stores-on a m section (record { block = block; at = i; head = SegmentHead g }) (piecesFrom n block (i + 4) ++ rest))
+
+    pub stores-table : (t : TableSection) → headAt block i ≡ TableHead t
+        → storesFrom a (suc m) section (piecesFrom (suc n) block i ++ rest) ≡ storesFrom a (suc m) (tableSection a t) (piecesFrom n block (i + 1) ++ rest)
+    unfolding piecesFrom closes
+    stores-table t e = rw (more, e) (stores-on a m section (record { block = block; at = i; head = TableHead t }) (piecesFrom n block (i + 1) ++ rest))
+
+    pub stores-group : (g : Group) → headAt block i ≡ GroupHead g
+        → storesFrom a (suc m) section (piecesFrom (suc n) block i ++ rest)
+        ≡ storeOf a section block i g ∷ storesFrom a (cond (g .last) m (suc m)) section (piecesFrom n block (i + 1 + g .words) ++ rest)
+    unfolding piecesFrom closes
+    stores-group g e =
+        let k : suc m - 1 ≡ m = omega arith in
+        rw (more, e)
+        (stores-on a m section (record { block = block; at = i; head = GroupHead g }) (piecesFrom n block (i + 1 + g .words) ++ rest)
+        ∙ ap (λ (j : ℕ). storeOf a section block i g ∷ storesFrom a (cond (g .last) j (suc m)) section (piecesFrom n block (i + 1 + g .words) ++ rest)) k)
+
+  -- where the block is closed there is no piece, and after the last section no store
+  pub no-fuel : piecesFrom 0 block i ≡ []
+  unfolding piecesFrom
+  no-fuel = refl
+
+  pub no-pieces : (n : ℕ) → closes block i ≡ true → piecesFrom n block i ≡ []
+  unfolding piecesFrom closes
+  no-pieces zero q = refl
+  no-pieces (suc n) q = rw q
+
+pub no-stores : (a : Assignments) (section : Section) (ps : List Piece) → storesFrom a 0 section ps ≡ []
+unfolding storesFrom
+no-stores a section [] = refl
+no-stores a section (p ∷ ps) = refl

@@ -1,0 +1,193 @@
+-- A load that takes a file to its end: its area, zero before, holds the file's image. Assumes nothing.
+use Prim.Native.Nat.{ℕ, suc, _+_, _-_, _≤_, _<_}
+use mathlib.Core.Path.{_≡_, refl, sym, ap, _∙_}
+use mathlib.Core.Bool.{Bool, true, false}
+use mathlib.Core.List.{List, [], _∷_}
+use native.Mathlib.Omega.{arith}
+use lib.ListN.{length, getD, drop}
+use lib.Dec.{eqb, ltb}
+use borrow.Author.Tests.{eqb-true, eqb-false, ltb-true, ltb-false}
+use Rattle.word.specs.Lists.{every, range}
+use Rattle.word.proofs.Cases.{when, and-left, and-right}
+use Rattle.block.specs.Records.{ofRecord}
+use Rattle.label.specs.declared.Label.{Label as LabelWords}
+use Rattle.label.specs.declared.LabelRead.{LabelRead}
+use Rattle.label.specs.declared.LabelRead.the-variants.{Good as label-read, Bad as no-label}
+use Rattle.label.specs.Label.{labelOf, nearCount, ioCount}
+use Rattle.modification.specs.Assignments.{assignmentsFit}
+use Rattle.modification.specs.Entries.{entryBlocks}
+use Rattle.program.specs.declared.Bank.{Bank}
+use Rattle.program.specs.Start.{startOf, inBank}
+use Rattle.lists.specs.Obey.{tableInside}
+use Rattle.group.specs.declared.Section.{Section}
+use Rattle.stage.specs.declared.Course.{Course}
+use Rattle.stage.specs.declared.Stage.{Stage}
+use Rattle.stage.specs.declared.Stage.the-variants.{Label, Entry, Segment as segment-due, SegmentGroup, Table as table-due, TableGroup, Termination, Complete, Broken}
+use Rattle.step.specs.declared.Step.{Step}
+use Rattle.step.specs.declared.Step.the-variants.{More, Done, Refused}
+use Rattle.step.specs.Due.{recordDue, isOver}
+use Rattle.step.specs.Label.{courseOf, afterLabel, withLabel, labelStep}
+use Rattle.step.specs.Entries.{entriesFit, afterEntries, entryStep}
+use Rattle.step.specs.Termination.{terminationStep}
+use Rattle.sections.specs.Load.{Load}
+use Rattle.sections.specs.Program.{StepOutcome, programStep}
+use Rattle.feed.specs.Block.{only, dueStep, blockStep}
+use Rattle.demands.specs.Image.{Piece, pieces, noSection, storesFrom, storesBeyond, storesOf, imageOf}
+use Rattle.demands.specs.Taking.{TakesBy, Takes}
+use Rattle.demands.proofs.Stores.{storeAll, AllInside, stores-image}
+use Rattle.demands.proofs.Heads.{no-stores}
+use Rattle.demands.proofs.Running.{Comes, given, Stands, Reads, program-leads}
+use Rattle.demands.proofs.Started.{GoesOn, program-goes}
+
+-- a list without its first element
+drop-one : {A : Type 0} (n : ℕ) (b : A) (bs : List A) → drop (1 + n) (b ∷ bs) ≡ drop n bs
+drop-one n b bs = let e : 1 + n ≡ suc n = omega arith in rw e
+
+module _ (x : Load) (after : List ℕ) where
+  -- what a block's step leads to is taken, and then the blocks
+  abbrev Then : List (List ℕ) → StepOutcome → Type 0
+  Then blocks o = TakesBy (o .step) (λ u. Takes x u (o .core) blocks Complete after)
+
+  -- a load that is complete takes no more
+  nothing-more : (core : List ℕ) (blocks : List (List ℕ)) → Takes x Complete core blocks Complete after → core ≡ after
+  unfolding Takes isOver
+  nothing-more core [] h = h .1
+  nothing-more core (block ∷ blocks) h = let z : true ≡ false = h .0 in let y : _≡_ {A = ℕ} 0 1 = cc in absurd (omega arith)
+
+  -- ---- program blocks, and the termination block
+  module _ (near : ℕ) (tables : every (tableInside (x .area)) (x .tables) ≡ true) where
+    module _ (block : List ℕ) (blocks : List (List ℕ)) (core : List ℕ)
+        (ih : (s : Stage) (core′ : List ℕ) → Takes x s core′ blocks Complete after → Reads x near after s core′ (pieces blocks)) where
+      program-by : (s : Stage) (r : Step) → programStep x s block core .step ≡ r → GoesOn r
+          → TakesBy r (λ u. Takes x u (programStep x s block core .core) blocks Complete after)
+          → Reads x near after s core (pieces (block ∷ blocks))
+      unfolding programStep pieces
+      program-by s (More t) e g h =
+          program-leads x near tables block t (pieces blocks) after 254 s 1 core e (ih t _ h)
+      program-by s (Done a) e g h = absurd g
+      program-by s (Refused f) e g h = absurd h
+
+      program-run : (s : Stage) → Then blocks (programStep x s block core) → Reads x near after s core (pieces (block ∷ blocks))
+      unfolding programStep
+      program-run s h = program-by s (programStep x s block core .step) refl (program-goes x block 254 s 1 core) h
+
+      over : (section : Section) (ps : List Piece) → Takes x Complete core blocks Complete after
+          → Comes (x .area) core (storesFrom (given x near) 0 section ps) after
+      unfolding storeAll AllInside
+      over section ps h =
+          rw (no-stores (given x near) section ps) (record { last = sym (nothing-more core blocks h); inside = tt })
+
+      termination-run : (b : Bank) → Then blocks (only (terminationStep (x .area) b block) core)
+          → Reads x near after (Termination b) core (pieces (block ∷ blocks))
+      unfolding terminationStep
+      termination-run b =
+          when (λ (r : Step). Then blocks (only r core) → Reads x near after (Termination b) core (pieces (block ∷ blocks)))
+          (inBank b (startOf block))
+          (λ _ h section st. over section (pieces (block ∷ blocks)) h)
+          (λ _ h. absurd h)
+
+      due-run : (s : Stage) → Then blocks (dueStep x s block core) → Reads x near after s core (pieces (block ∷ blocks))
+      unfolding dueStep
+      due-run Label h section st = absurd st
+      due-run (Entry c strict b) h section st = absurd st
+      due-run (segment-due c) h section st = program-run (segment-due c) h section st
+      due-run (SegmentGroup c g) h section st = program-run (SegmentGroup c g) h section st
+      due-run (table-due c t b) h section st = program-run (table-due c t b) h section st
+      due-run (TableGroup c t b) h section st = program-run (TableGroup c t b) h section st
+      due-run (Termination b) h section st = termination-run b h section st
+      due-run Complete h section st = absurd st
+      due-run Broken h section st = absurd st
+
+    run : (s : Stage) (core : List ℕ) (blocks : List (List ℕ)) → Takes x s core blocks Complete after
+        → Reads x near after s core (pieces blocks)
+    unfolding Takes blockStep
+    run s core [] h = λ section st. let z : Stands x near Complete section = rw (h .0) at st in absurd z
+    run s core (block ∷ blocks) h =
+        when (λ (o : StepOutcome). Then blocks o → Reads x near after s core (pieces (block ∷ blocks))) (ofRecord (recordDue s) block)
+        (λ _ k. due-run block blocks core (λ u core′ g. run u core′ blocks g) s k)
+        (λ _ k. absurd k)
+        (h .1)
+
+    -- ---- modification blocks: from block b on there are as many as are still to come
+    abbrev many : ℕ
+    many = entryBlocks (length (x .ios)) (length (x .tables))
+
+    module _ (c : Course) (strict : Bool) where
+      abbrev Left : ℕ → List ℕ → List (List ℕ) → Type 0
+      Left n core blocks = Reads x near after (segment-due c) core (pieces (drop n blocks))
+
+      entry-run : (b : ℕ) (core : List ℕ) (blocks : List (List ℕ)) → b < many → Takes x (Entry c strict b) core blocks Complete after
+          → Left (many - b) core blocks
+      unfolding Takes blockStep dueStep entryStep afterEntries
+      entry-run b core [] l h = let e : Entry c strict b ≡ Complete = h .0 in let z : _≡_ {A = ℕ} 0 1 = cc in absurd (omega arith)
+      entry-run b core (block ∷ blocks) l h =
+          when (λ (o : StepOutcome). Then blocks o → Left (many - b) core (block ∷ blocks)) (ofRecord (recordDue (Entry c strict b)) block)
+          (λ _. when (λ (r : Step). Then blocks (only r core) → Left (many - b) core (block ∷ blocks))
+          (entriesFit (length (x .ios)) (x .tables) strict b block)
+          (λ _. when (λ (s : Stage). Takes x s core blocks Complete after → Left (many - b) core (block ∷ blocks)) (ltb (b + 1) many)
+          (λ q k. rw (next (ltb-true (b + 1) many q)) (entry-run (b + 1) core blocks (ltb-true (b + 1) many q) k))
+          (λ q k. rw (last (ltb-false (b + 1) many q)) (run (segment-due c) core blocks k)))
+          (λ _ k. absurd k))
+          (λ _ k. absurd k)
+          (h .1)
+        where
+          next : b + 1 < many → many - b ≡ suc (many - (b + 1))
+          next k = omega arith
+
+          last : many ≤ b + 1 → many - b ≡ 1
+          last k = omega arith
+
+  -- ---- the label
+  module _ (tables : every (tableInside (x .area)) (x .tables) ≡ true) (core block : List ℕ) (blocks : List (List ℕ)) where
+    abbrev Whole : LabelRead → Type 0
+    Whole r = Comes (x .area) core (storesBeyond (x .area) (x .tables) (x .ios) r (block ∷ blocks)) after
+
+    -- the lists have as many entries as the label says
+    beyond : (l : LabelWords) → assignmentsFit l (x .ios) (length (x .tables)) ≡ true
+        → Reads x (nearCount l) after (segment-due (courseOf l)) core (pieces (drop (many (nearCount l) tables) blocks)) → Whole (label-read l)
+    unfolding assignmentsFit storesBeyond
+    beyond l q h =
+        let a : length (x .ios) ≡ ioCount l = eqb-true _ _ (and-left (eqb (length (x .ios)) (ioCount l)) _ q) in
+        let b : length (x .tables) ≡ l .tables =
+        eqb-true _ _ (and-left (eqb (length (x .tables)) (l .tables)) _ (and-right (eqb (length (x .ios)) (ioCount l)) _ q)) in
+        let e : 1 + l .sections ≡ suc (l .sections) = omega arith in
+        rw (← a, ← b, e, drop-one (many (nearCount l) tables) block blocks) (h noSection refl)
+
+    label-by : (l : LabelWords) → assignmentsFit l (x .ios) (length (x .tables)) ≡ true
+        → Takes x (afterLabel (length (x .ios)) (length (x .tables)) l) core blocks Complete after → Whole (label-read l)
+    unfolding afterLabel
+    label-by l f =
+        when (λ (s : Stage). Takes x s core blocks Complete after → Whole (label-read l)) (eqb (many (nearCount l) tables) 0)
+        (λ q k. beyond l f (rw (eqb-true (many (nearCount l) tables) 0 q) (run (nearCount l) tables (segment-due (courseOf l)) core blocks k)))
+        (λ q k. let e : many (nearCount l) tables - 0 ≡ many (nearCount l) tables = omega arith in
+        beyond l f (rw e at (entry-run (nearCount l) tables (courseOf l) (l .strict) 0 core blocks (some q) k)))
+      where
+        some : eqb (many (nearCount l) tables) 0 ≡ false → 0 < many (nearCount l) tables
+        some q = omega (arith, eqb-false (many (nearCount l) tables) 0 q)
+
+    label-run : (r : LabelRead) → Then blocks (only (withLabel (x .ios) (length (x .tables)) r) core) → Whole r
+    unfolding withLabel
+    label-run (label-read l) =
+        when (λ (r : Step). Then blocks (only r core) → Whole (label-read l)) (assignmentsFit l (x .ios) (length (x .tables)))
+        (λ q k. label-by l q k)
+        (λ _ k. absurd k)
+    label-run (no-label f) = λ k. absurd k
+
+  pub file-comes : (core : List ℕ) (file : List (List ℕ)) → every (tableInside (x .area)) (x .tables) ≡ true → Takes x Label core file Complete after
+      → Comes (x .area) core (storesOf (x .area) (x .tables) (x .ios) file) after
+  unfolding Takes blockStep dueStep labelStep storesOf recordDue
+  file-comes core [] t h = let e : Label ≡ Complete = h .0 in let z : _≡_ {A = ℕ} 0 1 = cc in absurd (omega arith)
+  file-comes core (block ∷ blocks) t h = label-run t core block blocks (labelOf block) (h .1)
+
+-- the image theorem for one load by itself
+pub image-is : (x : Load) (core after : List ℕ) (file : List (List ℕ))
+    → x .area .at .0 + x .area .size ≤ length core
+    → every (tableInside (x .area)) (x .tables) ≡ true
+    → ((k : ℕ) → k < x .area .size → getD core (x .area .at .0 + k) 0 ≡ 0)
+    → Takes x Label core file Complete after
+    → range after (x .area .at .0) (x .area .size) ≡ imageOf (x .area) (x .tables) (x .ios) file
+unfolding imageOf
+image-is x core after file h t z k =
+    let c = file-comes x after core file t k in
+    ap (λ (l : List ℕ). range l (x .area .at .0) (x .area .size)) (c .last)
+    ∙ stores-image (x .area) (storesOf (x .area) (x .tables) (x .ios) file) core h (c .inside) z

@@ -1,0 +1,180 @@
+-- The image that a program file defines, from its blocks, the area and the two lists alone: the label's counts, the program blocks cut
+-- into pieces, the stores in order, and of each word the last store that reaches it. No loader, no desk and no stage in it.
+use Prim.Native.Nat.{ℕ, zero, suc, _+_, _-_}
+use mathlib.Core.Bool.{Bool, true, false, cond, _&&_, _||_}
+use mathlib.Core.List.{List, [], _∷_, _++_}
+use lib.ListN.{length, getD, drop}
+use lib.Dec.{eqb, leb, ltb}
+use Rattle.word.specs.Lists.{tab}
+use Rattle.word.specs.Sorts.{absoluteOf}
+use Rattle.word.specs.declared.Absolute.{Absolute}
+use Rattle.word.specs.declared.Area.{Area}
+use Rattle.label.specs.declared.Label.{Label}
+use Rattle.label.specs.declared.LabelRead.{LabelRead}
+use Rattle.label.specs.declared.LabelRead.the-variants.{Good as label-read, Bad as no-label}
+use Rattle.label.specs.Label.{labelOf, nearCount, ioCount}
+use Rattle.modification.specs.Entries.{entryBlocks}
+use Rattle.program.specs.declared.Bank.{Bank}
+use Rattle.program.specs.declared.Segment.{Segment}
+use Rattle.program.specs.declared.SegmentRead.{SegmentRead}
+use Rattle.program.specs.declared.SegmentRead.the-variants.{Good as segment-read, Bad as no-segment}
+use Rattle.program.specs.declared.TableSection.{TableSection}
+use Rattle.program.specs.declared.TableSectionRead.{TableSectionRead}
+use Rattle.program.specs.declared.TableSectionRead.the-variants.{Good as section-read, Bad as no-section}
+use Rattle.program.specs.declared.Group.{Group}
+use Rattle.program.specs.declared.GroupRead.{GroupRead}
+use Rattle.program.specs.declared.GroupRead.the-variants.{Good as group-read, Bad as no-group}
+use Rattle.program.specs.Sections.{segmentOf, tableSectionOf}
+use Rattle.program.specs.Groups.{groupOf}
+use Rattle.program.specs.Start.{startOf}
+use Rattle.lists.specs.declared.Table.{Table as CoreTable}
+use Rattle.lists.specs.Obey.{noTable}
+use Rattle.field.specs.Field.{Assignments}
+use Rattle.group.specs.declared.Home.{Home}
+use Rattle.group.specs.declared.Home.the-variants.{At, Outside}
+use Rattle.group.specs.declared.Section.{Section}
+use Rattle.group.specs.declared.Section.the-variants.{Segment as InSegment, Table as InTable}
+use Rattle.group.specs.Group.{Words, changedWords, wordsIn, bitsIn, homeOf}
+use Rattle.group.specs.Group.Words.{Become, Refuse}
+
+-- ---- the pieces of a program block. A word says by its bits 35-34 what it heads: 10 a group, 01 a table section, zeros the segment section,
+-- of four words.
+pub data Head : Type 0 where
+  SegmentHead : Segment → Head
+  TableHead : TableSection → Head
+  GroupHead : Group → Head
+  NoHead : Head
+
+abbrev pub byGroup : GroupRead → Head → Head
+byGroup (group-read g) else = GroupHead g
+byGroup (no-group f) else = else
+
+abbrev pub bySection : TableSectionRead → Head → Head
+bySection (section-read t) else = TableHead t
+bySection (no-section f) else = else
+
+abbrev pub bySegment : SegmentRead → Head
+bySegment (segment-read g) = SegmentHead g
+bySegment (no-segment f) = NoHead
+
+unfoldable pub headAt : List ℕ → ℕ → Head
+headAt block i =
+    byGroup (groupOf (getD block i 0))
+    (bySection (tableSectionOf (getD block i 0))
+    (bySegment (segmentOf (getD block i 0) (getD block (i + 1) 0))))
+
+-- the head that stands at a place of a block
+pub record Piece : Type 0 where
+  pub block : List ℕ
+  pub at : ℕ
+  pub head : Head
+
+-- the place after it
+abbrev pub after : ℕ → Head → ℕ
+after i (SegmentHead g) = i + 4
+after i (TableHead t) = i + 1
+after i (GroupHead g) = i + 1 + g .words
+after i NoHead = i
+
+abbrev pub pieceThen : List ℕ → ℕ → Head → List Piece → List Piece
+pieceThen block i (SegmentHead g) rest = record { block = block; at = i; head = SegmentHead g } ∷ rest
+pieceThen block i (TableHead t) rest = record { block = block; at = i; head = TableHead t } ∷ rest
+pieceThen block i (GroupHead g) rest = record { block = block; at = i; head = GroupHead g } ∷ rest
+pieceThen block i NoHead rest = []
+
+-- "where an identifier's first word is due, a zero word or the end at word 254 closes the block"; n pieces at most, from place i on
+unfoldable pub piecesFrom : ℕ → List ℕ → ℕ → List Piece
+piecesFrom zero block i = []
+piecesFrom (suc n) block i =
+    cond (leb 255 i || eqb (getD block i 0) 0)
+    []
+    (pieceThen block i (headAt block i) (piecesFrom n block (after i (headAt block i))))
+
+-- from word 1 on; each piece takes a word or more, so 254 are all there can be
+unfoldable pub pieces : List (List ℕ) → List Piece
+pieces [] = []
+pieces (block ∷ blocks) = piecesFrom 254 block 1 ++ pieces blocks
+
+-- ---- the stores
+pub record Store : Type 0 where
+  pub at : ℕ
+  pub words : List ℕ
+
+-- a group whose fields are refused, or that has no home, stores nothing; in a file that is loaded there is none
+abbrev pub wordsOr : Words → List ℕ
+wordsOr (Become vs) = vs
+wordsOr (Refuse f) = []
+
+abbrev pub storeAt : Assignments → List ℕ → ℕ → Group → Home → Store
+storeAt a block i g (At to) = record { at = to .0; words = wordsOr (changedWords a (bitsIn block i g) 0 (wordsIn block i g)) }
+storeAt a block i g Outside = record { at = 0; words = [] }
+
+-- a group of a section: its program words, changed by their indicators, where the section puts them
+unfoldable pub storeOf : Assignments → Section → List ℕ → ℕ → Group → Store
+storeOf a section block i g = storeAt a block i g (homeOf (a .area) section g)
+
+-- before the first head no bank has a word
+abbrev pub noSection : Section
+noSection = InSegment (record {
+  ibank = record { at = record { 0 = 0 }; count = 0 };
+  dbank = record { at = record { 0 = 0 }; count = 0 };
+})
+
+abbrev pub tableSection : Assignments → TableSection → Section
+tableSection a t = InTable (getD (a .tables) (t .number .0) noTable) (t .count)
+
+-- what a piece stores, n sections being still to end; `next` are the stores of the pieces after it
+abbrev pub storesBy : Assignments → ℕ → Section → List ℕ → ℕ → Head → (ℕ → Section → List Store) → List Store
+storesBy a n section block i (SegmentHead g) next = next n (InSegment g)
+storesBy a n section block i (TableHead t) next = next n (tableSection a t)
+storesBy a n section block i (GroupHead g) next = storeOf a section block i g ∷ next (cond (g .last) (n - 1) n) section
+storesBy a n section block i NoHead next = []
+
+-- the groups' stores in order: "bit 17 set on the section's last group"; "After the last section's last group the rest of the block is
+-- disregarded"
+unfoldable pub storesFrom : Assignments → ℕ → Section → List Piece → List Store
+storesFrom a n section [] = []
+storesFrom a n section (p ∷ ps) =
+    cond (eqb n 0) [] (storesBy a n section (p .block) (p .at) (p .head) (λ m s. storesFrom a m s ps))
+
+-- ---- "Where groups overlap, the later word stands": the word at address j is that of the last store that reaches it, and zero where none does
+abbrev pub reaches : Store → ℕ → Bool
+reaches s j = leb (s .at) j && ltb j (s .at + length (s .words))
+
+unfoldable pub reached : List Store → ℕ → Bool
+reached [] j = false
+reached (s ∷ later) j = reached later j || reaches s j
+
+unfoldable pub wordFrom : List Store → ℕ → ℕ
+wordFrom [] j = 0
+wordFrom (s ∷ later) j =
+    cond (reached later j) (wordFrom later j) (cond (reaches s j) (getD (s .words) (j - s .at) 0) 0)
+
+-- ---- the file: "one label, modification blocks, program blocks, one termination block"
+abbrev pub firstBlock : List (List ℕ) → List ℕ
+firstBlock file = getD file 0 []
+
+abbrev pub lastBlock : List (List ℕ) → List ℕ
+lastBlock file = getD file (length file - 1) []
+
+abbrev pub assignmentsOf : Area → List CoreTable → List ℕ → Label → Assignments
+assignmentsOf area tables ios l =
+    record { area = area; tables = tables; ios = ios; near = nearCount l; all = ioCount l }
+
+-- one segment section and as many table sections as the label says
+unfoldable pub storesBeyond : Area → List CoreTable → List ℕ → LabelRead → List (List ℕ) → List Store
+storesBeyond area tables ios (label-read l) file =
+    storesFrom (assignmentsOf area tables ios l) (1 + l .sections) noSection
+    (pieces (drop (1 + entryBlocks (ioCount l) (l .tables)) file))
+storesBeyond area tables ios (no-label f) file = []
+
+unfoldable pub storesOf : Area → List CoreTable → List ℕ → List (List ℕ) → List Store
+storesOf area tables ios file = storesBeyond area tables ios (labelOf (firstBlock file)) file
+
+-- the area's words
+unfoldable pub imageOf : Area → List CoreTable → List ℕ → List (List ℕ) → List ℕ
+imageOf area tables ios file = tab (λ k. wordFrom (storesOf area tables ios file) (area .at .0 + k)) (area .size)
+
+-- "Termination: word 1 bits 15-0 give the start, relative to the Program Name": moved by the area's address
+abbrev pub fileStart : Area → List (List ℕ) → Absolute
+fileStart area file = absoluteOf area (startOf (lastBlock file))
