@@ -1,6 +1,5 @@
 -- `clamp::clamp_feed` meets its contract: each return by the tests that led to it. Assumes nothing.
 use mathlib.Core.Path.{ap, _∙_}
-use denote.Ref.{now}
 use Rattle.answer.specs.Answer.{packed}
 use Rattle.feed.proofs.Fed.{feed-small}
 use borrow.Author.Needs.{needs}
@@ -11,9 +10,7 @@ feed-block-requires : tie.Need-feed-block-requires
 feed-block-requires c κs = search needs
 
 pack-requires : tie.Need-pack-requires
-pack-requires c κs =
-    let a = c .before .before .before .before .before .before .before .before .before .before .args in
-    rw (c .before .before .before .before .feed-block .ensures .told) (feed-small (now (a .desk)) (now (a .core)) (now (a .block)) (a .room) (a .place))
+pack-requires c κs = rw (c .before .before .before .before .feed-block .ensures .told) (feed-small _ _ _ _ _)
 
 same-length : tie.Need-same-length
 same-length c = search needs

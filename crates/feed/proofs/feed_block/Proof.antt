@@ -1,3 +1,4 @@
+-- `feed::feed_block` meets its contract: each return by the tests that led to it. Assumes nothing.
 use mathlib.Core.Path.{refl, sym, _∙_}
 use native.Mathlib.Omega.{arith}
 use borrow.Author.Tests.{not-true, not-false, eq-eqb, ne-eqb, lt-leb, le-leb}
@@ -36,7 +37,7 @@ unfolding feedOf
 returns-3 c = rw (sym (c .before .before .before .before .is-sound .ensures) ∙ not-false _ (c .before .before .before .if1 .left), eq-eqb _ _ (c .before .if2 .left), lt-leb _ _ (c .if3 .taken)) (record { told = refl; desk-left = refl; core-left = refl })
 
 holds-place-requires : tie.Need-holds-place-requires
-holds-place-requires c κs = (sound-long _ (sym (c .before .before .before .before .before .is-sound .ensures) ∙ not-false _ (c .before .before .before .before .if1 .left)), c .before .if3 .left)
+holds-place-requires c κs = (sound-long _ (sym (c .before .before .before .before .before .is-sound .ensures) ∙ not-false _ (c .before .before .before .before .if1 .left)), omega (arith, c .before .if3 .left))
 
 same-length-4 : tie.Need-same-length-4
 same-length-4 c = search needs

@@ -1,3 +1,4 @@
+-- `feed::feed_held` meets its contract: each return by the tests that led to it. Assumes nothing.
 use Rattle.feed.proofs.Fed.{verdict-pass}
 use mathlib.Core.Path.{refl, sym, _∙_}
 use Rattle.desk.proofs.Facts.{sound-long}

@@ -1,3 +1,4 @@
+-- `feed::load_step` meets its contract: each return by the tests that led to it. Assumes nothing.
 use mathlib.Core.Path.{refl, sym, _∙_}
 use borrow.Author.Tests.{not-true, not-false}
 use Rattle.feed.specs.Block.{blockStep}

@@ -1,3 +1,4 @@
+-- `feed::settle` meets its contract: each return by the tests that led to it. Assumes nothing.
 use Rattle.feed.specs.Feed.{settledOf}
 use mathlib.Core.Path.{refl}
 use borrow.Author.Needs.{needs}

@@ -1,3 +1,4 @@
+-- `feed::take_block` meets its contract: each return by the tests that led to it. Assumes nothing.
 use Rattle.feed.proofs.Held.{held-inside, held-waits}
 use Rattle.feed.proofs.Fed.{taken-met}
 use native.Mathlib.Omega.{arith}
