@@ -1,12 +1,29 @@
 -- The demands, proved: each has the type that specs/Demands.antt states for it. Assumes nothing.
 use Rattle.feed.proofs.Blocked.{block-laws}
 use Rattle.feed.proofs.Fed.{feed-sound, feed-long}
-use Rattle.demands.specs.Demands.{Demand2, Demand2Outside, Demand3Orders, Demand3Turns, Demand3Rooms}
+use Rattle.demands.specs.Demands.{Demand1One, Demand1Number, Demand1Unchanged, Demand1Broken, Demand1Sound, Demand2, Demand2Outside, Demand3Orders, Demand3Turns, Demand3Images, Demand3Rooms}
+use Rattle.demands.proofs.Refused as refused
 use Rattle.demands.proofs.Imaged.{image-is}
 use Rattle.demands.proofs.Lives as lives
 use Rattle.demands.proofs.Untouched as untouched
 use Rattle.demands.proofs.Frames as frames
+use Rattle.demands.proofs.AnyOrder as any-order
 use Rattle.demands.proofs.Served as served
+
+pub demand-1-one : Demand1One
+demand-1-one = refused.one
+
+pub demand-1-number : Demand1Number
+demand-1-number = refused.number
+
+pub demand-1-unchanged : Demand1Unchanged
+demand-1-unchanged = refused.unchanged
+
+pub demand-1-broken : Demand1Broken
+demand-1-broken = refused.broken
+
+pub demand-1-sound : Demand1Sound
+demand-1-sound = refused.sound-kept
 
 pub demand-2 : Demand2
 demand-2 = lives.demand-2 block-laws feed-sound image-is
@@ -19,6 +36,9 @@ demand-3-orders = frames.demand-3-orders block-laws feed-sound
 
 pub demand-3-turns : Demand3Turns
 demand-3-turns = frames.demand-3-turns block-laws feed-sound
+
+pub demand-3-images : Demand3Images
+demand-3-images = any-order.demand-3-images demand-1-sound demand-2 demand-3-orders
 
 pub demand-3-rooms : Demand3Rooms
 demand-3-rooms = served.demand-3-rooms (λ d core block r p s e. feed-sound d core block r p s) (λ d core block r p s e. feed-long d core block r p)

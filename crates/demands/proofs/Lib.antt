@@ -19,4 +19,6 @@ pub mod Starts
 pub mod Feeds
 pub mod Lives
 pub mod Untouched
+pub mod Refused
+pub mod AnyOrder
 pub mod Demands

@@ -24,7 +24,6 @@ use Rattle.step.specs.Due.{isOver}
 use Rattle.sections.specs.Load.{Load}
 use Rattle.layout.specs.declared.Place.{Place}
 use Rattle.layout.specs.Layout.{placeIn, holderOf, ownOf, stageIn, holders}
-use Rattle.desk.specs.Sound.{sound}
 use Rattle.rooms.specs.Rooms.{lowestFree}
 use Rattle.answer.specs.Answer.{valueOf}
 use Rattle.answer.specs.declared.Answer.{Answer}
@@ -50,12 +49,13 @@ use Rattle.demands.proofs.Feeds.{cond-same, place-of, sort-call, Quiet,
 use Rattle.demands.proofs.Calls.{area-inside, granted-ready, call-ready}
 
 -- ---- a load that is answered `done`: what it would take by itself, from waiting for g with the core as it is
-pub record Ends (x : Load) (g : Stage) (core : List ℕ) (file : List (List ℕ)) (s : State) (a : Absolute) : Type 0 where
+pub record Ends (x : Load) (g : Stage) (core : List ℕ) (file : List (List ℕ)) (s : State) (a : Absolute) (others : List Absolute) : Type 0 where
   pub left : List ℕ
   pub takes : Takes x g core file Complete left
   pub area : range (s .core) (x .area .at .0) (x .area .size) ≡ range left (x .area .at .0) (x .area .size)
   pub some : 0 < length file
   pub start : a ≡ fileStart (x .area) file
+  pub once : others ≡ []
 
 last-later : (b : List ℕ) (file : List (List ℕ)) → 0 < length file → lastBlock (b ∷ file) ≡ lastBlock file
 last-later b [] h = absurd (omega arith)
@@ -66,12 +66,16 @@ abbrev first-of : (d : Absolute) → List Absolute → Absolute
 first-of d [] = d
 first-of d (x ∷ xs) = x
 
+abbrev rest-of : List Absolute → List Absolute
+rest-of [] = []
+rest-of (x ∷ xs) = xs
+
 module _ (laws : BlockLaws) (kept : FeedKeeps) (r p : ℕ) (x : Load) (a : Absolute) (others : List Absolute) where
   abbrev Life : List Call → Type 0
   Life cs =
       (s : State) (core : List ℕ) (g : Stage) → Ready s → holderOf (placeIn (s .desk) p) ≡ r + 1
       → loadIn (placeIn (s .desk) p) ≡ x → stageIn (placeIn (s .desk) p) ≡ g → Holds x core → Alike x (s .core) core
-      → released r p (told cs s) ≡ false → starts r p (told cs s) ≡ a ∷ others → Ends x g core (taken r p (told cs s)) (run call cs s) a
+      → released r p (told cs s) ≡ false → starts r p (told cs s) ≡ a ∷ others → Ends x g core (taken r p (told cs s)) (run call cs s) a others
 
   -- the block is taken
   module _ (cs : List Call) (next : Life cs) (s : State) (core : List ℕ) (g : Stage) (k : Ready s) (h : holderOf (placeIn (s .desk) p) ≡ r + 1)
@@ -124,7 +128,7 @@ module _ (laws : BlockLaws) (kept : FeedKeeps) (r p : ℕ) (x : Load) (a : Absol
     Ending o =
         released r p (told cs (leftBy o)) ≡ false
         → startsIn r p (Feed r p block) (o .answer) (starts r p (told cs (leftBy o))) ≡ a ∷ others
-        → Ends x g core (takenIn r p (Feed r p block) (o .answer) (taken r p (told cs (leftBy o)))) (run call cs (leftBy o)) a
+        → Ends x g core (takenIn r p (Feed r p block) (o .answer) (taken r p (told cs (leftBy o)))) (run call cs (leftBy o)) a others
 
     -- the place with another stage, and any core
     module _ (t : Stage) (m : List ℕ) (ready : Ready (record { desk = staged (s .desk) p t; core = m })) where
@@ -139,7 +143,7 @@ module _ (laws : BlockLaws) (kept : FeedKeeps) (r p : ℕ) (x : Load) (a : Absol
       quiet-n o q = quiet laws kept r p cs n ready holder-n (rw (staged-stage (s .desk) (k .desk) p in-p t) o) q
 
       next-n : Holds x alone → Alike x m alone → released r p (told cs n) ≡ false → starts r p (told cs n) ≡ a ∷ others
-          → Ends x t alone (taken r p (told cs n)) (run call cs n) a
+          → Ends x t alone (taken r p (told cs n)) (run call cs n) a others
       next-n =
           next n alone t ready holder-n (staged-load (s .desk) (k .desk) p in-p t ∙ lx) (staged-stage (s .desk) (k .desk) p in-p t)
 
@@ -156,8 +160,8 @@ module _ (laws : BlockLaws) (kept : FeedKeeps) (r p : ℕ) (x : Load) (a : Absol
     alone-says : (g′ : Step) → Says g′ → blockStep x g block core .step ≡ g′
     alone-says g′ e = laws .same-step x g block core (s .core) fit hc inside ∙ e
 
-    more-ends : (t : Stage) (m : State) → Says (step-more t) → Ends x t alone (taken r p (told cs m)) (run call cs m) a
-        → Ends x g core (takenIn r p (Feed r p block) More (taken r p (told cs m))) (run call cs m) a
+    more-ends : (t : Stage) (m : State) → Says (step-more t) → Ends x t alone (taken r p (told cs m)) (run call cs m) a others
+        → Ends x g core (takenIn r p (Feed r p block) More (taken r p (told cs m))) (run call cs m) a others
     unfolding Takes
     more-ends t m e y =
         rw (eq-eqb r r refl, eq-eqb p p refl) (record {
@@ -166,19 +170,21 @@ module _ (laws : BlockLaws) (kept : FeedKeeps) (r p : ℕ) (x : Load) (a : Absol
           area = y .area;
           some = omega arith;
           start = y .start ∙ rw (last-later block (taken r p (told cs m)) (y .some));
+          once = y .once;
         })
 
-    done-ends : (b : Absolute) (m : State) → Says (step-done b) → taken r p (told cs m) ≡ [] → a ≡ b
+    done-ends : (b : Absolute) (m : State) → Says (step-done b) → taken r p (told cs m) ≡ [] → a ≡ b → others ≡ []
         → range (run call cs m .core) (x .area .at .0) (x .area .size) ≡ range after (x .area .at .0) (x .area .size)
-        → Ends x g core (takenIn r p (Feed r p block) (Done b) (taken r p (told cs m))) (run call cs m) a
+        → Ends x g core (takenIn r p (Feed r p block) (Done b) (taken r p (told cs m))) (run call cs m) a others
     unfolding Takes
-    done-ends b m e q i w =
+    done-ends b m e q i o w =
         rw (eq-eqb r r refl, eq-eqb p p refl, q) (record {
           left = alone;
           takes = (over, rw (alone-says (step-done b) e) (refl, refl));
           area = w ∙ words-alike;
           some = omega arith;
           start = i ∙ done-start x block g (s .core) b e;
+          once = o;
         })
 
     ending : (g′ : Step) → Says g′ → Ready (leftBy (settledOf (s .desk) (s .core) p (x .area) g′ after))
@@ -190,13 +196,13 @@ module _ (laws : BlockLaws) (kept : FeedKeeps) (r p : ℕ) (x : Load) (a : Absol
         let n = quiet-n Complete after y (unfold isOver in refl) q in
         let st : b ∷ starts r p (told cs (record { desk = staged (s .desk) p Complete; core = after })) ≡ a ∷ others =
         rw (eq-eqb r r refl, eq-eqb p p refl) at z in
-        done-ends b _ e (n .none) (sym (ap (first-of a) st)) (words-n Complete after y n)
+        done-ends b _ e (n .none) (sym (ap (first-of a) st)) (sym (ap rest-of st) ∙ n .no-start) (words-n Complete after y n)
     ending (step-refused f) e y q z =
         let n = quiet-n Broken _ y (unfold isOver in refl) q in
         absurd (omega (arith, ap length (sym (n .no-start) ∙ sym (cond-same (eqb r r && eqb p p) _) ∙ z)))
 
     fed-ends : released r p (told (Feed r p block ∷ cs) s) ≡ false → starts r p (told (Feed r p block ∷ cs) s) ≡ a ∷ others
-        → Ends x g core (taken r p (told (Feed r p block ∷ cs) s)) (run call (Feed r p block ∷ cs) s) a
+        → Ends x g core (taken r p (told (Feed r p block ∷ cs) s)) (run call (Feed r p block ∷ cs) s) a others
     unfolding told released starts taken run call answerTo
     fed-ends =
         subst Ending (sym out)
@@ -213,7 +219,7 @@ module _ (laws : BlockLaws) (kept : FeedKeeps) (r p : ℕ) (x : Load) (a : Absol
   abbrev EndsWith : List Call → State → List ℕ → Stage → Call → Type 0
   EndsWith cs s core g c =
       released r p (told (c ∷ cs) s) ≡ false → starts r p (told (c ∷ cs) s) ≡ a ∷ others
-      → Ends x g core (taken r p (told (c ∷ cs) s)) (run call (c ∷ cs) s) a
+      → Ends x g core (taken r p (told (c ∷ cs) s)) (run call (c ∷ cs) s) a others
 
   pub lives : (cs : List Call) → Life cs
   unfolding told released starts taken run
@@ -257,7 +263,7 @@ module _ (laws : BlockLaws) (kept : FeedKeeps) (image-is : ImageIs) where
         (after : List Call) (a : Absolute) (others : List Absolute)
         → released r p (told after (leftBy o)) ≡ false → starts r p (told after (leftBy o)) ≡ a ∷ others
         → (range (run call after (leftBy o) .core) (area .at .0) (area .size) ≡ imageOf area (tablesOf tables) ios (taken r p (told after (leftBy o))))
-        × (a ≡ fileStart area (taken r p (told after (leftBy o))))
+        × ((a ≡ fileStart area (taken r p (told after (leftBy o)))) × (others ≡ []))
 
     granted-whole : Granted (s .desk) (s .core) r area ios tables
         → Whole (lowestFree (holders (s .desk))) (opened (s .desk) (s .core) r area ios tables)
@@ -276,7 +282,7 @@ module _ (laws : BlockLaws) (kept : FeedKeeps) (image-is : ImageIs) where
         (opened-stage d (g .desk) r area ios tables (g .room) (g .given) (g .fit) (g .obey))
         h (λ j b e. refl) q z in (
           y .area ∙ image-is x core (y .left) _ h (lists-obey area ios tables (g .obey) .inside) (cleared-zero (s .core) _ _ i) (y .takes),
-          y .start,
+          (y .start, y .once),
         )
 
     open-whole : (p : ℕ) → answerTo (Open r area ios tables) s ≡ Opened p → Whole p (openOf (s .desk) (s .core) r area ios tables)

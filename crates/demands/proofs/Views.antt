@@ -23,7 +23,6 @@ use Rattle.layout.specs.Layout.{base, placeIn, holderOf, ownOf, stageIn, iosIn,
 use Rattle.layout.proofs.Places.{place-length, written-length, place-written, place-kept}
 use Rattle.desk.specs.Sound.{sound}
 use Rattle.desk.proofs.Facts.{sound-long}
-use Rattle.calls.specs.Release.{holds}
 use Rattle.feed.specs.Feed.{loadBy, loadIn, staged}
 use Rattle.demands.specs.History.{State}
 use Rattle.demands.proofs.Held.{areaOf, held-apart}

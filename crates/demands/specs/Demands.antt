@@ -3,19 +3,23 @@
 use Prim.Native.Nat.{ℕ, _+_, _≤_, _<_, min}
 use mathlib.Core.Path.{_≡_}
 use mathlib.Core.Bool.{true, false}
-use mathlib.Core.List.{List, [], _∷_}
+use mathlib.Core.List.{List, [], _∷_, _++_}
 use lib.ListN.{length, getD}
 use Rattle.word.specs.Fault.{fault}
 use Rattle.word.specs.Lists.{range}
-use Rattle.word.specs.Runs.{Apart}
 use Rattle.word.specs.declared.Absolute.{Absolute}
 use Rattle.word.specs.declared.Area.{Area}
+use Rattle.word.specs.declared.Fault.{Fault}
 use Rattle.lists.specs.Obey.{tablesOf}
-use Rattle.layout.specs.Layout.{coreLength, placeIn, ownOf}
+use Rattle.stage.specs.declared.Stage.the-variants.{Broken}
+use Rattle.layout.specs.Layout.{coreLength, base, placeIn, ownOf, stageIn}
 use Rattle.desk.specs.Sound.{sound}
+use Rattle.answer.specs.Answer.{packed, Small}
 use Rattle.answer.specs.declared.Answer.{Answer}
 use Rattle.answer.specs.declared.Answer.the-variants.{Refused, Made, Opened}
+use Rattle.calls.specs.Outcome.{Outcome}
 use Rattle.calls.specs.Make.{makeOf}
+use Rattle.clamp.specs.Told.{Told as ToldC}
 use Rattle.demands.specs.Image.{imageOf, fileStart}
 use Rattle.demands.specs.Orders.{run, only, answersOf, inTurn}
 use Rattle.demands.specs.History.{State, Call, answerTo, call, Told, told, taken, starts, released}
@@ -31,8 +35,56 @@ pub record Ready (s : State) : Type 0 where
   pub desk : sound (s .desk) ≡ true
   pub core : length (s .core) ≡ coreLength (s .desk)
 
+-- a core word outside an area
+abbrev pub Outside : Area → ℕ → Type 0
+Outside area j = area .at .0 ≤ j → j < area .at .0 + area .size → ⊥
+
+-- ---- Demand 1, one outcome: "it is proved that two outcomes meeting it are equal". `ToldC` is the form of every exported contract.
+abbrev pub Demand1One : Type 0
+Demand1One =
+    (o : Outcome) (r q : ℕ) (d e core other : List ℕ) → ToldC o r d core → ToldC o q e other → (r ≡ q) × ((d ≡ e) × (core ≡ other))
+
+-- the number that C is told tells the answer: each call's answer is small, and two small answers with one number are one
+abbrev pub Demand1Number : Type 0
+Demand1Number =
+    ((d : List ℕ) (n : ℕ) (m : List ℕ) → Small (makeOf d n m .answer))
+    × (((c : Call) (s : State) → Small (answerTo c s))
+    × ((a b : Answer) → Small a → Small b → packed a ≡ packed b → a ≡ b))
+
+-- "Refusals 1 to 12 change nothing": with any numbers, lists, desk and core. Make gives 1 to 3 alone.
+abbrev pub Demand1Unchanged : Type 0
+Demand1Unchanged =
+    ((d : List ℕ) (n : ℕ) (m : List ℕ) (f : Fault) → makeOf d n m .answer ≡ Refused f → (f .number ≤ 3) × (makeOf d n m .desk ≡ d))
+    × ((c : Call) (s : State) (f : Fault) → answerTo c s ≡ Refused f → f .number ≤ 12 → call c s ≡ s)
+
+-- "Refusals 13 to 22 set the whole area to zero and mark the load broken": nothing else changes, in the core or on the desk, where the stage of
+-- place p is the nine numbers from base p + 6 on
+pub record BrokenOff (p : ℕ) (area : Area) (s after : State) : Type 0 where
+  pub inside : area .at .0 + area .size ≤ length (s .core)
+  pub zeros : (j : ℕ) → area .at .0 ≤ j → j < area .at .0 + area .size → getD (after .core) j 0 ≡ 0
+  pub beside : (j : ℕ) → Outside area j → getD (after .core) j 0 ≡ getD (s .core) j 0
+  pub core-long : length (after .core) ≡ length (s .core)
+  pub stage : stageIn (placeIn (after .desk) p) ≡ Broken
+  pub others : (i : ℕ) → (base p + 6 ≤ i → i < base p + 15 → ⊥) → getD (after .desk) i 0 ≡ getD (s .desk) i 0
+  pub desk-long : length (after .desk) ≡ length (s .desk)
+
+-- feed alone gives them
+abbrev pub Demand1Broken : Type 0
+Demand1Broken =
+    ((s : State) (r p : ℕ) (block : List ℕ) (f : Fault) → answerTo (Feed r p block) s ≡ Refused f → 13 ≤ f .number
+    → (f .number ≤ 22) × BrokenOff p (ownOf (placeIn (s .desk) p) .area) s (call (Feed r p block) s))
+    × (((s : State) (r : ℕ) (area : Area) (ios tables : List ℕ) (f : Fault) → answerTo (Open r area ios tables) s ≡ Refused f → f .number ≤ 8)
+    × ((s : State) (n r p : ℕ) (f : Fault) → answerTo (Release n r p) s ≡ Refused f → f .number ≤ 9))
+
+-- "A fresh desk is sound, and each call keeps it so."
+abbrev pub Demand1Sound : Type 0
+Demand1Sound =
+    ((d core m : List ℕ) → makeOf d (length core) m .answer ≡ Made → Ready (fresh d core m))
+    × ((c : Call) (s : State) → Ready s → Ready (call c s))
+
 -- ---- Demand 2. After any calls on a made desk a load is opened, and any calls follow among which its place is not released: if one of them
--- answered `done`, the area holds the image of the blocks that the load accepted, and the start is the file's own, moved by the area's address.
+-- answered `done`, the area holds the image of the blocks that the load accepted, the start is the file's own, moved by the area's address, and
+-- no other was answered so.
 abbrev pub Demand2 : Type 0
 Demand2 =
     (d core m : List ℕ) → makeOf d (length core) m .answer ≡ Made
@@ -44,12 +96,9 @@ Demand2 =
     → starts r p ts ≡ a ∷ others
     → (range (run call after (call (Open r area ios tables) s) .core) (area .at .0) (area .size)
     ≡ imageOf area (tablesOf tables) ios (taken r p ts))
-    × (a ≡ fileStart area (taken r p ts))
+    × ((a ≡ fileStart area (taken r p ts)) × (others ≡ []))
 
 -- a load's own calls change no core word outside its area: open, its feeds, its release
-abbrev pub Outside : Area → ℕ → Type 0
-Outside area j = area .at .0 ≤ j → j < area .at .0 + area .size → ⊥
-
 abbrev pub Demand2Outside : Type 0
 Demand2Outside =
     (s : State) (j : ℕ)
@@ -87,6 +136,26 @@ Demand3Turns =
     (s : State) → Ready s → (es : List Fed)
     → (run feed es s ≡ run feed (inTurn loadOf 13 es) s)
     × ((p : ℕ) → answersOf loadOf feed fedAnswer p es s ≡ answersOf loadOf feed fedAnswer p (inTurn loadOf 13 es) s)
+
+-- "Demand 3 speaks of demand 2's images": a load is opened after any calls on a made desk, any calls follow, and then feeds of any loads. If it
+-- was answered `done`, its area holds its image also where the feeds come in another order that keeps each load's own.
+abbrev pub feeds : List Fed → List Call
+feeds [] = []
+feeds (e ∷ es) = Feed (e .room) (e .place) (e .block) ∷ feeds es
+
+abbrev pub Demand3Images : Type 0
+Demand3Images =
+    (d core m : List ℕ) → makeOf d (length core) m .answer ≡ Made
+    → (before between : List Call) (es fs : List Fed) (r p : ℕ) (area : Area) (ios tables : List ℕ) (s : State) (ts : List Told) (a : Absolute)
+    (others : List Absolute)
+    → s ≡ run call before (fresh d core m)
+    → answerTo (Open r area ios tables) s ≡ Opened p
+    → ts ≡ told (between ++ feeds es) (call (Open r area ios tables) s)
+    → released r p ts ≡ false
+    → starts r p ts ≡ a ∷ others
+    → ((q : ℕ) → only loadOf q es ≡ only loadOf q fs)
+    → range (run call (between ++ feeds fs) (call (Open r area ios tables) s) .core) (area .at .0) (area .size)
+    ≡ imageOf area (tablesOf tables) ios (taken r p ts)
 
 -- ---- Demand 3, of the rooms: after any calls on a made desk, with F and H counted from the grants and releases
 pub record Counted (ts : List Told) (s : State) (r : ℕ) : Type 0 where

@@ -1,7 +1,7 @@
 -- Who holds how many places, counted from the grants and releases of a history alone, not from the desk's numbers: "Say F places are free
 -- and H rooms hold none".
 use Prim.Native.Nat.{ℕ, zero, suc, _+_, _-_}
-use mathlib.Core.Bool.{Bool, cond}
+use mathlib.Core.Bool.{cond}
 use mathlib.Core.List.{List, [], _∷_}
 use lib.Dec.{eqb}
 use Rattle.answer.specs.declared.Answer.{Answer}

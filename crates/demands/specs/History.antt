@@ -1,5 +1,5 @@
 -- A history of calls on one desk and one core, and what can be told of it from the calls and their answers alone.
-use Prim.Native.Nat.{ℕ, _+_, _-_}
+use Prim.Native.Nat.{ℕ}
 use mathlib.Core.Bool.{Bool, true, false, cond, _&&_}
 use mathlib.Core.List.{List, [], _∷_}
 use lib.Dec.{eqb}
@@ -7,7 +7,6 @@ use Rattle.word.specs.declared.Absolute.{Absolute}
 use Rattle.word.specs.declared.Area.{Area}
 use Rattle.answer.specs.declared.Answer.{Answer}
 use Rattle.answer.specs.declared.Answer.the-variants.{Refused, Made, Opened, More, Done, Released}
-use Rattle.calls.specs.Outcome.{Outcome}
 use Rattle.calls.specs.Open.{openOf}
 use Rattle.calls.specs.Release.{releaseOf}
 use Rattle.feed.specs.Feed.{feedOf}

@@ -1,7 +1,7 @@
 -- The image that a program file defines, from its blocks, the area and the two lists alone: the label's counts, the program blocks cut
 -- into pieces, the stores in order, and of each word the last store that reaches it. No loader, no desk and no stage in it.
 use Prim.Native.Nat.{ℕ, zero, suc, _+_, _-_}
-use mathlib.Core.Bool.{Bool, true, false, cond, _&&_, _||_}
+use mathlib.Core.Bool.{Bool, false, cond, _&&_, _||_}
 use mathlib.Core.List.{List, [], _∷_, _++_}
 use lib.ListN.{length, getD, drop}
 use lib.Dec.{eqb, leb, ltb}
@@ -14,7 +14,6 @@ use Rattle.label.specs.declared.LabelRead.{LabelRead}
 use Rattle.label.specs.declared.LabelRead.the-variants.{Good as label-read, Bad as no-label}
 use Rattle.label.specs.Label.{labelOf, nearCount, ioCount}
 use Rattle.modification.specs.Entries.{entryBlocks}
-use Rattle.program.specs.declared.Bank.{Bank}
 use Rattle.program.specs.declared.Segment.{Segment}
 use Rattle.program.specs.declared.SegmentRead.{SegmentRead}
 use Rattle.program.specs.declared.SegmentRead.the-variants.{Good as segment-read, Bad as no-segment}

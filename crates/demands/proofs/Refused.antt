@@ -1,0 +1,219 @@
+-- Demand 1: one outcome, told by one number; what a refusal leaves; and soundness, kept by every call. Assumes nothing.
+use Prim.Native.Nat.{ℕ, _+_, _≤_, _/_, _%_, _^_}
+use mathlib.Core.Path.{_≡_, refl, sym, ap, ap₂, _∙_}
+use mathlib.Core.Bool.{true, false, cond}
+use mathlib.Core.List.{List, []}
+use native.Mathlib.Omega.{arith}
+use lib.ListN.{length}
+use lib.Dec.{eqb, leb}
+use borrow.Author.Tests.{ne-eqb}
+use Rattle.word.specs.Fault.{fault}
+use Rattle.word.specs.declared.Area.{Area}
+use Rattle.word.specs.declared.Fault.{Fault}
+use Rattle.word.proofs.Cases.{both}
+use Rattle.word.proofs.Lists.{length-splice}
+use Rattle.word.proofs.Stretch.{length-cleared, getD-cleared-beside, getD-splice-beside}
+use Rattle.stage.specs.declared.Stage.the-variants.{Broken}
+use Rattle.stage.specs.Stage.{numbersOf}
+use Rattle.map.specs.Map.{mapOf, mapObeys}
+use Rattle.rooms.specs.Rooms.{held, free, idle, placeRefusal}
+use Rattle.lists.specs.Obey.{listsObey}
+use Rattle.layout.specs.Layout.{deskWords, coreLength, base, placeIn, ownOf, stageIn, holders}
+use Rattle.desk.specs.Sound.{coreFits, sound}
+use Rattle.desk.proofs.Facts.{sound-long}
+use Rattle.answer.specs.Answer.{codeOf, valueOf, packed, Small}
+use Rattle.answer.specs.declared.Answer.{Answer}
+use Rattle.answer.specs.declared.Answer.the-variants.{Refused, Made, Opened, More, Done, Released}
+use Rattle.answer.proofs.Packed.{packed-apart}
+use Rattle.calls.specs.Outcome.{Outcome}
+use Rattle.calls.specs.Make.{makeOf}
+use Rattle.calls.specs.Open.{areaFits, opened, grantOf, openOf}
+use Rattle.calls.specs.Release.{holds, releaseOf}
+use Rattle.calls.proofs.Made.{make-small}
+use Rattle.calls.proofs.Opened.{open-small}
+use Rattle.calls.proofs.Freed.{release-small}
+use Rattle.feed.specs.Feed.{loadIn, staged, wiped, feedOf}
+use Rattle.feed.proofs.Blocked.{block-laws}
+use Rattle.feed.proofs.Fed.{holds-place, feed-cases, feed-sound, feed-small}
+use Rattle.feed.proofs.Held.{held-inside}
+use Rattle.feed.proofs.Wiped.{getD-cleared-in}
+use Rattle.demands.specs.History.{State, Call, answerTo, call}
+use Rattle.demands.specs.History.Call.{Open, Feed, Release}
+use Rattle.demands.specs.Demands.{BrokenOff, Demand1One, Demand1Number, Demand1Unchanged, Demand1Broken, Demand1Sound}
+use Rattle.demands.proofs.Views.{numbers-nine, outside-beside, staged-stage}
+use Rattle.demands.proofs.Reach.{leftBy}
+use Rattle.demands.proofs.Calls.{call-ready}
+use Rattle.demands.proofs.Served.{made-ready}
+
+pub one : Demand1One
+one o r q d e core other p t = (p .told ∙ sym (t .told), (p .desk-left ∙ sym (t .desk-left), p .core-left ∙ sym (t .core-left)))
+
+-- ---- the answer, read back from its code and value
+abbrev answerOf : ℕ → ℕ → Answer
+answerOf c v =
+    cond (eqb c 64) Made
+    (cond (eqb c 65) (Opened v)
+    (cond (eqb c 66) More
+    (cond (eqb c 67) (Done (record { 0 = v }))
+    (cond (eqb c 68) Released
+    (Refused (fault c))))))
+
+answer-back : (a : Answer) → Small a → answerOf (codeOf a) (valueOf a) ≡ a
+answer-back (Refused f) h =
+    let ne : (n : ℕ) → 64 ≤ n → eqb (f .number) n ≡ false = λ n k. ne-eqb (f .number) n (λ z. omega arith) in
+    rw (ne 64 (omega arith), ne 65 (omega arith), ne 66 (omega arith), ne 67 (omega arith), ne 68 (omega arith))
+answer-back Made h = refl
+answer-back (Opened p) h = refl
+answer-back More h = refl
+answer-back (Done a) h = refl
+answer-back Released h = refl
+
+one-number : (a b : Answer) → Small a → Small b → packed a ≡ packed b → a ≡ b
+one-number a b h k e =
+    let x = packed-apart a h in
+    let y = packed-apart b k in
+    sym (answer-back a h)
+    ∙ ap₂ answerOf (sym (x .0) ∙ ap (λ (n : ℕ). n / 2 ^ 32) e ∙ y .0) (sym (x .1) ∙ ap (λ (n : ℕ). n % 2 ^ 32) e ∙ y .1)
+    ∙ answer-back b k
+
+each-small : (c : Call) (s : State) → Small (answerTo c s)
+unfolding answerTo
+each-small (Open r a ios tables) s = open-small (s .desk) (s .core) r a ios tables
+each-small (Feed r p block) s = feed-small (s .desk) (s .core) block r p
+each-small (Release n r p) s = release-small (s .desk) n r p
+
+pub number : Demand1Number
+number = (make-small, (each-small, one-number))
+
+-- ---- an outcome that, where it is refused, is refused with n at most, and leaves desk and core as they were
+abbrev Refuses : ℕ → List ℕ → List ℕ → Outcome → Type 0
+Refuses n d core o = (f : Fault) → o .answer ≡ Refused f → (f .number ≤ n) × ((o .desk ≡ d) × (o .core ≡ core))
+
+-- the number of a refusal
+same-fault : {m : ℕ} {f : Fault} → _≡_ {A = Answer} (Refused (fault m)) (Refused f) → m ≡ f .number
+same-fault q = ap codeOf q
+
+refuses : (n m : ℕ) (d core : List ℕ) → m ≤ n → Refuses n d core (record { answer = Refused (fault m); desk = d; core = core })
+refuses n m d core h f q = (omega (arith, same-fault q), (refl, refl))
+
+make-refuses : (d : List ℕ) (n : ℕ) (m : List ℕ) → Refuses 3 d [] (makeOf d n m)
+unfolding makeOf
+make-refuses d n m =
+    let P = Refuses 3 d [] in
+    both P (eqb (length d) deskWords)
+    (both P (coreFits n)
+    (both P (eqb (length m) 16)
+    (both P (mapObeys n (mapOf m)) (λ f q. let z : _≡_ {A = ℕ} 0 1 = cc in absurd (omega arith)) (refuses 3 3 d [] (omega arith)))
+    (refuses 3 3 d [] (omega arith)))
+    (refuses 3 2 d [] (omega arith)))
+    (refuses 3 1 d [] (omega arith))
+
+abbrev AtMostSix : ℕ → Type 0
+AtMostSix n = n ≤ 6
+
+refusal-most : (r : ℕ) (l : List ℕ) → placeRefusal r l ≤ 6
+unfolding placeRefusal
+refusal-most r l =
+    both AtMostSix (leb 2 (held r l)) (omega arith)
+    (both AtMostSix (eqb (held r l) 1) (both AtMostSix (leb (free l) (idle l)) (omega arith) (omega arith)) (omega arith))
+
+open-refuses : (d core : List ℕ) (r : ℕ) (a : Area) (ios tables : List ℕ) → Refuses 8 d core (openOf d core r a ios tables)
+unfolding openOf grantOf opened
+open-refuses d core r a ios tables =
+    let P = Refuses 8 d core in
+    both P (sound d)
+    (both P (eqb (length core) (coreLength d))
+    (both P (leb r 7)
+    (both P (eqb (placeRefusal r (holders d)) 0)
+    (both P (areaFits d r a)
+    (both P (listsObey a ios tables) (λ f q. let z : _≡_ {A = ℕ} 0 1 = cc in absurd (omega arith)) (refuses 8 8 d core (omega arith)))
+    (refuses 8 7 d core (omega arith)))
+    (refuses 8 (placeRefusal r (holders d)) d core (omega (arith, refusal-most r (holders d)))))
+    (refuses 8 4 d core (omega arith)))
+    (refuses 8 2 d core (omega arith)))
+    (refuses 8 1 d core (omega arith))
+
+release-refuses : (d : List ℕ) (n r p : ℕ) → Refuses 9 d [] (releaseOf d n r p)
+unfolding releaseOf
+release-refuses d n r p =
+    let P = Refuses 9 d [] in
+    both P (sound d)
+    (both P (eqb n (coreLength d))
+    (both P (leb r 7)
+    (both P (holds d r p) (λ f q. let z : _≡_ {A = ℕ} 0 1 = cc in absurd (omega arith)) (refuses 9 9 d [] (omega arith)))
+    (refuses 9 4 d [] (omega arith)))
+    (refuses 9 2 d [] (omega arith)))
+    (refuses 9 1 d [] (omega arith))
+
+-- ---- a feed that is refused: up to 12 nothing changes, from 13 on the load is broken off
+same-state : (s t : State) → t .desk ≡ s .desk → t .core ≡ s .core → t ≡ s
+same-state s t d c = λ i. record { desk = d i; core = c i }
+
+module _ (s : State) (r p : ℕ) (block : List ℕ) where
+  abbrev area : Area
+  area = ownOf (placeIn (s .desk) p) .area
+
+  abbrev Breaks : Outcome → Type 0
+  Breaks o =
+      (f : Fault) → o .answer ≡ Refused f
+      → (f .number ≤ 12 → leftBy o ≡ s) × (13 ≤ f .number → (f .number ≤ 22) × BrokenOff p area s (leftBy o))
+
+  none-breaks : (n : ℕ) → n ≤ 12 → Breaks (record { answer = Refused (fault n); desk = s .desk; core = s .core })
+  none-breaks n h f q = (λ k. refl, λ k. absurd (omega (arith, same-fault q)))
+
+  module _ (ok : sound (s .desk) ≡ true) (e : length (s .core) ≡ coreLength (s .desk)) (h : holds (s .desk) r p ≡ true) where
+    in-core : area .at .0 + area .size ≤ length (s .core)
+    unfolding loadIn
+    in-core = let k = holds-place (s .desk) r p h in rw e (held-inside (s .desk) ok p (k .0) (k .1))
+
+    in-desk : base p + 6 + length (numbersOf Broken) ≤ length (s .desk)
+    in-desk = omega (arith, holds-place (s .desk) r p h .0, sound-long (s .desk) ok, numbers-nine Broken)
+
+    broken-off : BrokenOff p area s (record { desk = staged (s .desk) p Broken; core = wiped area (s .core) })
+    broken-off =
+        let k = holds-place (s .desk) r p h in
+        let n = numbers-nine Broken in record {
+          inside = in-core;
+          zeros = λ j a b. getD-cleared-in (s .core) _ _ j in-core a b;
+          beside = λ j o. getD-cleared-beside (s .core) _ _ j in-core (outside-beside j _ _ o);
+          core-long = length-cleared (s .core) _ _ in-core;
+          stage = staged-stage (s .desk) ok p (k .0) Broken;
+          others = unfold staged in (λ i o. getD-splice-beside (s .desk) (base p + 6) (numbersOf Broken) i in-desk
+              (outside-beside i _ _ (λ a b. o a (omega arith))));
+          desk-long = unfold staged in (length-splice (s .desk) (base p + 6) (numbersOf Broken) in-desk);
+        }
+
+  feed-breaks : Breaks (feedOf (s .desk) (s .core) r p block)
+  unfolding loadIn
+  feed-breaks =
+      feed-cases (s .desk) (s .core) block r p Breaks none-breaks
+      (λ t ok e h q f z. let y : _≡_ {A = ℕ} 0 1 = cc in absurd (omega arith))
+      (λ a ok e h q f z. let y : _≡_ {A = ℕ} 0 1 = cc in absurd (omega arith))
+      (λ g ok e h q f z.
+      let w = block-laws .faults (loadIn (placeIn (s .desk) p)) (stageIn (placeIn (s .desk) p)) block (s .core) g q in
+      let i : g .number ≡ f .number = ap codeOf z in
+      (λ k. absurd (omega arith), λ k. (omega arith, broken-off ok e h)))
+
+-- ---- the statements
+kept : (c : Call) (s : State) (f : Fault) → answerTo c s ≡ Refused f → f .number ≤ 12 → call c s ≡ s
+unfolding answerTo call
+kept (Open r a ios tables) s f q h =
+    let k = open-refuses (s .desk) (s .core) r a ios tables f q .1 in same-state s _ (k .0) (k .1)
+kept (Feed r p block) s f q h = feed-breaks s r p block f q .0 h
+kept (Release n r p) s f q h = same-state s _ (release-refuses (s .desk) n r p f q .1 .0) refl
+
+pub unchanged : Demand1Unchanged
+unchanged = (λ d n m f q. let k = make-refuses d n m f q in (k .0, k .1 .0), kept)
+
+pub broken : Demand1Broken
+unfolding answerTo call
+broken = (
+  λ s r p block f q h. feed-breaks s r p block f q .1 h,
+  (
+    λ s r area ios tables f q. open-refuses (s .desk) (s .core) r area ios tables f q .0,
+    λ s n r p f q. release-refuses (s .desk) n r p f q .0,
+  ),
+)
+
+pub sound-kept : Demand1Sound
+sound-kept = (made-ready, call-ready block-laws feed-sound)

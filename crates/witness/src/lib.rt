@@ -1,0 +1,1 @@
+// The demands are not empty: whole lives of loads, computed from the definitions. No code.
