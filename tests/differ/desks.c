@@ -59,7 +59,7 @@ void step_desk_length(void) {
 void step_any_desk(void) {
   uint64_t *desk = lend(&lent_other, desk_words);
   for (uint64_t i = 0; i < desk_words; i++)
-    desk[i] = any(&chance) >> below(&chance, 64);
+    desk[i] = any_size(&chance);
   must_refuse("any desk", desk, desk_words, between(&chance, OPEN, RELEASE));
 }
 
@@ -75,10 +75,20 @@ static bool is_answer_of(uint64_t which, uint64_t answer) {
   return code == RELEASED && value == 0;
 }
 
+/* Where a number is to be changed: anywhere, or where one is not 0, for many numbers of a desk are not in use. */
+static uint64_t any_number_at(const uint64_t *desk) {
+  uint64_t at = below(&chance, desk_words);
+  if (one_in(&chance, 3))
+    return at;
+  for (uint64_t i = 0; i < desk_words && desk[at] == 0; i++)
+    at = (at + 1) % desk_words;
+  return at;
+}
+
 /* The desk in use with one number changed. Whether it is sound then only the proved loader can tell: so it is only looked at
    whether it answers, and whether a refusal changes nothing. Then desk and core are set back. */
 void step_changed_desk(void) {
-  uint64_t which = between(&chance, OPEN, RELEASE), at = below(&chance, desk_words), *desk = lent_desk.start, answer;
+  uint64_t which = between(&chance, OPEN, RELEASE), *desk = lent_desk.start, at = any_number_at(desk), answer;
   uint64_t changed = desk[at] ^ (one_in(&chance, 2) ? (uint64_t)1 << below(&chance, 40) : any(&chance));
   desk[at] = changed;
   answer = call_on(desk, desk_words, which);

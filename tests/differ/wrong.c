@@ -15,7 +15,7 @@ static uint64_t odd_number(void) {
   case 0:
     return bound - 1;
   case 1:
-    return any(&chance) >> below(&chance, 64);
+    return any_size(&chance);
   default:
     return bound + below(&chance, 2);
   }

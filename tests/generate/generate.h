@@ -19,6 +19,7 @@ struct chance {
 };
 
 uint64_t any(struct chance *chance);                                    /* any 64-bit number */
+uint64_t any_size(struct chance *chance);                               /* a number of any size up to that */
 uint64_t below(struct chance *chance, uint64_t bound);                  /* 0 to bound - 1; bound is at least 1 */
 uint64_t between(struct chance *chance, uint64_t least, uint64_t most); /* least to most */
 bool one_in(struct chance *chance, uint64_t count);                     /* true once in so many times */

@@ -14,6 +14,11 @@ uint64_t any(struct chance *chance) {
   return mixed ^ mixed >> 31;
 }
 
+uint64_t any_size(struct chance *chance) {
+  unsigned shift = (unsigned)below(chance, 64);
+  return any(chance) >> shift;
+}
+
 uint64_t below(struct chance *chance, uint64_t bound) {
   return any(chance) % bound;
 }
