@@ -1,6 +1,6 @@
 /* How the cost of a call grows with what is in use on the desk: a release that is refused with 9 tests the whole desk and does
-   nothing else. Prints nanoseconds a call, the least of many batches, for desks of 0 to 12 loads of 0 to 128 tables each; then open
-   and release of a load with full lists. Run by bench/run. */
+   nothing else. Prints nanoseconds of processor time a call, the least of many batches, for desks of 0 to 12 loads of 0 to 128
+   tables each; then open and release of a load with full lists. Run by bench/run. */
 #include "clamp.h"
 #include <stdint.h>
 #include <stdio.h>
@@ -11,7 +11,7 @@ static uint64_t desk[4096], core[65536], io[128], tables[256];
 
 static double now(void) {
   struct timespec t;
-  clock_gettime(CLOCK_MONOTONIC, &t);
+  clock_gettime(CLOCK_PROCESS_CPUTIME_ID, &t);
   return t.tv_sec * 1e9 + t.tv_nsec;
 }
 

@@ -1,0 +1,30 @@
+/* file.h: a program file to measure with. Its program block fills words 1 to 254 with one group that is not its section's last, so
+   that the load waits for the same after the block as before it: the block can be fed again and again, and is accepted each time. */
+
+#ifndef FILE_H
+#define FILE_H
+
+#include <stdint.h>
+
+/* No half changed; each right half of type 000; each half changed, by all the types that are carried in turn. */
+enum shape { PLAIN, RIGHT, DENSE, SHAPES };
+
+/* How many entries the file has: of type 2, of type 3 and of type 12. */
+struct entries {
+  uint64_t channels, units, tables;
+};
+
+enum { AREA_WORDS = 4096, TABLES_FROM = 3072, HEADS_MOST = 5 };
+
+void write_label_block(uint64_t *block, struct entries entries);
+void write_entries_block(uint64_t *block);
+unsigned entries_blocks(struct entries entries);
+void write_segment_block(uint64_t *block); /* the IBANK is words 0 to TABLES_FROM - 1 of the area */
+unsigned write_group_block(uint64_t *block, enum shape shape, struct entries entries); /* gives its program words */
+void write_last_block(uint64_t *block);    /* the section's last group, of one word */
+void write_termination_block(uint64_t *block);
+
+/* The lists for open: every I/O number is 3, and the tables are of 8 words each. */
+void write_lists(uint64_t *io, uint64_t *tables, struct entries entries, uint64_t area, int falling);
+
+#endif
