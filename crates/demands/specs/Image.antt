@@ -1,5 +1,7 @@
 -- The image that a program file defines, from its blocks, the area and the two lists alone: the label's counts, the program blocks cut
--- into pieces, the stores in order, and of each word the last store that reaches it. No loader, no desk and no stage in it.
+-- into pieces, the stores in order, and of each word the last store that reaches it. No loader, no desk and no stage in it. Of the
+-- modification blocks only the number matters here: their words hold the lengths of the tables, and a file whose lengths are not met
+-- is refused with 16.
 use Prim.Native.Nat.{ℕ, zero, suc, _+_, _-_}
 use mathlib.Core.Bool.{Bool, false, cond, _&&_, _||_}
 use mathlib.Core.List.{List, [], _∷_, _++_}
