@@ -28,10 +28,10 @@ use Rattle.desk.proofs.Facts.{sound-fair}
 use Rattle.calls.proofs.Opened.{open-sound}
 use Rattle.feed.specs.Feed.{feedOf}
 use Rattle.demands.specs.Orders.{run}
-use Rattle.demands.specs.History.{State, Call, answerTo, call, Told, told}
+use Rattle.demands.specs.History.{State, fresh, Call, answerTo, call, Told, told}
 use Rattle.demands.specs.History.Call.{Open, Feed, Release}
 use Rattle.demands.specs.Grants.{grantIn, releaseIn, grants, releases, heldBy, freePlaces, idleRooms}
-use Rattle.demands.specs.Demands.{fresh, Ready, Counted, Demand3Rooms}
+use Rattle.demands.specs.Demands.{Ready, Counted, Demand3Rooms}
 use Rattle.demands.proofs.Counting.{free-told, idle-told, place-free, gives-five, gives-six, given-five, given-six}
 use Rattle.demands.proofs.Granted.{open-counts, open-fits, release-counts, release-core, feed-same}
 

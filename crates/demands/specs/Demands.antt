@@ -4,9 +4,9 @@ use Prim.Native.Nat.{ℕ, _+_, _≤_, _<_, min}
 use mathlib.Core.Path.{_≡_}
 use mathlib.Core.Bool.{true, false}
 use mathlib.Core.List.{List, [], _∷_, _++_}
-use lib.ListN.{length, getD}
+use lib.ListN.{length, getD, replicate}
 use Rattle.word.specs.Fault.{fault}
-use Rattle.word.specs.Lists.{range}
+use Rattle.word.specs.Lists.{range, splice, cleared}
 use Rattle.word.specs.declared.Absolute.{Absolute}
 use Rattle.word.specs.declared.Area.{Area}
 use Rattle.word.specs.declared.Fault.{Fault}
@@ -16,19 +16,16 @@ use Rattle.layout.specs.Layout.{coreLength, base, placeIn, ownOf, stageIn}
 use Rattle.desk.specs.Sound.{sound}
 use Rattle.answer.specs.Answer.{packed, Small}
 use Rattle.answer.specs.declared.Answer.{Answer}
-use Rattle.answer.specs.declared.Answer.the-variants.{Refused, Made, Opened}
+use Rattle.answer.specs.declared.Answer.the-variants.{Refused, Made, Opened, More, Done}
 use Rattle.calls.specs.Outcome.{Outcome}
 use Rattle.calls.specs.Make.{makeOf}
 use Rattle.clamp.specs.Told.{Told as ToldC}
 use Rattle.demands.specs.Image.{imageOf, fileStart}
 use Rattle.demands.specs.Orders.{run, only, answersOf, inTurn}
-use Rattle.demands.specs.History.{State, Call, answerTo, call, Told, told, taken, starts, released}
+use Rattle.demands.specs.History.{State, fresh, Call, answerTo, call, Told, told, taken, starts, released}
 use Rattle.demands.specs.History.Call.{Open, Feed, Release}
 use Rattle.demands.specs.Grants.{heldBy, freePlaces, idleRooms}
-
--- a made desk, with its core
-abbrev pub fresh : List ℕ → List ℕ → List ℕ → State
-fresh d core m = record { desk = makeOf d (length core) m .desk; core = core }
+use Rattle.demands.specs.Examples.{oldCore, oneRoom, twoRooms, madeWith, answersIn, deckLife, byTurns, oneBroken}
 
 -- a sound desk, and a core of its length
 pub record Ready (s : State) : Type 0 where
@@ -179,3 +176,15 @@ abbrev pub Demand3Rooms : Type 0
 Demand3Rooms =
     (d core m : List ℕ) → makeOf d (length core) m .answer ≡ Made → (cs : List Call) (r : ℕ) → r < 8
     → Counted (told cs (fresh d core m)) (run call cs (fresh d core m)) r
+
+-- ---- Not empty: the lives of specs/Examples.antt, computed whole (`not-empty`, crate witness). The hand deck; two rooms by turns; a broken
+-- load beside a completed one.
+pub record NotEmpty : Type 0 where
+  pub deck : answersIn (told deckLife (madeWith oneRoom)) ≡ Opened 0 ∷ More ∷ More ∷ Done (record { 0 = 512 }) ∷ []
+  pub deck-left : run call deckLife (madeWith oneRoom) .core ≡ splice oldCore 512 (519 ∷ replicate 63 0)
+  pub turns : answersIn (told byTurns (madeWith twoRooms))
+      ≡ Opened 0 ∷ Opened 1 ∷ More ∷ More ∷ More ∷ More ∷ Done (record { 0 = 512 }) ∷ Done (record { 0 = 2560 }) ∷ []
+  pub turns-left : run call byTurns (madeWith twoRooms) .core ≡ splice (splice oldCore 512 (519 ∷ replicate 63 0)) 2560 (2567 ∷ replicate 63 0)
+  pub broken : answersIn (told oneBroken (madeWith twoRooms))
+      ≡ Opened 0 ∷ Opened 1 ∷ More ∷ More ∷ More ∷ Refused (fault 13) ∷ More ∷ Refused (fault 10) ∷ Done (record { 0 = 2560 }) ∷ []
+  pub broken-left : run call oneBroken (madeWith twoRooms) .core ≡ splice (cleared oldCore 512 64) 2560 (2567 ∷ replicate 63 0)

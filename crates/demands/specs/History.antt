@@ -2,11 +2,13 @@
 use Prim.Native.Nat.{ℕ}
 use mathlib.Core.Bool.{Bool, true, false, cond, _&&_}
 use mathlib.Core.List.{List, [], _∷_}
+use lib.ListN.{length}
 use lib.Dec.{eqb}
 use Rattle.word.specs.declared.Absolute.{Absolute}
 use Rattle.word.specs.declared.Area.{Area}
 use Rattle.answer.specs.declared.Answer.{Answer}
 use Rattle.answer.specs.declared.Answer.the-variants.{Refused, Made, Opened, More, Done, Released}
+use Rattle.calls.specs.Make.{makeOf}
 use Rattle.calls.specs.Open.{openOf}
 use Rattle.calls.specs.Release.{releaseOf}
 use Rattle.feed.specs.Feed.{feedOf}
@@ -14,6 +16,10 @@ use Rattle.feed.specs.Feed.{feedOf}
 pub record State : Type 0 where
   pub desk : List ℕ
   pub core : List ℕ
+
+-- a made desk, with its core
+abbrev pub fresh : List ℕ → List ℕ → List ℕ → State
+fresh d core m = record { desk = makeOf d (length core) m .desk; core = core }
 
 -- the calls that are made once there is a desk, with any arguments. Release is given the core's length as a number.
 pub data Call : Type 0 where

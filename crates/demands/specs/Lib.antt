@@ -4,4 +4,5 @@ pub mod History
 pub mod Grants
 pub mod Taking
 pub mod HandDeck
+pub mod Examples
 pub mod Demands

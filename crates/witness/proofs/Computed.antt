@@ -46,7 +46,8 @@ use Rattle.demands.specs.HandDeck as deck
 use Rattle.demands.specs.Image.{imageOf, fileStart}
 use Rattle.demands.specs.Orders.{run}
 use Rattle.demands.specs.History.{Call, Told, answerTo, call, told, taken, starts, released}
-use Rattle.witness.specs.Examples.{oldDesk, oldCore, oneRoom, twoRooms, madeWith, answersIn, open0, deckFeeds, deckLife, byTurns, oneBroken}
+use Rattle.demands.specs.Demands.{NotEmpty}
+use Rattle.demands.specs.Examples.{oldDesk, oldCore, oneRoom, twoRooms, madeWith, answersIn, open0, deckFeeds, deckLife, byTurns, oneBroken}
 use Rattle.demands.proofs.Demands.{demand-2}
 
 -- a history, with every definition that computing it opens; a proof that unfolds it opens them all
@@ -118,3 +119,13 @@ broken-answers = refl
 pub broken-core : run call oneBroken (madeWith twoRooms) .core ≡ splice (cleared oldCore 512 64) 2560 (2567 ∷ replicate 63 0)
 unfolding computed
 broken-core = refl
+
+pub not-empty : NotEmpty
+not-empty = record {
+  deck = deck-answers;
+  deck-left = deck-core;
+  turns = turns-answers;
+  turns-left = turns-core;
+  broken = broken-answers;
+  broken-left = broken-core;
+}

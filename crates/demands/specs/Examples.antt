@@ -4,10 +4,9 @@ use mathlib.Core.List.{List, [], _∷_}
 use lib.ListN.{replicate}
 use Rattle.word.specs.declared.Area.{Area}
 use Rattle.answer.specs.declared.Answer.{Answer}
 use Rattle.demands.specs.HandDeck as deck
-use Rattle.demands.specs.History.{State, Call, Told}
+use Rattle.demands.specs.History.{State, fresh, Call, Told}
 use Rattle.demands.specs.History.Call.{Open, Feed}
-use Rattle.demands.specs.Demands.{fresh}
 
 -- what C lends for a desk, and a core of 4,096 words, with something in each
 unfoldable pub oldDesk : List ℕ
