@@ -597,16 +597,21 @@ static bool holds(const struct reader *desk, uint64_t room, uint64_t place) {
   return place < PLACES && desk->places[place].stage != FREE && desk->places[place].room == room;
 }
 
+/* Refusals 2, 4 and 9, which feed and release share; 0 where none is due. */
+static unsigned not_theirs(const struct reader *desk, uint64_t core_length, uint64_t room, uint64_t place) {
+  if (core_length != desk->core_length)
+    return 2;
+  if (room >= ROOMS)
+    return 4;
+  return holds(desk, room, place) ? 0 : 9;
+}
+
 uint64_t reader_feed(struct reader *desk, uint64_t *core, uint64_t core_length, uint64_t room, uint64_t place,
                      const uint64_t *block, uint64_t block_length) {
   struct load *load;
-  unsigned fault;
-  if (core_length != desk->core_length)
-    return refused(2);
-  if (room >= ROOMS)
-    return refused(4);
-  if (!holds(desk, room, place))
-    return refused(9);
+  unsigned fault = not_theirs(desk, core_length, room, place);
+  if (fault != 0)
+    return refused(fault);
   load = &desk->places[place];
   if (load->stage == COMPLETE || load->stage == BROKEN)
     return refused(10);
@@ -628,12 +633,9 @@ uint64_t reader_feed(struct reader *desk, uint64_t *core, uint64_t core_length, 
 
 /* "frees the place and its area, which serve again, and writes no core word" */
 uint64_t reader_release(struct reader *desk, uint64_t core_length, uint64_t room, uint64_t place) {
-  if (core_length != desk->core_length)
-    return refused(2);
-  if (room >= ROOMS)
-    return refused(4);
-  if (!holds(desk, room, place))
-    return refused(9);
+  unsigned fault = not_theirs(desk, core_length, room, place);
+  if (fault != 0)
+    return refused(fault);
   desk->places[place].stage = FREE;
   return answer(RELEASED, 0);
 }
