@@ -86,14 +86,14 @@ pub fn field(w: u64, h: Half) -> u64
     }
 }
 
-// The word with v for the field of a half.
+// The word with v for the field of a half: the old field is taken away and v added, fewer instructions than three parts joined.
 pub fn store_field(w: u64, h: Half, v: u64) -> u64
     requires { ⌜ (w < 2 ^ 36) × (v < 2 ^ 16) ⌝ }
     ensures { λ r. ⌜ r ≡ fieldStored h w v ⌝ }
 {
     match h {
-        Half::Left => w / 17179869184 * 17179869184 + v * 262144 + w % 262144,
-        Half::Right => w / 65536 * 65536 + v,
+        Half::Left => w - w / 262144 % 65536 * 262144 + v * 262144,
+        Half::Right => w - w % 65536 + v,
     }
 }
 

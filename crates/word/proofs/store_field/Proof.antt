@@ -10,23 +10,23 @@ enum-told c = search needs
 mul-result : tie.Need-mul-result
 mul-result c = search needs
 
+sub-result : tie.Need-sub-result
+sub-result c = search needs
+
 mul-result-2 : tie.Need-mul-result-2
 mul-result-2 c = search needs
 
 add-result : tie.Need-add-result
 add-result c = search needs
 
-add-result-2 : tie.Need-add-result-2
-add-result-2 c = search needs
-
 enum-told-2 : tie.Need-enum-told-2
 enum-told-2 c = search needs
 
-mul-result-3 : tie.Need-mul-result-3
-mul-result-3 c = search needs
+sub-result-2 : tie.Need-sub-result-2
+sub-result-2 c = search needs
 
-add-result-3 : tie.Need-add-result-3
-add-result-3 c = search needs
+add-result-2 : tie.Need-add-result-2
+add-result-2 c = search needs
 
 returns : tie.Need-returns
 returns c = rw (c .enum-told .given .1) (omega arith)
@@ -40,11 +40,11 @@ store-field-spec =
     (tie.spec
     enum-told
     mul-result
+    sub-result
     mul-result-2
     add-result
-    add-result-2
     enum-told-2
-    mul-result-3
-    add-result-3
+    sub-result-2
+    add-result-2
     returns
     returns-2)
