@@ -2,7 +2,7 @@
 use mathlib.Core.Path.{_≡_, refl, sym, ap, _∙_}
 use mathlib.Core.Bool.{Bool, false}
 use mathlib.Core.List.{List}
-use mathlib.Core.Logic.{_⊎_}
+use mathlib.Core.Logic.{_⊎_, _≢_}
 use Prim.Native.Nat.{ℕ, _+_, _-_, _<_, _≤_, _^_}
 use native.Mathlib.Omega.{arith}
 use lib.ListN.{length, getD}
@@ -13,7 +13,8 @@ use Rattle.word.specs.declared.Half.{Half}
 use Rattle.word.specs.declared.Half.the-variants.{Left, Right}
 use Rattle.word.specs.declared.Reference.{Reference}
 use Rattle.word.specs.declared.Relative.{Relative}
-use Rattle.word.specs.Word.{part, put, bit, isSet, fieldOf, aField}
+use Rattle.word.specs.Fault.{fault}
+use Rattle.word.specs.Word.{part, put, bit, isSet, lowest, fieldOf, aField}
 use Rattle.word.proofs.Word.{across, across-stored, part-below, part-put, bit-put, stored-word, a-stored-word}
 use Rattle.word.proofs.Cases.{both, when, by-eq}
 use Rattle.lists.specs.declared.Table.{Table}
@@ -21,7 +22,8 @@ use Rattle.lists.specs.Kept.{tableAt, tablesIn}
 use Rattle.lists.proofs.Kept.{tables-at, table-below}
 use Rattle.field.specs.declared.Becomes.{Becomes}
 use Rattle.field.specs.declared.Becomes.the-variants.{Value, Bad}
-use Rattle.field.specs.declared.Changed.the-variants.{Word}
+use Rattle.field.specs.declared.Changed.{Changed}
+use Rattle.field.specs.declared.Changed.the-variants.{Word, Refused}
 use Rattle.field.specs.Field.{Assignments, valued, plusOrMinus, movedField, table, addressOrLength, referred, pair, minusZero, short, long, constant, switch, unit, reference, relative, becomes, lowestOf, widthOf, putBack, fieldStep, Fits}
 
 -- ---- a table of the kept lists
@@ -61,12 +63,17 @@ module _ (ts : List Table) where
   unfolding pair
   pair-fits f = both (Fits 16) (isSet 15 f) tt (both (Fits 16) (ltb (part 0 7 f) (length ts)) (referred-fits false _ _ _) tt)
 
-  pub constant-fits : (f x : ℕ) → Fits 16 (constant ts f x)
-  unfolding constant long short
-  constant-fits f x =
-      both (Fits 16) (isSet 15 f)
-      (both (Fits 16) (ltb (part 0 14 f) 64) tt (both (Fits 16) (isSet 7 x) tt (referred-fits _ _ _ _)))
-      (both (Fits 16) (minusZero (isSet 14 f) (part 0 6 f)) tt (referred-fits _ _ _ _))
+  pub long-fits : (f x : ℕ) → Fits 16 (long ts f x)
+  unfolding long
+  long-fits f x = both (Fits 16) (ltb (part 0 14 f) 64) tt (both (Fits 16) (isSet 7 x) tt (referred-fits _ _ _ _))
+
+  pub short-fits : (f : ℕ) → Fits 16 (short ts f)
+  unfolding short
+  short-fits f = both (Fits 16) (minusZero (isSet 14 f) (part 0 6 f)) tt (referred-fits _ _ _ _)
+
+  constant-fits : (f x : ℕ) → Fits 16 (constant ts f x)
+  unfolding constant
+  constant-fits f x = both (Fits 16) (isSet 15 f) (long-fits f x) (short-fits f)
 
 module _ (ios : List ℕ) (near : ℕ) where
   pub switch-fits : (h : Half) (k : Reference) → Fits 4 (switch ios near h k)
@@ -88,6 +95,36 @@ becomes-fits a h t w x = by-eq t 4
     (both (Fits 16) (eqb t 1) (pair-fits (a .tables) (fieldOf h w))
     (both (Fits 16) (eqb t 2) (constant-fits (a .tables) (fieldOf h w) x)
     (both (Fits 16) (eqb t 7) (unit-fits (a .ios) (a .near) (a .all) (reference (fieldOf h w))) tt)))))
+
+-- ---- an arm of the match over the type, the same for either half: what its calls give is the step of its type
+module _ (a : Assignments) (h : Half) (w x : ℕ) {t f : ℕ} {b : Becomes} {r : Changed}
+    (read : f ≡ fieldOf h w) (back : r ≡ putBack (lowest h) 16 w b) where
+  pub moved-arm : t ≡ 0 → b ≡ movedField (a .area) (relative f) → r ≡ fieldStep a h t w x
+  unfolding fieldStep becomes
+  moved-arm e q = back ∙ rw (q, read, e)
+
+  pub pair-arm : t ≡ 1 → b ≡ pair (a .tables) f → r ≡ fieldStep a h t w x
+  unfolding fieldStep becomes
+  pair-arm e q = back ∙ rw (q, read, e)
+
+  pub long-arm : t ≡ 2 → bit 15 f ≡ 1 → b ≡ long (a .tables) f x → r ≡ fieldStep a h t w x
+  unfolding fieldStep becomes constant
+  long-arm e i q = back ∙ rw (q, e, ← read, i)
+
+  pub short-arm : t ≡ 2 → bit 15 f ≢ 1 → b ≡ short (a .tables) f → r ≡ fieldStep a h t w x
+  unfolding fieldStep becomes constant
+  short-arm e i q = back ∙ rw (q, e, ← read, ne-eqb (bit 15 f) 1 i)
+
+  pub unit-arm : t ≡ 7 → b ≡ unit (a .ios) (a .near) (a .all) (reference f) → r ≡ fieldStep a h t w x
+  unfolding fieldStep becomes
+  unit-arm e q = back ∙ rw (q, read, e)
+
+-- the last arm of the right half refuses type 100, too
+pub right-rest : (a : Assignments) (t w x : ℕ) → t ≢ 0 → t ≢ 1 → t ≢ 2 → t ≢ 7 → Refused (fault 19) ≡ fieldStep a Right t w x
+unfolding fieldStep becomes switch putBack
+right-rest a t w x p q r s = by-eq t 4
+    (λ e. rw e)
+    (λ n. rw (ne-eqb t 0 p, ne-eqb t 1 q, ne-eqb t 2 r, ne-eqb t 4 n, ne-eqb t 7 s))
 
 -- ---- what becomes of the word: u is w with, in its n bits from bit k up, the value that b gives
 pub record Stored (k n w : ℕ) (b : Becomes) (u : ℕ) : Type 0 where

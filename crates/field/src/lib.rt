@@ -2,9 +2,10 @@
 ghost use mathlib.Core.Path.{_≡_};
 ghost use Prim.Native.Nat.{_+_, _<_, _≤_, _^_};
 ghost use lib.ListN.{length, getD};
+ghost use Rattle.word.specs.declared.Half.the-variants.{Left, Right};
 ghost use Rattle.word.specs.Word.{lowest};
 ghost use Rattle.lists.specs.Kept.{numbersIn, tablesIn};
-ghost use Rattle.field.specs.Field.{valued, plusOrMinus, movedField, table, addressOrLength, referred, pair, minusZero, short, long, constant, switch, unit, Fits, putBack, assigned, fieldStep};
+ghost use Rattle.field.specs.Field.{valued, plusOrMinus, movedField, table, addressOrLength, referred, pair, minusZero, short, long, switch, unit, Fits, putBack, assigned, fieldStep};
 use word::Area;
 use word::Fault;
 use word::Half;
@@ -30,31 +31,66 @@ pub struct Setting {
     pub all: u64,
 }
 
-// The word w with the field of half h changed by modification type t; x is the nine more indicator bits of a long type 010.
-pub fn field_step(
+// The word w with its left half, or its right half, changed by modification type t (01, "A match over the three-bit modification
+// type decides field position, form and refusal for each half"); x is the nine more indicator bits of a long type 010. There are
+// two so that the compiler makes each half's code for that half alone.
+pub fn left_step(
     s: Setting,
     words: &[u64],
     ranks: &[u64],
     ios: &[u64],
-    h: Half,
     t: u64,
     w: u64,
     x: u64,
 ) -> Changed
     requires { ⌜ (s .area .at .0 + s .area .size ≤ 65536) × (w < 2 ^ 36) ⌝ }
-    ensures { λ r. ⌜ r ≡ fieldStep (assigned s (now (words .entry)) (now (ranks .entry)) (now (ios .entry))) h t w x ⌝ }
+    ensures { λ r. ⌜ r ≡ fieldStep (assigned s (now (words .entry)) (now (ranks .entry)) (now (ios .entry))) Left t w x ⌝ }
 {
     let area = s.area;
-    let f = word::field(w, h);
+    let f = word::field(w, Half::Left);
     match t {
-        0 => put_back(h, w, moved_field(area, Relative(f))),
-        1 => put_back(h, w, pair_of(words, ranks, area, f)),
-        2 => put_back(h, w, constant_of(words, ranks, area, f, x)),
+        0 => put_back(Half::Left, w, moved_field(area, Relative(f))),
+        1 => put_back(Half::Left, w, pair_of(words, ranks, area, f)),
+        2 => {
+            if f / 32768 % 2 == 1 {
+                return put_back(Half::Left, w, long_of(words, ranks, area, f, x));
+            }
+            put_back(Half::Left, w, short_of(words, ranks, area, f))
+        }
         4 => put_a(
             w,
-            switch_of(ios, s.near, s.all, h, Reference(word::a_field(w))),
+            switch_of(ios, s.near, s.all, Reference(word::a_field(w))),
         ),
-        7 => put_back(h, w, unit_of(ios, s.near, s.all, Reference(f))),
+        7 => put_back(Half::Left, w, unit_of(ios, s.near, s.all, Reference(f))),
+        _ => Changed::Refused(Fault { number: 19 }),
+    }
+}
+
+// The same for the right half, which has no type 100.
+pub fn right_step(
+    s: Setting,
+    words: &[u64],
+    ranks: &[u64],
+    ios: &[u64],
+    t: u64,
+    w: u64,
+    x: u64,
+) -> Changed
+    requires { ⌜ (s .area .at .0 + s .area .size ≤ 65536) × (w < 2 ^ 36) ⌝ }
+    ensures { λ r. ⌜ r ≡ fieldStep (assigned s (now (words .entry)) (now (ranks .entry)) (now (ios .entry))) Right t w x ⌝ }
+{
+    let area = s.area;
+    let f = word::field(w, Half::Right);
+    match t {
+        0 => put_back(Half::Right, w, moved_field(area, Relative(f))),
+        1 => put_back(Half::Right, w, pair_of(words, ranks, area, f)),
+        2 => {
+            if f / 32768 % 2 == 1 {
+                return put_back(Half::Right, w, long_of(words, ranks, area, f, x));
+            }
+            put_back(Half::Right, w, short_of(words, ranks, area, f))
+        }
+        7 => put_back(Half::Right, w, unit_of(ios, s.near, s.all, Reference(f))),
         _ => Changed::Refused(Fault { number: 19 }),
     }
 }
@@ -85,18 +121,7 @@ fn pair_of(words: &[u64], ranks: &[u64], area: Area, f: u64) -> Becomes
     Becomes::Bad(Fault { number: 20 })
 }
 
-// Type 010: long where bit 15 is set.
-fn constant_of(words: &[u64], ranks: &[u64], area: Area, f: u64, x: u64) -> Becomes
-    requires { ⌜ area .at .0 + area .size ≤ 65536 ⌝ }
-    ensures { λ b. ⌜ b ≡ constant (tablesIn area (now (words .entry)) (now (ranks .entry))) f x ⌝ }
-{
-    if f / 32768 % 2 == 1 {
-        return long_of(words, ranks, area, f, x);
-    }
-    short_of(words, ranks, area, f)
-}
-
-// Type 010, short.
+// Type 010, short, with bit 15 zero.
 fn short_of(words: &[u64], ranks: &[u64], area: Area, f: u64) -> Becomes
     requires { ⌜ area .at .0 + area .size ≤ 65536 ⌝ }
     ensures { λ b. ⌜ b ≡ short (tablesIn area (now (words .entry)) (now (ranks .entry))) f ⌝ }
@@ -110,7 +135,7 @@ fn short_of(words: &[u64], ranks: &[u64], area: Area, f: u64) -> Becomes
     refer(words, ranks, area, f / 8192 % 2 == 1, k, minus, amount)
 }
 
-// Type 010, long: the number, and whether its length is meant, are in the nine more bits.
+// Type 010, long, with bit 15 set: the number, and whether its length is meant, are in the nine more bits.
 fn long_of(words: &[u64], ranks: &[u64], area: Area, f: u64, x: u64) -> Becomes
     requires { ⌜ area .at .0 + area .size ≤ 65536 ⌝ }
     ensures { λ b. ⌜ b ≡ long (tablesIn area (now (words .entry)) (now (ranks .entry))) f x ⌝ }
@@ -135,18 +160,13 @@ fn long_of(words: &[u64], ranks: &[u64], area: Area, f: u64, x: u64) -> Becomes
 }
 
 // Type 100: only a left half has it.
-fn switch_of(ios: &[u64], near: u64, all: u64, h: Half, k: Reference) -> Becomes
-    ensures { λ b. ⌜ b ≡ switch (numbersIn (now (ios .entry)) all) near h k ⌝ }
+fn switch_of(ios: &[u64], near: u64, all: u64, k: Reference) -> Becomes
+    ensures { λ b. ⌜ b ≡ switch (numbersIn (now (ios .entry)) all) near Left k ⌝ }
 {
-    match h {
-        Half::Left => {
-            if near <= k.0 {
-                return Becomes::Bad(Fault { number: 20 });
-            }
-            Becomes::Value(io_of(ios, all, k) % 16)
-        }
-        Half::Right => Becomes::Bad(Fault { number: 19 }),
+    if near <= k.0 {
+        return Becomes::Bad(Fault { number: 20 });
     }
+    Becomes::Value(io_of(ios, all, k) % 16)
 }
 
 // Type 111: the numbers of the type 3 entries run from `near` up to `all`.

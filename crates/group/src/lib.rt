@@ -256,7 +256,12 @@ fn half_step(
     if same_in(m) {
         return Changed::Word(w);
     }
-    field::field_step(s, words, ranks, ios, h, type_in(m), w, more_in(m))
+    let t = type_in(m);
+    let x = more_in(m);
+    match h {
+        Half::Left => field::left_step(s, words, ranks, ios, t, w, x),
+        Half::Right => field::right_step(s, words, ranks, ios, t, w, x),
+    }
 }
 
 // Whether an indicator tells no change; its type; its nine bits more.

@@ -1,0 +1,90 @@
+-- `field::right_step` meets its contract: each arm of the match by what its calls give (Field's arms), and what they give fits. Assumes nothing.
+use Rattle.word.specs.declared.Half.the-variants.{Right}
+use Rattle.field.specs.Field.{assigned}
+use Rattle.field.proofs.Field.{moved-fits, pair-fits, long-fits, short-fits, unit-fits, moved-arm, pair-arm, long-arm, short-arm, unit-arm, right-rest}
+use borrow.Author.Needs.{needs}
+use Rattle.field.proofs.right_step.Statement.{statement}
+use Rattle.field.proofs.right_step.Tie as tie
+
+field-requires : tie.Need-field-requires
+field-requires c κs = search needs
+
+moved-field-requires : tie.Need-moved-field-requires
+moved-field-requires c κs = search needs
+
+put-back-requires : tie.Need-put-back-requires
+put-back-requires c κs = (search needs, rw (c .moved-field .ensures) (moved-fits _ _))
+
+pair-of-requires : tie.Need-pair-of-requires
+pair-of-requires c κs = search needs
+
+put-back-requires-2 : tie.Need-put-back-requires-2
+put-back-requires-2 c κs = (search needs, rw (c .pair-of .ensures) (pair-fits _ _))
+
+long-of-requires : tie.Need-long-of-requires
+long-of-requires c κs = search needs
+
+put-back-requires-3 : tie.Need-put-back-requires-3
+put-back-requires-3 c κs = (search needs, rw (c .long-of .ensures) (long-fits _ _ _))
+
+returns : tie.Need-returns
+unfolding assigned
+returns c = let m = c .before .before .before in
+    long-arm _ Right _ _ (m .before .field .ensures) (c .put-back3 .ensures) (m .match .keys3) (c .before .before .if1 .taken) (c .before .long-of .ensures)
+
+short-of-requires : tie.Need-short-of-requires
+short-of-requires c κs = search needs
+
+put-back-requires-4 : tie.Need-put-back-requires-4
+put-back-requires-4 c κs = (search needs, rw (c .short-of .ensures) (short-fits _ _))
+
+unit-of-requires : tie.Need-unit-of-requires
+unit-of-requires c κs = search needs
+
+put-back-requires-5 : tie.Need-put-back-requires-5
+put-back-requires-5 c κs = (search needs, rw (c .unit-of .ensures) (unit-fits _ _ _ _))
+
+returns-2 : tie.Need-returns-2
+unfolding assigned
+returns-2 c = let m = c .before .before in
+    moved-arm _ Right _ _ (m .before .field .ensures) (c .put-back .ensures) (m .match .keys1) (c .before .moved-field .ensures)
+
+returns-3 : tie.Need-returns-3
+unfolding assigned
+returns-3 c = let m = c .before .before in
+    pair-arm _ Right _ _ (m .before .field .ensures) (c .put-back2 .ensures) (m .match .keys2) (c .before .pair-of .ensures)
+
+returns-4 : tie.Need-returns-4
+unfolding assigned
+returns-4 c = let m = c .before .before .before in
+    short-arm _ Right _ _ (m .before .field .ensures) (c .put-back4 .ensures) (m .match .keys3) (c .before .before .if1 .left) (c .before .short-of .ensures)
+
+returns-5 : tie.Need-returns-5
+unfolding assigned
+returns-5 c = let m = c .before .before in
+    unit-arm _ Right _ _ (m .before .field .ensures) (c .put-back5 .ensures) (m .match .keys4) (c .before .unit-of .ensures)
+
+returns-6 : tie.Need-returns-6
+returns-6 c = let m = c .match .rest in right-rest _ _ _ _ (m .0 .0 .0 .1) (m .0 .0 .1) (m .0 .1) (m .1)
+
+pub right-step-spec : {M : Type 1} → statement M
+right-step-spec =
+    tie.close
+    (tie.spec
+    field-requires
+    moved-field-requires
+    put-back-requires
+    pair-of-requires
+    put-back-requires-2
+    long-of-requires
+    put-back-requires-3
+    returns
+    short-of-requires
+    put-back-requires-4
+    unit-of-requires
+    put-back-requires-5
+    returns-2
+    returns-3
+    returns-4
+    returns-5
+    returns-6)
