@@ -5,10 +5,10 @@ use mathlib.Core.List.{List}
 use Prim.Native.Nat.{ℕ, _+_, _-_, _*_, _%_, _^_, _≤_, _<_}
 use native.Mathlib.Nat.{eq-or-lt-of-le, mod-lt}
 use native.Mathlib.Omega.{arith}
-use lib.Dec.{ltb, leb}
+use lib.Dec.{ltb}
 use lib.Pow.{pow-pos, shl-exact}
 use lib.ListN.{getD}
-use borrow.Author.Tests.{eq-eqb, ne-eqb, lt-ltb, le-ltb, ltb-true, ltb-false, leb-true, leb-false}
+use borrow.Author.Tests.{eq-eqb, ne-eqb, lt-ltb, le-ltb, le-leb, lt-leb, ltb-true, ltb-false}
 use Rattle.word.specs.declared.Half.the-variants.{Left, Right}
 use Rattle.word.specs.Word.{fieldOf}
 use Rattle.word.proofs.Cases.{by-lt, both, when}
@@ -16,7 +16,7 @@ use Rattle.indicator.specs.declared.Indicator.{Indicator}
 use Rattle.indicator.specs.Indicator.{InBlock, bitsBefore, indicatorAt, widthOf, afterField, afterWord}
 use Rattle.indicator.proofs.Places.{width-most}
 use Rattle.cursor.specs.declared.Cursor.{Cursor}
-use Rattle.cursor.specs.Cursor.{Sees, lookOf, pastOf, pastField, pastWord, refilled}
+use Rattle.cursor.specs.Cursor.{never, Sees, edgeOf, startOf, lookOf, pastOf, pastField, pastWord, refilled}
 use Rattle.cursor.proofs.Numbers.{N, number-high, number-low, number-one, number-past, number-moved, number-fewer, number-more}
 
 pub past-at-most : (c : Cursor) (f : ℕ) → pastField c f .at ≤ c .at + 13
@@ -29,10 +29,18 @@ past-word-most c w =
     let d = pastField c (fieldOf Left w) in
     omega (arith, past-at-most c (fieldOf Left w), past-at-most d (fieldOf Right w))
 
+edge-some : (n m : ℕ) → m < n → edgeOf n m ≡ 36 * m
+unfolding edgeOf
+edge-some n m l = rw (lt-leb n m l)
+
+edge-all : (n m : ℕ) → n ≤ m → edgeOf n m ≡ never
+unfolding edgeOf
+edge-all n m l = rw (le-leb n m l)
+
 module _ (block : List ℕ) (end n : ℕ) where
-  pub start-sees : Sees block end n (record { at = 0; ahead = 0; words = 0 }) 0
+  pub start-sees : Sees block end n (startOf n) 0
   start-sees =
-      record { few = omega arith; seen = sym (number-past block end 0 0 64 (omega arith)); near = omega arith; room = λ h. omega arith }
+      record { few = omega arith; seen = sym (number-past block end 0 0 64 (omega arith)); near = omega arith; edge = refl; room = λ h. omega arith }
 
   -- past an indicator
   pub past-sees : (c : Cursor) (d : ℕ) (m : Indicator) → Sees block end n c (13 + d) → Sees block end n (pastOf c m) d
@@ -41,6 +49,7 @@ module _ (block : List ℕ) (end n : ℕ) where
     few = s .few;
     seen = rw (s .seen) (number-moved block end (c .words) (c .at) (widthOf m) (s .near));
     near = omega (arith, s .near);
+    edge = s .edge;
     room = λ h. omega (arith, s .room h, width-most m);
   }
 
@@ -94,23 +103,24 @@ module _ (block : List ℕ) (end n : ℕ) where
         rw (shl-exact 36 (c .at + 28 - 36 * c .words) 64 (mod-lt (getD block (end - 1 - c .words) 0) (pow-pos 36)) (omega arith), s .seen)
         (number-more block end (c .words) i (c .at) (36 * c .words - c .at) (c .at + 28 - 36 * c .words) (omega arith) (omega arith))
 
+    -- where the bits at hand do not reach 29 places on, there is a word more
+    pub edge-wants : (c : Cursor) → Sees block end n c 0 → c .at + 28 < never → c .edge ≤ c .at + 28 → (c .words < n) × (36 * c .words ≤ c .at + 28)
+    edge-wants c s h g =
+        by-lt (c .words) n
+        (λ l. let e = s .edge ∙ edge-some n (c .words) l in (l, omega arith))
+        (λ l. let e = s .edge ∙ edge-all n (c .words) l in absurd (omega arith))
+
     -- 26 bits, which is what a program word needs at most
-    pub refill-sees : (c : Cursor) → Sees block end n c 0 → Sees block end n (refilled block end n c) 26
+    pub refill-sees : (c : Cursor) → Sees block end n c 0 → c .at + 28 < never → Sees block end n (refilled block end n c) 26
     unfolding refilled
-    refill-sees c s =
-        when (λ (x : Cursor). Sees block end n x 26) (leb n (c .words))
-        (λ q. record { few = s .few; seen = s .seen; near = s .near; room = λ h. let g = leb-true n (c .words) q in absurd (omega arith) })
-        (λ q.
-        let l = leb-false n (c .words) q in
-        when (λ (x : Cursor). Sees block end n x 26) (ltb (c .at + 28) (36 * c .words))
-        (λ r. record { few = s .few; seen = s .seen; near = s .near; room = λ h. let g = ltb-true (c .at + 28) (36 * c .words) r in omega arith })
+    refill-sees c s k =
+        when (λ (x : Cursor). Sees block end n x 26) (ltb (c .at + 28) (c .edge))
+        (λ r. record { few = s .few; seen = s .seen; near = s .near; edge = s .edge; room = λ h. let g = ltb-true (c .at + 28) (c .edge) r in let e = s .edge ∙ edge-some n (c .words) h in omega arith })
         (λ r.
-        let g = ltb-false (c .at + 28) (36 * c .words) r in
-        let e = s .room l in
-        record { few = omega arith; seen = refill-number c s l g; near = omega arith; room = λ h. omega arith }))
+        let g = edge-wants c s k (ltb-false (c .at + 28) (c .edge) r) in
+        let e = s .room (g .0) in
+        record { few = omega arith; seen = refill-number c s (g .0) (g .1); near = omega arith; edge = refl; room = λ h. omega arith })
 
 pub refill-at : (block : List ℕ) (end n : ℕ) (c : Cursor) → refilled block end n c .at ≡ c .at
 unfolding refilled
-refill-at block end n c =
-    both (λ (x : Cursor). x .at ≡ c .at) (leb n (c .words)) refl
-    (both (λ (x : Cursor). x .at ≡ c .at) (ltb (c .at + 28) (36 * c .words)) refl refl)
+refill-at block end n c = both (λ (x : Cursor). x .at ≡ c .at) (ltb (c .at + 28) (c .edge)) refl refl

@@ -7,7 +7,7 @@ use Prim.Native.Nat.{ℕ, zero, suc, _+_, _-_, _*_, _/_, _≤_, _<_}
 use native.Mathlib.Omega.{arith}
 use lib.Dec.{ltb, eqb}
 use lib.ListN.{length, getD}
-use borrow.Author.Tests.{eq-eqb, ltb-true, ltb-false, eqb-true, eqb-false}
+use borrow.Author.Tests.{eq-eqb, ne-eqb, ltb-true, ltb-false, eqb-true, eqb-false}
 use Rattle.word.specs.Lists.{range}
 use Rattle.word.proofs.Cases.{by-lt, when}
 use Rattle.indicator.specs.Indicator.{InBlock, bitsBefore, indicatorAt, afterField, afterWord, afterAll}
@@ -15,7 +15,7 @@ use Rattle.indicator.proofs.Bits.{bits-past}
 use Rattle.indicator.proofs.Places.{after-all-turn}
 use Rattle.cursor.specs.declared.Cursor.{Cursor}
 use Rattle.cursor.specs.declared.Turn.{Turn}
-use Rattle.cursor.specs.Cursor.{Sees, pastWord, refilled, plainWords, pastPlain, turnOf}
+use Rattle.cursor.specs.Cursor.{never, Sees, pastWord, refilled, plainWords, pastPlain, turnOf}
 use Rattle.cursor.proofs.Numbers.{zero-bits, number-zero, bits-fewer}
 use Rattle.cursor.proofs.Reading.{word-sees, word-past, past-word-most, refill-sees, refill-at}
 
@@ -40,13 +40,17 @@ plain-words c left =
     (λ u. let l = ltb-false k left u in record { fits = omega arith; none = inr (z, omega arith) })))
     (λ q. record { fits = omega arith; none = inl refl })
 
+pub plain-none : (c : Cursor) (left : ℕ) → (c .ahead ≡ 0 → ⊥) → plainWords c left ≡ 0
+unfolding plainWords
+plain-none c left h = rw (ne-eqb (c .ahead) 0 h)
+
 -- two 0s are a word without change
-after-zeros : (bits : List ℕ) (p w : ℕ) → getD bits p 0 ≡ 0 → getD bits (p + 1) 0 ≡ 0 → afterWord bits p w ≡ p + 2
+pub after-zeros : (bits : List ℕ) (p w : ℕ) → getD bits p 0 ≡ 0 → getD bits (p + 1) 0 ≡ 0 → afterWord bits p w ≡ p + 2
 unfolding afterWord afterField indicatorAt
 after-zeros bits p w a b = rw (eq-eqb (getD bits p 0) 0 a, eq-eqb (getD bits (p + 1) 0) 0 b) (omega arith)
 
 -- r such words
-after-all-plain : (bits block : List ℕ) (r p i last : ℕ) → i + r ≤ last → last ≤ length block
+pub after-all-plain : (bits block : List ℕ) (r p i last : ℕ) → i + r ≤ last → last ≤ length block
     → ((q : ℕ) → p ≤ q → q < p + 2 * r → getD bits q 0 ≡ 0)
     → afterAll bits (p + 2 * r) (range block (i + r) (last - (i + r))) ≡ afterAll bits p (range block i (last - i))
 after-all-plain bits block zero p i last h k f =
@@ -77,20 +81,28 @@ module _ (block : List ℕ) (end n : ℕ) (inside : InBlock block end n) (c : Cu
       (λ b. sym (ap (λ (x : ℕ). getD (bitsBefore block end (c .words)) x 0) e) ∙ zero-bits block end (c .words) (c .at) 64 (p - c .at) (sym (s .seen) ∙ z) b)
       (λ g. bits-past block end (c .words) p (omega (arith, s .near)))
 
+  -- r words without change: the bits there are 0s, and the cursor sees on
+  module _ (r : ℕ) (z : c .ahead ≡ 0) (l : c .at + 2 * r ≤ 36 * c .words) where
+    pub plain-bits : (q : ℕ) → c .at ≤ q → q < c .at + 2 * r → getD (bitsBefore block end n) q 0 ≡ 0
+    plain-bits q g u = sym (bits-fewer block end n inside (c .words) q (s .few) (omega arith)) ∙ all-zero z q g
+
+    pub plain-sees : Sees block end n (pastPlain c r) 0
+    plain-sees = record {
+      few = s .few;
+      seen = sym (number-zero block end (c .words) (c .at + 2 * r) 64 (λ q g. all-zero z q (omega arith)));
+      near = omega (arith, s .near);
+      edge = s .edge;
+      room = λ g. omega arith;
+    }
+
   module _ (last i : ℕ) (h : i < last) (k : last ≤ length block) where
     plain-turned : (r : ℕ) → c .ahead ≡ 0 → c .at + 2 * r ≤ 36 * c .words → 0 < r → i + r ≤ last
         → Turned block end n last c i (record { cursor = pastPlain c r; i = i + r })
     plain-turned r z l p f = record {
-      sees = record {
-        few = s .few;
-        seen = sym (number-zero block end (c .words) (c .at + 2 * r) 64 (λ q g. all-zero z q (omega arith)));
-        near = omega (arith, s .near);
-        room = λ g. omega arith;
-      };
+      sees = plain-sees r z l;
       on = omega arith;
       reach = omega arith;
-      left = after-all-plain (bitsBefore block end n) block r (c .at) i last f k
-          (λ q g u. sym (bits-fewer block end n inside (c .words) q (s .few) (omega arith)) ∙ all-zero z q g);
+      left = after-all-plain (bitsBefore block end n) block r (c .at) i last f k (plain-bits r z l);
     }
 
     word-turned : Turned block end n last c i (record { cursor = pastWord c (getD block i 0); i = i + 1 })
@@ -117,10 +129,10 @@ module _ (block : List ℕ) (end n : ℕ) (inside : InBlock block end n) (c : Cu
         (e .none))
 
 -- a turn that takes an indicator word first, where bits are wanting
-pub turn-refilled : (block : List ℕ) (end n : ℕ) → InBlock block end n → (c : Cursor) → Sees block end n c 0 → (last i : ℕ) → i < last → last ≤ length block
+pub turn-refilled : (block : List ℕ) (end n : ℕ) → InBlock block end n → (c : Cursor) → Sees block end n c 0 → c .at + 28 < never → (last i : ℕ) → i < last → last ≤ length block
     → Turned block end n last c i (turnOf block last (refilled block end n c) i)
-turn-refilled block end n inside c s last i h k =
-    let t = turn-turned block end n inside (refilled block end n c) (refill-sees block end n inside c s) last i h k in
+turn-refilled block end n inside c s b last i h k =
+    let t = turn-turned block end n inside (refilled block end n c) (refill-sees block end n inside c s b) last i h k in
     let e = refill-at block end n c in
     record {
       sees = t .sees;

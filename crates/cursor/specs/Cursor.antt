@@ -14,13 +14,26 @@ use Rattle.indicator.specs.Indicator.{bitsBefore, numberAt, widthOf}
 use Rattle.cursor.specs.declared.Cursor.{Cursor}
 use Rattle.cursor.specs.declared.Turn.{Turn}
 
+-- a place that no bits of a group reach
+abbrev pub never : ℕ
+never = 4294967296
+
+-- how far the bits of m of n words reach; where all are taken, further than any place that is asked for
+unfoldable pub edgeOf : ℕ → ℕ → ℕ
+edgeOf n m = cond (leb n m) never (36 * m)
+
 -- the cursor sees the bits of the n words before place `end`: those of the words taken so far, from its place on, and 0s past
 -- them; and unless all n words are taken, d bits at least are there
 pub record Sees (block : List ℕ) (end n : ℕ) (c : Cursor) (d : ℕ) : Type 0 where
   pub few : c .words ≤ n
   pub seen : c .ahead ≡ numberAt (bitsBefore block end (c .words)) (c .at) 64
   pub near : 36 * c .words ≤ c .at + 64
+  pub edge : c .edge ≡ edgeOf n (c .words)
   pub room : c .words < n → c .at + d ≤ 36 * c .words
+
+-- before the first bit of n words
+abbrev pub startOf : ℕ → Cursor
+startOf n = record { at = 0; ahead = 0; words = 0; edge = edgeOf n 0 }
 
 -- the indicator that comes next, of a field that holds f: bit 63 tells a change, bits 62-60 are the type, bits 59-51 the nine more
 unfoldable pub lookOf : ℕ → ℕ → Indicator
@@ -31,7 +44,7 @@ lookOf ahead f =
 
 -- past an indicator; past that of a field that holds f; past a word's two
 unfoldable pub pastOf : Cursor → Indicator → Cursor
-pastOf c m = record { at = c .at + widthOf m; ahead = c .ahead * 2 ^ widthOf m % 2 ^ 64; words = c .words }
+pastOf c m = record { at = c .at + widthOf m; ahead = c .ahead * 2 ^ widthOf m % 2 ^ 64; words = c .words; edge = c .edge }
 
 unfoldable pub pastField : Cursor → ℕ → Cursor
 pastField c f = pastOf c (lookOf (c .ahead) f)
@@ -42,9 +55,13 @@ pastWord c w = pastField (pastField c (fieldOf Left w)) (fieldOf Right w)
 -- one indicator word more, behind the bits at hand, where fewer than 29 of these are left
 unfoldable pub refilled : List ℕ → ℕ → ℕ → Cursor → Cursor
 refilled block end n c =
-    cond (leb n (c .words)) c
-    (cond (ltb (c .at + 28) (36 * c .words)) c
-    (record { at = c .at; ahead = c .ahead + getD block (end - 1 - c .words) 0 % 2 ^ 36 * 2 ^ (c .at + 28 - 36 * c .words) % 2 ^ 64; words = c .words + 1 }))
+    cond (ltb (c .at + 28) (c .edge)) c
+    (record {
+      at = c .at;
+      ahead = c .ahead + getD block (end - 1 - c .words) 0 % 2 ^ 36 * 2 ^ (c .at + 28 - 36 * c .words) % 2 ^ 64;
+      words = c .words + 1;
+      edge = edgeOf n (c .words + 1);
+    })
 
 -- how many of the program words left have no change at a glance: two 0s each, of the bits at hand
 unfoldable pub plainWords : Cursor → ℕ → ℕ
@@ -56,7 +73,7 @@ plainWords c left =
 
 -- past k words without change
 abbrev pub pastPlain : Cursor → ℕ → Cursor
-pastPlain c k = record { at = c .at + 2 * k; ahead = 0; words = c .words }
+pastPlain c k = record { at = c .at + 2 * k; ahead = 0; words = c .words; edge = c .edge }
 
 -- from the program word at place i on: words without change at once, or one word
 unfoldable pub turnOf : List ℕ → ℕ → Cursor → ℕ → Turn

@@ -5,22 +5,48 @@ ghost use Prim.Native.Nat.{_+_, _-_, _*_, _<_, _≤_, _^_};
 ghost use lib.ListN.{length};
 ghost use Rattle.word.specs.Lists.{range};
 ghost use Rattle.indicator.specs.Indicator.{InBlock, bitsBefore, afterAll, justEnough};
-ghost use Rattle.cursor.specs.Cursor.{Sees, lookOf, pastOf, pastField, pastWord, refilled, plainWords, turnOf};
+ghost use Rattle.cursor.specs.Cursor.{never, Sees, edgeOf, startOf, lookOf, pastOf, pastField, pastWord, refilled, plainWords, pastPlain, turnOf};
 use indicator::Indicator;
 use word::Half;
 
 // The place of the next bit; the 64 bits from there on, the first one leftmost, as far as the indicator words taken so far have
-// them; and how many words these are.
+// them; how many words these are; and the edge up to which their bits reach, or a place past every group's bits where no word is
+// left, so that one comparison tells whether a word more is to be taken.
 pub struct Cursor {
     pub at: usize,
     pub ahead: u64,
     pub words: usize,
+    pub edge: usize,
 }
 
 // A cursor, and the place of the next program word.
 struct Turn {
     cursor: Cursor,
     i: usize,
+}
+
+// Before the first bit of n words.
+pub fn start(n: usize) -> Cursor
+    requires { ⌜ 36 * n < 2 ^ 64 ⌝ }
+    ensures { λ r. ⌜ r ≡ startOf n ⌝ }
+{
+    Cursor {
+        at: 0,
+        ahead: 0,
+        words: 0,
+        edge: edge_of(n, 0),
+    }
+}
+
+// The edge where m of n words are taken.
+fn edge_of(n: usize, m: usize) -> usize
+    requires { ⌜ 36 * n < 2 ^ 64 ⌝ }
+    ensures { λ r. ⌜ r ≡ edgeOf n m ⌝ }
+{
+    if n <= m {
+        return 4294967296;
+    }
+    36 * m
 }
 
 // The indicator that comes next, of a field that holds f.
@@ -51,6 +77,7 @@ pub fn pass(c: Cursor, m: Indicator) -> Cursor
         at: c.at + k,
         ahead: c.ahead << k,
         words: c.words,
+        edge: c.edge,
     }
 }
 
@@ -73,15 +100,12 @@ pub fn pass_word(c: Cursor, w: u64) -> Cursor
 
 // One indicator word more where fewer than 29 bits are at hand; a program word's two indicators need 26 at most.
 pub fn refill(block: &[u64], end: usize, n: usize, c: Cursor) -> Cursor
-    requires { ⌜ (InBlock (now block) end n) × (Sees (now block) end n c 0) × (c .at + 64 < 2 ^ 64) ⌝ }
+    requires { ⌜ (InBlock (now block) end n) × (Sees (now block) end n c 0) × (c .at + 28 < never) × (36 * n < 2 ^ 64) ⌝ }
     ensures { λ r. ⌜ r ≡ refilled (now (block .entry)) end n c ⌝ }
 {
     let at = c.at;
     let words = c.words;
-    if n <= words {
-        return c;
-    }
-    if at + 28 < 36 * words {
+    if at + 28 < c.edge {
         return c;
     }
     let w = block[end - 1 - words] % 68719476736;
@@ -89,6 +113,7 @@ pub fn refill(block: &[u64], end: usize, n: usize, c: Cursor) -> Cursor
         at,
         ahead: c.ahead + (w << (at + 28 - 36 * words)),
         words: words + 1,
+        edge: edge_of(n, words + 1),
     }
 }
 
@@ -97,15 +122,28 @@ pub fn unchanged(c: Cursor, left: usize) -> usize
     requires { ⌜ 36 * c .words < 2 ^ 64 ⌝ }
     ensures { λ r. ⌜ r ≡ plainWords c left ⌝ }
 {
-    let got = 36 * c.words;
     if c.ahead != 0 {
         return 0;
     }
+    let got = 36 * c.words;
     if got < c.at {
         return 0;
     }
     let k = (got - c.at) / 2;
     if k < left { k } else { left }
+}
+
+// Past so many words without change.
+pub fn pass_plain(c: Cursor, k: usize) -> Cursor
+    requires { ⌜ c .at + 2 * k < 2 ^ 64 ⌝ }
+    ensures { λ r. ⌜ r ≡ pastPlain c k ⌝ }
+{
+    Cursor {
+        at: c.at + 2 * k,
+        ahead: 0,
+        words: c.words,
+        edge: c.edge,
+    }
 }
 
 // From the program word at place i on: words without change at once, or one word.
@@ -115,12 +153,9 @@ fn move_on(block: &[u64], last: usize, c: Cursor, i: usize) -> Turn
 {
     let k = unchanged(c, last - i);
     if k != 0 {
+        let next = pass_plain(c, k);
         return Turn {
-            cursor: Cursor {
-                at: c.at + 2 * k,
-                ahead: 0,
-                words: c.words,
-            },
+            cursor: next,
             i: i + k,
         };
     }
@@ -137,11 +172,7 @@ pub fn count_fits(block: &[u64], first: usize, last: usize, end: usize, n: usize
     requires { ⌜ (InBlock (now block) end n) × (last ≤ length (now block)) × (length (now block) ≤ 65536) ⌝ }
     ensures { λ r. ⌜ r ≡ justEnough (afterAll (bitsBefore (now (block .entry)) end n) 0 (range (now (block .entry)) first (last - first))) n ⌝ }
 {
-    let mut c = Cursor {
-        at: 0,
-        ahead: 0,
-        words: 0,
-    };
+    let mut c = start(n);
     let mut i = first;
     while i < last {
         let full = refill(block, end, n, c);

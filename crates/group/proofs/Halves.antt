@@ -1,36 +1,53 @@
--- A word's two halves: what the code's loop of two turns gives is what `wordStep` says. Assumes nothing.
-use mathlib.Core.Path.{_≡_, refl, sym, ap, _∙_}
-use mathlib.Core.Bool.{true, false}
+-- A word's two halves: what the code gives, half after half, is what `wordStep` says; and the commonest change at a glance. Assumes
+-- nothing.
+use mathlib.Core.Path.{_≡_, refl, ap, _∙_}
+use mathlib.Core.Bool.{true, false, cond}
 use mathlib.Core.List.{List}
-use Prim.Native.Nat.{ℕ, suc, _+_, _-_, _<_, _≤_, _^_}
+use Prim.Native.Nat.{ℕ, _+_, _*_, _/_, _%_, _<_, _^_}
 use native.Mathlib.Omega.{arith}
-use Rattle.word.specs.declared.Fault.{Fault}
+use lib.Dec.{ltb}
+use borrow.Author.Tests.{lt-ltb, le-ltb, eqb-true}
 use Rattle.word.specs.declared.Half.{Half}
 use Rattle.word.specs.declared.Half.the-variants.{Left, Right}
+use Rattle.word.specs.Fault.{fault}
 use Rattle.word.specs.Word.{fieldOf}
+use Rattle.word.proofs.Cases.{by-lt}
 use Rattle.field.specs.declared.Changed.{Changed}
 use Rattle.field.specs.declared.Changed.the-variants.{Word, Refused}
-use Rattle.field.specs.Field.{Assignments, fieldStep}
-use Rattle.field.proofs.Field.{step-word}
+use Rattle.field.specs.Field.{Assignments, valued, movedField, becomes, putBack, fieldStep}
+use Rattle.field.proofs.Field.{step-word, step-across}
 use Rattle.indicator.specs.declared.Indicator.{Indicator}
 use Rattle.indicator.specs.declared.Indicator.the-variants.{Same, Change, Long}
 use Rattle.indicator.specs.Indicator.{InBlock, bitsBefore}
 use Rattle.cursor.specs.declared.Cursor.{Cursor}
 use Rattle.cursor.specs.Cursor.{Sees, lookOf, pastOf, pastField, pastWord}
 use Rattle.cursor.proofs.Reading.{look-is, field-sees, field-past}
+use Rattle.group.specs.declared.Stepped.{Stepped}
 use Rattle.group.specs.declared.Stepped.the-variants.{Next, Stop}
 use Rattle.group.specs.Group.{halfStep, thenHalf, wordStep}
-use Rattle.group.specs.Turns.{sideOf, sameIn, typeIn, moreIn, onward, halves}
+use Rattle.group.specs.Turns.{sameIn, typeIn, moreIn, onward, halfOf, thenRight, bothOf, isMoved, movedWord}
+
+-- of the bits 01000 the first tells no change, the others type 000
+look-same : (x f : ℕ) → x / 576460752303423488 ≡ 8 → lookOf x f ≡ Same
+unfolding lookOf
+look-same x f e = rw (lt-ltb x 9223372036854775808 (omega arith))
+
+look-moved : (x f : ℕ) → x / 576460752303423488 ≡ 8 → lookOf (x * 2 % 18446744073709551616) f ≡ Change 0
+unfolding lookOf
+look-moved x f e =
+    let y = x * 2 % 18446744073709551616 in
+    let t : y / 1152921504606846976 % 8 ≡ 0 = omega arith in
+    rw (le-ltb y 9223372036854775808 (omega arith), t)
 
 module _ (a : Assignments) where
   -- ---- one half
-  pub half-same : (h : Half) (m : Indicator) (w : ℕ) → sameIn m ≡ true → Word w ≡ halfStep a h m w
+  half-same : (h : Half) (m : Indicator) (w : ℕ) → sameIn m ≡ true → halfStep a h m w ≡ Word w
   unfolding halfStep
   half-same h Same w e = refl
   half-same h (Change t) w e = cc
   half-same h (Long x) w e = cc
 
-  pub half-other : (h : Half) (m : Indicator) (w : ℕ) → sameIn m ≡ false → fieldStep a h (typeIn m) w (moreIn m) ≡ halfStep a h m w
+  half-other : (h : Half) (m : Indicator) (w : ℕ) → sameIn m ≡ false → halfStep a h m w ≡ fieldStep a h (typeIn m) w (moreIn m)
   unfolding halfStep
   half-other h Same w e = cc
   half-other h (Change t) w e = refl
@@ -43,49 +60,80 @@ module _ (a : Assignments) where
   half-word h (Change t) w u b e = step-word a h t w 0 u e b
   half-word h (Long x) w u b e = step-word a h 2 w x u e b
 
-  -- ---- a turn of the loop, each call's result by its own equation
-  module _ (w v : ℕ) (c : Cursor) (h : ℕ) (side : Half) (f : ℕ) (m : Indicator) (r : Changed)
-      (e1 : side ≡ sideOf h) (e2 : f ≡ fieldOf side w) (e3 : m ≡ lookOf (c .ahead) f) (e4 : r ≡ halfStep a side m v) where
-    field-is : f ≡ fieldOf (sideOf h) w
-    field-is = e2 ∙ ap (λ (x : Half). fieldOf x w) e1
+  -- a left half leaves the right field as it is
+  half-across : (m : Indicator) (w u : ℕ) → halfStep a Left m w ≡ Word u → fieldOf Right u ≡ fieldOf Right w
+  unfolding halfStep
+  half-across Same w u e = let q : w ≡ u = cc in rw q
+  half-across (Change t) w u e = step-across a Left t w 0 u e
+  half-across (Long x) w u e = step-across a Left 2 w x u e
 
-    half-is : r ≡ halfStep a (sideOf h) (lookOf (c .ahead) (fieldOf (sideOf h) w)) v
-    half-is = e4 ∙ rw (e3, field-is, e1)
+  -- the code's two ways: no change, or a field step; m is the indicator that comes next
+  module _ (h : Half) (w f : ℕ) (c : Cursor) (m : Indicator) (e : f ≡ fieldOf h w) (k : m ≡ lookOf (c .ahead) f) where
+    pub half-stays : (d : Cursor) → sameIn m ≡ true → d ≡ pastOf c m → Next w d ≡ halfOf a h w c
+    unfolding halfOf pastField
+    half-stays d q p = rw (← e, ← k, half-same h m w q, p)
 
-    pub halves-turn : (u : ℕ) (d : Cursor) → h < 2 → r ≡ Word u → d ≡ pastOf c m → halves a (2 - h) w v c ≡ halves a (2 - (h + 1)) w u d
-    unfolding halves pastField
-    halves-turn u d l q e =
-        let k : 2 - h ≡ suc (1 - h) = omega arith in
-        let j : 1 - (1 - h) ≡ h = omega arith in
-        let i : 2 - (h + 1) ≡ 1 - h = omega arith in
-        rw (e, e3, field-is, k, i, j, sym half-is ∙ q)
-
-    pub halves-stop : (x : Fault) → h < 2 → r ≡ Refused x → halves a (2 - h) w v c ≡ Stop x
-    unfolding halves
-    halves-stop x l q =
-        let k : 2 - h ≡ suc (1 - h) = omega arith in
-        let j : 1 - (1 - h) ≡ h = omega arith in
-        rw (k, j, sym half-is ∙ q)
-
-    pub half-kept : (u : ℕ) → v < 2 ^ 36 → r ≡ Word u → u < 2 ^ 36
-    half-kept u b q = half-word side m v u b (sym e4 ∙ q)
-
-  pub halves-end : (w v : ℕ) (c : Cursor) (h : ℕ) → 2 ≤ h → halves a (2 - h) w v c ≡ Next v c
-  unfolding halves
-  halves-end w v c h l =
-      let k : 2 - h ≡ 0 = omega arith in
-      rw k
+    pub half-changes : (t x : ℕ) (r : Changed) (s : Stepped) → sameIn m ≡ false → t ≡ typeIn m → x ≡ moreIn m → r ≡ fieldStep a h t w x
+        → s ≡ onward r (λ v. Next v (pastOf c m)) → s ≡ halfOf a h w c
+    unfolding halfOf pastField
+    half-changes t x r s q i j p o = rw (← e, ← k, half-other h m w q, ← i, ← j, ← p) o
 
   -- ---- both halves
-  onward-on : (r : Changed) (next : ℕ → Changed) (d : Cursor) → onward r (λ u. onward (next u) (λ x. Next x d)) ≡ onward (thenHalf r next) (λ x. Next x d)
-  onward-on (Word v) next d = refl
-  onward-on (Refused f) next d = refl
+  half-next : (h : Half) (w : ℕ) (c : Cursor) (v : ℕ) (d : Cursor) → halfOf a h w c ≡ Next v d
+      → (halfStep a h (lookOf (c .ahead) (fieldOf h w)) w ≡ Word v) × (d ≡ pastField c (fieldOf h w))
+  unfolding halfOf
+  half-next h w c v d = given (halfStep a h (lookOf (c .ahead) (fieldOf h w)) w)
+    where
+      given : (r : Changed) → onward r (λ u. Next u (pastField c (fieldOf h w))) ≡ Next v d → (r ≡ Word v) × (d ≡ pastField c (fieldOf h w))
+      given (Word u) q = (cc, cc)
+      given (Refused f) q = let z : _≡_ {A = ℕ} 0 1 = cc in absurd (omega arith)
 
-  pub halves-word : (block : List ℕ) (end n : ℕ) → InBlock block end n → (c : Cursor) (w : ℕ) → Sees block end n c 26
-      → halves a 2 w w c ≡ onward (wordStep a (bitsBefore block end n) (c .at) w) (λ v. Next v (pastWord c w))
-  unfolding halves wordStep pastWord
-  halves-word block end n inside c w s =
-      let f = fieldOf Left w in
-      let d = pastField c f in
+  -- a half's word and cursor are such again
+  pub half-fits : (h : Half) (w : ℕ) (c : Cursor) (v : ℕ) (d : Cursor) → w < 2 ^ 36 → halfOf a h w c ≡ Next v d → v < 2 ^ 36
+  half-fits h w c v d b q = half-word h (lookOf (c .ahead) (fieldOf h w)) w v b (half-next h w c v d q .0)
+
+  pub half-reach : (h : Half) (w : ℕ) (c : Cursor) (v : ℕ) (d : Cursor) → halfOf a h w c ≡ Next v d → d ≡ pastField c (fieldOf h w)
+  half-reach h w c v d q = half-next h w c v d q .1
+
+  pub both-word : (block : List ℕ) (end n : ℕ) → InBlock block end n → (c : Cursor) (w : ℕ) → Sees block end n c 26
+      → bothOf a w c ≡ onward (wordStep a (bitsBefore block end n) (c .at) w) (λ v. Next v (pastWord c w))
+  unfolding bothOf halfOf wordStep pastWord
+  both-word block end n inside c w s =
       rw (← field-past block end n inside c 13 f s, look-is block end n inside c 13 f s, look-is block end n inside d 0 (fieldOf Right w) (field-sees block end n c 13 f s))
-      (onward-on (halfStep a Left (lookOf (c .ahead) f) w) (halfStep a Right (lookOf (d .ahead) (fieldOf Right w))) (pastField d (fieldOf Right w)))
+      (given (halfStep a Left (lookOf (c .ahead) f) w) refl)
+    where
+      f : ℕ
+      f = fieldOf Left w
+
+      d : Cursor
+      d = pastField c f
+
+      given : (r : Changed) → halfStep a Left (lookOf (c .ahead) f) w ≡ r
+          → thenRight a (onward r (λ v. Next v d))
+          ≡ onward (thenHalf r (halfStep a Right (lookOf (d .ahead) (fieldOf Right w)))) (λ v. Next v (pastField d (fieldOf Right w)))
+      given (Word v) e = rw (half-across (lookOf (c .ahead) f) w v e)
+      given (Refused x) e = refl
+
+  -- ---- the bits 01000
+  moved-field : (w : ℕ) → halfStep a Right (Change 0) w ≡ putBack 0 16 w (valued (a .area .at .0 + w % 65536))
+  unfolding halfStep fieldStep becomes movedField
+  moved-field w = let e : w / 1 ≡ w = omega arith in rw e
+
+  moved-right : (w : ℕ) (d : Cursor) → onward (putBack 0 16 w (valued (a .area .at .0 + w % 65536))) (λ v. Next v d)
+      ≡ cond (ltb (w % 65536 + a .area .at .0) 65536) (Next (w + a .area .at .0) d) (Stop (fault 21))
+  unfolding putBack valued
+  moved-right w d =
+      let v = w % 65536 + a .area .at .0 in
+      let e : a .area .at .0 + w % 65536 ≡ v = omega arith in
+      let p : (w / 65536 * 65536 + v) * 1 + w % 1 ≡ w + a .area .at .0 = omega arith in
+      rw e (by-lt v 65536 (λ l. rw (lt-ltb v 65536 l, p)) (λ l. rw (le-ltb v 65536 l)))
+
+  pub moved-both : (w : ℕ) (c : Cursor) → isMoved c ≡ true → bothOf a w c ≡ movedWord (a .area) w c
+  unfolding bothOf halfOf halfStep movedWord pastField pastOf
+  moved-both w c q =
+      let e = eqb-true (c .ahead / 576460752303423488) 8 q in
+      let i : c .at + 1 + 4 ≡ c .at + 5 = omega arith in
+      let j : c .ahead * 2 % 18446744073709551616 * 16 % 18446744073709551616 ≡ c .ahead * 32 % 18446744073709551616 = omega arith in
+      rw (look-same (c .ahead) (fieldOf Left w) e, look-moved (c .ahead) (fieldOf Right w) e, i, j)
+      (ap (λ (r : Changed). onward r (λ v. Next v (record { at = c .at + 5; ahead = c .ahead * 32 % 18446744073709551616; words = c .words; edge = c .edge }))) (moved-field w)
+      ∙ moved-right w (record { at = c .at + 5; ahead = c .ahead * 32 % 18446744073709551616; words = c .words; edge = c .edge }))

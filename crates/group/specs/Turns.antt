@@ -1,15 +1,16 @@
 -- How the code goes through a group: a word's halves one after the other with a cursor, and what it knows on the way.
-use Prim.Native.Nat.{ℕ, zero, suc, _+_, _-_, _≤_, _<_, _^_}
+use Prim.Native.Nat.{ℕ, _+_, _-_, _*_, _/_, _%_, _≤_, _<_, _^_}
 use mathlib.Core.Path.{_≡_}
 use mathlib.Core.Bool.{Bool, true, false, cond}
 use mathlib.Core.List.{List}
-use lib.ListN.{length}
-use lib.Dec.{eqb}
+use lib.ListN.{length, getD, set}
+use lib.Dec.{ltb, eqb}
 use Rattle.word.specs.declared.Absolute.{Absolute}
 use Rattle.word.specs.declared.Area.{Area}
 use Rattle.word.specs.declared.Half.{Half}
 use Rattle.word.specs.declared.Half.the-variants.{Left, Right}
-use Rattle.word.specs.Lists.{every}
+use Rattle.word.specs.Fault.{fault}
+use Rattle.word.specs.Lists.{every, range, splice, cleared}
 use Rattle.word.specs.Word.{isWord, fieldOf}
 use Rattle.program.specs.declared.Group.{Group}
 use Rattle.field.specs.declared.Changed.{Changed}
@@ -18,14 +19,16 @@ use Rattle.field.specs.Field.{Assignments}
 use Rattle.indicator.specs.declared.Indicator.{Indicator}
 use Rattle.indicator.specs.declared.Indicator.the-variants.{Same, Change, Long}
 use Rattle.cursor.specs.declared.Cursor.{Cursor}
-use Rattle.cursor.specs.Cursor.{lookOf, pastField}
+use Rattle.indicator.specs.Indicator.{InBlock, afterAll}
+use Rattle.cursor.specs.Cursor.{lookOf, pastField, plainWords, pastPlain}
+use Rattle.group.specs.declared.Moved.{Moved}
+use Rattle.group.specs.declared.Moved.the-variants.{On, Off}
+use Rattle.group.specs.declared.Ran.{Ran}
+use Rattle.group.specs.declared.Ran.the-variants.{Through, Fails}
 use Rattle.group.specs.declared.Stepped.{Stepped}
 use Rattle.group.specs.declared.Stepped.the-variants.{Next, Stop}
-use Rattle.group.specs.Group.{halfStep}
-
--- the half of turn h
-abbrev pub sideOf : ℕ → Half
-sideOf h = cond (eqb h 0) Left Right
+use Rattle.group.specs.Group.{halfStep, Words, changedWords}
+use Rattle.group.specs.Group.Words.{Become, Refuse}
 
 -- an indicator taken apart: whether it tells no change, its type, its nine bits more
 abbrev pub sameIn : Indicator → Bool
@@ -48,12 +51,83 @@ abbrev pub onward : Changed → (ℕ → Stepped) → Stepped
 onward (Word v) next = next v
 onward (Refused f) next = Stop f
 
--- the last n of the two halves of a word: w as it stands in the block, v as it is by now
-unfoldable pub halves : Assignments → ℕ → ℕ → ℕ → Cursor → Stepped
-halves a zero w v c = Next v c
-halves a (suc n) w v c =
-    onward (halfStep a (sideOf (1 - n)) (lookOf (c .ahead) (fieldOf (sideOf (1 - n)) w)) v)
-    (λ u. halves a n w u (pastField c (fieldOf (sideOf (1 - n)) w)))
+-- a half of the word w, from the cursor before its indicator to the cursor past it
+unfoldable pub halfOf : Assignments → Half → ℕ → Cursor → Stepped
+halfOf a h w c = onward (halfStep a h (lookOf (c .ahead) (fieldOf h w)) w) (λ v. Next v (pastField c (fieldOf h w)))
+
+-- its left half, and then the right half of what that gave
+abbrev pub thenRight : Assignments → Stepped → Stepped
+thenRight a (Next v c) = halfOf a Right v c
+thenRight a (Stop f) = Stop f
+
+unfoldable pub bothOf : Assignments → ℕ → Cursor → Stepped
+bothOf a w c = thenRight a (halfOf a Left w c)
+
+-- the bits 01000: no change, then type 000, the commonest change
+abbrev pub isMoved : Cursor → Bool
+isMoved c = eqb (c .ahead / 2 ^ 59) 8
+
+-- a word with such indicators (`moved-both`, proofs/Halves.antt: it is the same)
+unfoldable pub movedWord : Area → ℕ → Cursor → Stepped
+movedWord area w c =
+    cond (ltb (w % 65536 + area .at .0) 65536)
+    (Next (w + area .at .0) (record { at = c .at + 5; ahead = c .ahead * 2 ^ 5 % 2 ^ 64; words = c .words; edge = c .edge }))
+    (Stop (fault 21))
+
+-- ---- the words of a group, which stand in the core, changed in place
+
+-- what a move leads to, and the core afterwards
+pub record Move : Type 0 where
+  pub answer : Moved
+  pub core : List ℕ
+
+pub record Moves (m : Move) (answer : Moved) (core : List ℕ) : Type 0 where
+  pub told : answer ≡ m .answer
+  pub left : core ≡ m .core
+
+-- the word at place p
+unfoldable pub oneMove : ℕ → List ℕ → Stepped → Move
+oneMove p core (Next v d) = record { answer = On d (p + 1); core = set core p v }
+oneMove p core (Stop f) = record { answer = Off f; core = core }
+
+-- so many words without change at once
+abbrev pub plainMove : ℕ → List ℕ → Cursor → ℕ → Move
+plainMove p core c k = record { answer = On (pastPlain c k) (p + k); core = core }
+
+-- from place p on, where the words end at `stop`
+unfoldable pub moveOf : Assignments → Cursor → ℕ → ℕ → List ℕ → Move
+moveOf a c p stop core =
+    cond (eqb (plainWords c (stop - p)) 0)
+    (oneMove p core (bothOf a (getD core p 0) c))
+    (plainMove p core c (plainWords c (stop - p)))
+
+-- all words: how many bits their indicators have, or the first refusal
+abbrev pub ranOf : Words → ℕ → Ran
+ranOf (Become vs) n = Through n
+ranOf (Refuse f) n = Fails f
+
+-- the core afterwards; at a refusal some words are changed, and zeros make that good
+abbrev pub Leaves : List ℕ → ℕ → ℕ → Words → List ℕ → Type 0
+Leaves core base count (Become vs) core′ = core′ ≡ splice core base vs
+Leaves core base count (Refuse f) core′ = cleared core′ base count ≡ cleared core base count
+
+pub record Runs (a : Assignments) (bits : List ℕ) (base count : ℕ) (core : List ℕ) (r : Ran) (core′ : List ℕ) : Type 0 where
+  pub told : r ≡ ranOf (changedWords a bits 0 (range core base count)) (afterAll bits 0 (range core base count))
+  pub left : Leaves core base count (changedWords a bits 0 (range core base count)) core′
+
+-- what is known before: n indicator words before place `end` of a block, and `count` program words in the core from place `base` on
+pub record Standing (area : Area) (block : List ℕ) (end n base count : ℕ) (core : List ℕ) : Type 0 where
+  pub inside : area .at .0 + area .size ≤ 65536
+  pub marks : InBlock block end n
+  pub long : length block ≡ 256
+  pub few : count ≤ 255
+  pub most : length core ≤ 65536
+  pub room : base + count ≤ length core
+  pub words : every isWord (range core base count) ≡ true
+
+-- an indicator word with no change in it
+abbrev pub isZero : ℕ → Bool
+isZero w = eqb w 0
 
 -- a group's numbers are of as many bits as its identifier has for them
 pub record Sized (g : Group) : Type 0 where

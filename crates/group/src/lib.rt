@@ -1,10 +1,14 @@
-// One group of a program block: every 18 of it, then each program word's left and right half in order, stored into the lent
-// core. It stops at the first refusal.
+// One group of a program block: its program words are copied into the lent core and changed there, each one's left and right half in
+// order, while the indicators are counted. 18 comes before a refusal of a field: where a field is refused, the count decides which.
 ghost use mathlib.Core.Path.{_≡_};
-ghost use Prim.Native.Nat.{_+_, _<_, _≤_, _^_};
+ghost use Prim.Native.Nat.{_+_, _-_, _*_, _/_, _<_, _≤_, _^_};
+ghost use lib.ListN.{length, getD};
+ghost use Rattle.word.specs.Lists.{every};
 ghost use Rattle.field.specs.Field.{assigned};
-ghost use Rattle.group.specs.Group.{halfStep, changedWords, bitsIn, wordsIn, homeIn, homeOf, settled, counted, fitted, groupStep, Meets, InArea, Ready};
-ghost use Rattle.group.specs.Turns.{sideOf, sameIn, typeIn, moreIn, halves, Sized, Placed};
+ghost use Rattle.indicator.specs.Indicator.{bitsBefore, justEnough};
+ghost use Rattle.cursor.specs.Cursor.{pastOf};
+ghost use Rattle.group.specs.Group.{homeIn, homeOf, counted, fitted, groupStep, Meets, InArea, Ready};
+ghost use Rattle.group.specs.Turns.{sameIn, typeIn, moreIn, onward, halfOf, bothOf, isMoved, movedWord, Moves, moveOf, oneMove, Runs, Standing, isZero, Sized, Placed};
 use cursor::Cursor;
 use field::Changed;
 use field::Setting;
@@ -42,6 +46,18 @@ pub enum Home {
 enum Stepped {
     Next(u64, Cursor),
     Stop(Fault),
+}
+
+// The cursor and the place of the next word; or the fault.
+enum Moved {
+    On(Cursor, usize),
+    Off(Fault),
+}
+
+// How many bits the indicators of all words have; or the fault of the first field that has one.
+enum Ran {
+    Through(usize),
+    Fails(Fault),
 }
 
 // The group whose identifier stands at place i of a block, into the core.
@@ -138,7 +154,7 @@ fn home_in(area: Area, bank: Bank, g: Group) -> Home
     Home::At(word::placed(area, at))
 }
 
-// The count of the indicator words, before any field; then the fields.
+// The words copied into the core, changed there, and the count of the indicator words.
 fn count_group(
     s: Setting,
     words: &[u64],
@@ -154,113 +170,218 @@ fn count_group(
     ensures { λ r. ⌜ Meets (counted (assigned s (now (words .entry)) (now (ranks .entry)) (now (ios .entry))) (now (block .entry)) i g to (now (core .entry))) r (now (core .exit)) ⌝ }
 {
     let first = i + 1;
-    let program = g.program as usize;
+    let base = to.0 as usize;
+    let count = g.program as usize;
     let end = first + g.words as usize;
-    let n = end - first - program;
-    if cursor::count_fits(block, first, first + program, end, n) {
-        return store_words(s, words, ranks, ios, block, i, g, to, core);
+    let n = (g.words - g.program) as usize;
+    slices::copy_in(core, base, &block[first..first + count]);
+    match change_group(s, words, ranks, ios, block, end, n, base, count, core) {
+        Ran::Through(bits) => {
+            if just_enough(bits, n) {
+                return GroupStep::Done(end, g.last);
+            }
+            slices::clear(core, base, count);
+            GroupStep::Refused(Fault { number: 18 })
+        }
+        Ran::Fails(f) => {
+            slices::clear(core, base, count);
+            if cursor::count_fits(block, first, first + count, end, n) {
+                return GroupStep::Refused(f);
+            }
+            GroupStep::Refused(Fault { number: 18 })
+        }
     }
-    slices::clear(core, to.0 as usize, program);
-    GroupStep::Refused(Fault { number: 18 })
 }
 
-// Each program word in turn, into the core. A refused group leaves zeros in the words that it would have stored.
-fn store_words(
+// Whether n indicator words are just as many as the bits need.
+fn just_enough(bits: usize, n: usize) -> bool
+    requires { ⌜ (bits + 36 < 2 ^ 64) × (36 * n < 2 ^ 64) ⌝ }
+    ensures { λ r. ⌜ r ≡ justEnough bits n ⌝ }
+{
+    if bits <= 36 * n {
+        return 36 * n < bits + 36;
+    }
+    false
+}
+
+// The words in the core, changed: at a glance where no indicator tells a change.
+fn change_group(
     s: Setting,
     words: &[u64],
     ranks: &[u64],
     ios: &[u64],
     block: &[u64],
-    i: usize,
-    g: Group,
-    to: Absolute,
+    end: usize,
+    n: usize,
+    base: usize,
+    count: usize,
     core: &mut [u64],
-) -> GroupStep
-    requires { ⌜ Placed (s .area) (now block) i g to (now core) ⌝ }
-    ensures { λ r. ⌜ Meets (settled i g to (now (core .entry)) (changedWords (assigned s (now (words .entry)) (now (ranks .entry)) (now (ios .entry))) (bitsIn (now (block .entry)) i g) 0 (wordsIn (now (block .entry)) i g))) r (now (core .exit)) ⌝ }
+) -> Ran
+    requires { ⌜ Standing (s .area) (now block) end n base count (now core) ⌝ }
+    ensures { λ r. ⌜ Runs (assigned s (now (words .entry)) (now (ranks .entry)) (now (ios .entry))) (bitsBefore (now (block .entry)) end n) base count (now (core .entry)) r (now (core .exit)) ⌝ }
 {
-    let base = to.0 as usize;
-    let first = i + 1;
-    let end = first + g.words as usize;
-    let program = g.program as usize;
-    let n = (g.words - g.program) as usize;
-    let mut c = Cursor {
-        at: 0,
-        ahead: 0,
-        words: 0,
-    };
-    let mut k: usize = 0;
-    while k < program {
-        let full = cursor::refill(block, end, n, c);
-        let w = block[first + k];
-        match step_word(s, words, ranks, ios, full, w) {
-            Stepped::Next(v, next) => {
-                core[base + k] = v;
-                c = next;
-            }
-            Stepped::Stop(f) => {
-                slices::clear(core, base, program);
-                return GroupStep::Refused(f);
-            }
-        }
-        k += 1;
+    if all_zero(&block[end - n..end]) {
+        return Ran::Through(2 * count);
     }
-    GroupStep::Done(end, g.last)
+    change_words(s, words, ranks, ios, block, end, n, base, count, core)
 }
 
-// A word's left half, then its right one. A loop of two turns, so that the field step is called at one place.
-fn step_word(s: Setting, words: &[u64], ranks: &[u64], ios: &[u64], c: Cursor, w: u64) -> Stepped
-    requires { ⌜ (s .area .at .0 + s .area .size ≤ 65536) × (w < 2 ^ 36) × (c .at + 26 < 2 ^ 64) ⌝ }
-    ensures { λ r. ⌜ r ≡ halves (assigned s (now (words .entry)) (now (ranks .entry)) (now (ios .entry))) 2 w w c ⌝ }
+fn all_zero(words: &[u64]) -> bool
+    ensures { λ r. ⌜ r ≡ every isZero (now (words .entry)) ⌝ }
 {
-    let mut v = w;
-    let mut d = c;
-    let mut h: u64 = 0;
-    while h < 2 {
-        let side = side_of(h);
-        let m = cursor::look(d.ahead, word::field(w, side));
-        match half_step(s, words, ranks, ios, side, m, v) {
-            Changed::Word(u) => {
-                v = u;
-            }
-            Changed::Refused(f) => {
-                return Stepped::Stop(f);
-            }
+    let mut i: usize = 0;
+    while i < words.len() {
+        if words[i] != 0 {
+            return false;
         }
-        d = cursor::pass(d, m);
-        h += 1;
+        i += 1;
     }
-    Stepped::Next(v, d)
+    true
 }
 
-// The half of turn h.
-fn side_of(h: u64) -> Half
-    ensures { λ r. ⌜ r ≡ sideOf h ⌝ }
-{
-    if h == 0 { Half::Left } else { Half::Right }
-}
-
-// A half of the word w by its indicator.
-fn half_step(
+// Word after word.
+fn change_words(
     s: Setting,
     words: &[u64],
     ranks: &[u64],
     ios: &[u64],
-    h: Half,
-    m: Indicator,
-    w: u64,
-) -> Changed
-    requires { ⌜ (s .area .at .0 + s .area .size ≤ 65536) × (w < 2 ^ 36) ⌝ }
-    ensures { λ r. ⌜ r ≡ halfStep (assigned s (now (words .entry)) (now (ranks .entry)) (now (ios .entry))) h m w ⌝ }
+    block: &[u64],
+    end: usize,
+    n: usize,
+    base: usize,
+    count: usize,
+    core: &mut [u64],
+) -> Ran
+    requires { ⌜ Standing (s .area) (now block) end n base count (now core) ⌝ }
+    ensures { λ r. ⌜ Runs (assigned s (now (words .entry)) (now (ranks .entry)) (now (ios .entry))) (bitsBefore (now (block .entry)) end n) base count (now (core .entry)) r (now (core .exit)) ⌝ }
 {
-    if same_in(m) {
-        return Changed::Word(w);
+    let stop = base + count;
+    let mut c = cursor::start(n);
+    let mut p = base;
+    while p < stop {
+        let full = cursor::refill(block, end, n, c);
+        match move_on(s, words, ranks, ios, full, p, stop, core) {
+            Moved::On(d, q) => {
+                c = d;
+                p = q;
+            }
+            Moved::Off(f) => {
+                return Ran::Fails(f);
+            }
+        }
     }
-    let t = type_in(m);
-    let x = more_in(m);
-    match h {
-        Half::Left => field::left_step(s, words, ranks, ios, t, w, x),
-        Half::Right => field::right_step(s, words, ranks, ios, t, w, x),
+    Ran::Through(c.at)
+}
+
+// From the word at place p on: words without change at once, or one word. The commonest change is tested first.
+fn move_on(
+    s: Setting,
+    words: &[u64],
+    ranks: &[u64],
+    ios: &[u64],
+    c: Cursor,
+    p: usize,
+    stop: usize,
+    core: &mut [u64],
+) -> Moved
+    requires { ⌜ (s .area .at .0 + s .area .size ≤ 65536) × (p < stop) × (stop ≤ length (now core)) × (getD (now core) p 0 < 2 ^ 36) × (36 * c .words < 2 ^ 32) × (c .at + 26 * (stop - p) < 2 ^ 32) ⌝ }
+    ensures { λ r. ⌜ Moves (moveOf (assigned s (now (words .entry)) (now (ranks .entry)) (now (ios .entry))) c p stop (now (core .entry))) r (now (core .exit)) ⌝ }
+{
+    let w = core[p];
+    let area = s.area;
+    if c.ahead / 576460752303423488 == 8 {
+        return store(core, p, moved_word(area, c, w));
+    }
+    let k = cursor::unchanged(c, stop - p);
+    if k != 0 {
+        return Moved::On(cursor::pass_plain(c, k), p + k);
+    }
+    store(core, p, step_word(s, words, ranks, ios, c, w))
+}
+
+// What became of the word at place p.
+fn store(core: &mut [u64], p: usize, r: Stepped) -> Moved
+    requires { ⌜ (p < length (now core)) × (length (now core) < 2 ^ 64) ⌝ }
+    ensures { λ m. ⌜ Moves (oneMove p (now (core .entry)) r) m (now (core .exit)) ⌝ }
+{
+    match r {
+        Stepped::Next(v, d) => {
+            core[p] = v;
+            Moved::On(d, p + 1)
+        }
+        Stepped::Stop(f) => Moved::Off(f),
+    }
+}
+
+// A word whose indicators are 01000.
+fn moved_word(area: Area, c: Cursor, w: u64) -> Stepped
+    requires { ⌜ (area .at .0 ≤ 65536) × (w < 2 ^ 36) × (c .at + 5 < 2 ^ 64) ⌝ }
+    ensures { λ r. ⌜ r ≡ movedWord area w c ⌝ }
+{
+    if w % 65536 + area.at.0 < 65536 {
+        return Stepped::Next(
+            w + area.at.0,
+            Cursor {
+                at: c.at + 5,
+                ahead: c.ahead << 5,
+                words: c.words,
+                edge: c.edge,
+            },
+        );
+    }
+    Stepped::Stop(Fault { number: 21 })
+}
+
+// A word's left half, then its right one.
+fn step_word(s: Setting, words: &[u64], ranks: &[u64], ios: &[u64], c: Cursor, w: u64) -> Stepped
+    requires { ⌜ (s .area .at .0 + s .area .size ≤ 65536) × (w < 2 ^ 36) × (c .at + 26 < 2 ^ 64) ⌝ }
+    ensures { λ r. ⌜ r ≡ bothOf (assigned s (now (words .entry)) (now (ranks .entry)) (now (ios .entry))) w c ⌝ }
+{
+    match left_half(s, words, ranks, ios, c, w) {
+        Stepped::Next(v, d) => right_half(s, words, ranks, ios, d, v),
+        Stepped::Stop(f) => Stepped::Stop(f),
+    }
+}
+
+// Either half has a function of its own, so that its code is made for its bits alone.
+fn left_half(s: Setting, words: &[u64], ranks: &[u64], ios: &[u64], c: Cursor, w: u64) -> Stepped
+    requires { ⌜ (s .area .at .0 + s .area .size ≤ 65536) × (w < 2 ^ 36) × (c .at + 13 < 2 ^ 64) ⌝ }
+    ensures { λ r. ⌜ r ≡ halfOf (assigned s (now (words .entry)) (now (ranks .entry)) (now (ios .entry))) Half.Left w c ⌝ }
+{
+    let m = cursor::look(c.ahead, word::field(w, Half::Left));
+    if same_in(m) {
+        return Stepped::Next(w, cursor::pass(c, m));
+    }
+    passed(
+        c,
+        m,
+        field::left_step(s, words, ranks, ios, type_in(m), w, more_in(m)),
+    )
+}
+
+fn right_half(s: Setting, words: &[u64], ranks: &[u64], ios: &[u64], c: Cursor, w: u64) -> Stepped
+    requires { ⌜ (s .area .at .0 + s .area .size ≤ 65536) × (w < 2 ^ 36) × (c .at + 13 < 2 ^ 64) ⌝ }
+    ensures { λ r. ⌜ r ≡ halfOf (assigned s (now (words .entry)) (now (ranks .entry)) (now (ios .entry))) Half.Right w c ⌝ }
+{
+    let m = cursor::look(c.ahead, word::field(w, Half::Right));
+    if same_in(m) {
+        return Stepped::Next(w, cursor::pass(c, m));
+    }
+    passed(
+        c,
+        m,
+        field::right_step(s, words, ranks, ios, type_in(m), w, more_in(m)),
+    )
+}
+
+// What became of a half, and the cursor past its indicator.
+fn passed(c: Cursor, m: Indicator, r: Changed) -> Stepped
+    requires { ⌜ c .at + 13 < 2 ^ 64 ⌝ }
+    ensures { λ x. ⌜ x ≡ onward r (λ v. Stepped.Next v (pastOf c m)) ⌝ }
+{
+    match r {
+        Changed::Word(v) => Stepped::Next(v, cursor::pass(c, m)),
+        Changed::Refused(f) => Stepped::Stop(f),
     }
 }
 

@@ -25,32 +25,35 @@ abbrev μ-loop : tie.MeasureT-loop
 μ-loop block first last end n c₀ i₀ c i = last - i
 
 loop-holds : tie.Need-loop-holds Inv-loop μ-loop
-loop-holds c = let a = c .before .args in
-    (omega arith, start-sees (now (a .block)) (a .end) (a .n), refl)
+loop-holds c = let a = c .before .before .args in
+    rw (c .start .ensures) (omega arith, start-sees (now (a .block)) (a .end) (a .n), refl)
+
+start-requires : tie.Need-start-requires Inv-loop μ-loop
+start-requires c κs = search needs
 
 refill-requires : tie.Need-refill-requires Inv-loop μ-loop
-refill-requires c κs = (search needs, c .before .loop .inv .1, omega arith)
+refill-requires c κs = (search needs, c .before .loop .inv .1, omega arith, omega arith)
 
 move-on-requires : tie.Need-move-on-requires Inv-loop μ-loop
-move-on-requires c κs = let b = c .before .before .before .before in
+move-on-requires c κs = let b = c .before .before .before .before .before in
     let a = b .args in
     let l = c .before .before .loop in
-    let s = refill-sees (now (a .block)) (a .end) (a .n) (b .pre .0) (l .c) (l .inv .1) in
+    let s = refill-sees (now (a .block)) (a .end) (a .n) (b .pre .0) (l .c) (l .inv .1) (omega arith) in
     let e = refill-at (now (a .block)) (a .end) (a .n) (l .c) in
     rw (c .refill .ensures) (omega arith, omega arith, omega (arith, s .near), omega arith)
 
 loop-less : tie.Need-loop-less Inv-loop μ-loop
-loop-less c = let b = c .before .before .before .before .before .before in
+loop-less c = let b = c .before .before .before .before .before .before .before in
     let a = b .args in
     let l = c .before .before .before .before .loop in
-    let t = turn-refilled (now (a .block)) (a .end) (a .n) (b .pre .0) (l .c) (l .inv .1) (a .last) (l .i) (omega arith) (omega arith) in
+    let t = turn-refilled (now (a .block)) (a .end) (a .n) (b .pre .0) (l .c) (l .inv .1) (omega arith) (a .last) (l .i) (omega arith) (omega arith) in
     rw (rw (c .before .before .refill .ensures) at (c .before .move-on .ensures)) (omega (arith, t .on))
 
 loop-again : tie.Need-loop-again Inv-loop μ-loop
-loop-again c = let b = c .before .before .before .before .before .before in
+loop-again c = let b = c .before .before .before .before .before .before .before in
     let a = b .args in
     let l = c .before .before .before .before .loop in
-    let t = turn-refilled (now (a .block)) (a .end) (a .n) (b .pre .0) (l .c) (l .inv .1) (a .last) (l .i) (omega arith) (omega arith) in
+    let t = turn-refilled (now (a .block)) (a .end) (a .n) (b .pre .0) (l .c) (l .inv .1) (omega arith) (a .last) (l .i) (omega arith) (omega arith) in
     rw (rw (c .before .before .refill .ensures) at (c .before .move-on .ensures)) (omega (arith, t .reach), t .sees, t .left ∙ l .inv .2)
 
 mul-if1 : tie.Need-mul-if1 Inv-loop μ-loop
@@ -63,13 +66,13 @@ add-result : tie.Need-add-result Inv-loop μ-loop
 add-result c = omega arith
 
 returns : tie.Need-returns Inv-loop μ-loop
-returns c = let a = c .before .before .before .before .before .before .args in
+returns c = let a = c .before .before .before .before .before .before .before .args in
     let l = c .before .before .before .before .loop in
     let bits = bitsBefore (now (a .block)) (a .end) (a .n) in
     rw (sym (l .inv .2) ∙ after-all-end bits (l .c .at) (now (a .block)) (l .i) (a .last) (omega arith), le-leb _ _ (c .before .if1 .taken))
 
 returns-2 : tie.Need-returns-2 Inv-loop μ-loop
-returns-2 c = let a = c .before .before .before .before .before .args in
+returns-2 c = let a = c .before .before .before .before .before .before .args in
     let l = c .before .before .before .loop in
     let bits = bitsBefore (now (a .block)) (a .end) (a .n) in
     rw (sym (l .inv .2) ∙ after-all-end bits (l .c .at) (now (a .block)) (l .i) (a .last) (omega arith), lt-leb _ _ (c .if1 .left))
@@ -80,6 +83,7 @@ count-fits-spec =
     (tie.spec
     Inv-loop
     μ-loop
+    start-requires
     loop-holds
     refill-requires
     move-on-requires

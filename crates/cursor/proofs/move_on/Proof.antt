@@ -15,21 +15,17 @@ sub-unchanged c = search needs
 unchanged-requires : tie.Need-unchanged-requires
 unchanged-requires c κs = search needs
 
-mul-t10 : tie.Need-mul-t10
-mul-t10 c = let a = c .before .before .before .args in
+pass-plain-requires : tie.Need-pass-plain-requires
+pass-plain-requires c κs = let a = c .before .before .before .args in
     omega (arith, c .before .unchanged .ensures, plain-words (a .c) (a .last - a .i) .fits)
 
 add-t11 : tie.Need-add-t11
 add-t11 c = let a = c .before .before .before .before .args in
     omega (arith, c .before .before .unchanged .ensures, plain-words (a .c) (a .last - a .i) .fits)
 
-add-t13 : tie.Need-add-t13
-add-t13 c = let a = c .before .before .before .before .args in
-    omega (arith, c .before .before .unchanged .ensures, plain-words (a .c) (a .last - a .i) .fits)
-
 returns : tie.Need-returns
 unfolding turnOf
-returns c = rw (sym (c .before .before .unchanged .ensures), ne-eqb _ _ (c .before .if1 .taken))
+returns c = rw (sym (c .before .before .unchanged .ensures), c .pass-plain .ensures, ne-eqb _ _ (c .before .if1 .taken))
 
 mul-w : tie.Need-mul-w
 mul-w c = search needs
@@ -40,8 +36,8 @@ shared-slice-read-w c = search needs
 pass-word-requires : tie.Need-pass-word-requires
 pass-word-requires c κs = search needs
 
-add-t8 : tie.Need-add-t8
-add-t8 c = search needs
+add-t9 : tie.Need-add-t9
+add-t9 c = search needs
 
 returns-2 : tie.Need-returns-2
 unfolding turnOf
@@ -53,12 +49,11 @@ move-on-spec =
     (tie.spec
     sub-unchanged
     unchanged-requires
-    mul-t10
+    pass-plain-requires
     add-t11
-    add-t13
     returns
     mul-w
     shared-slice-read-w
     pass-word-requires
-    add-t8
+    add-t9
     returns-2)

@@ -1,85 +1,92 @@
--- `refill`: the tests of the code are those of the definition; the sum fits since it is a number of 64 bits. Assumes nothing.
-use Rattle.word.proofs.Tests.{tests}
+-- `refill`: the test of the code is that of the definition; the sum fits since it is a number of 64 bits. Assumes nothing.
 use native.Mathlib.Omega.{arith}
 use Prim.Native.Nat.{_+_}
 use denote.Ref.{now}
+use borrow.Author.Tests.{le-ltb}
+use Rattle.word.proofs.Tests.{tests}
 use Rattle.indicator.proofs.Bits.{number-below}
 use Rattle.cursor.specs.Cursor.{refilled}
-use Rattle.cursor.proofs.Reading.{refill-number}
+use Rattle.cursor.proofs.Reading.{edge-wants, refill-number}
 use borrow.Author.Needs.{needs}
 use Rattle.cursor.proofs.refill.Statement.{statement}
 use Rattle.cursor.proofs.refill.Tie as tie
+
+add-if1 : tie.Need-add-if1
+add-if1 c = search needs
 
 returns : tie.Need-returns
 unfolding refilled
 returns c = search tests
 
-add-if2 : tie.Need-add-if2
-add-if2 c = search needs
-
-mul-if2 : tie.Need-mul-if2
-mul-if2 c = search needs
-
-returns-2 : tie.Need-returns-2
-unfolding refilled
-returns-2 c = search tests
-
 sub-w : tie.Need-sub-w
-sub-w c = search needs
+sub-w c = let z = c .before .before .before in
+    omega (arith, edge-wants _ _ _ (z .pre .0) (z .args .c) (z .pre .1) (z .pre .2) (c .if1 .left), z .pre .0 .first)
 
 sub-w-2 : tie.Need-sub-w-2
-sub-w-2 c = search needs
+sub-w-2 c = let z = c .before .before .before in
+    omega (arith, edge-wants _ _ _ (z .pre .0) (z .args .c) (z .pre .1) (z .pre .2) (c .if1 .left), z .pre .0 .first)
 
 mul-w : tie.Need-mul-w
 mul-w c = search needs
 
 shared-slice-read-w : tie.Need-shared-slice-read-w
-shared-slice-read-w c = search needs
+shared-slice-read-w c = let z = c .before .before .before .before in
+    omega (arith, edge-wants _ _ _ (z .pre .0) (z .args .c) (z .pre .1) (z .pre .2) (c .before .if1 .left), z .pre .0 .first, z .pre .0 .last)
 
-add-t9 : tie.Need-add-t9
-add-t9 c = search needs
+add-t8 : tie.Need-add-t8
+add-t8 c = search needs
 
 mul-t10 : tie.Need-mul-t10
 mul-t10 c = search needs
 
 sub-t11 : tie.Need-sub-t11
-sub-t11 c = search needs
+sub-t11 c = let z = c .before .before .before .before in
+    omega (arith, edge-wants _ _ _ (z .pre .0) (z .args .c) (z .pre .1) (z .pre .2) (c .before .if1 .left))
 
 shl-t14 : tie.Need-shl-t14
-shl-t14 c = omega (arith, c .before .before .before .pre .1 .room (c .before .before .if1 .left))
+shl-t14 c = let z = c .before .before .before .before in
+    let g = edge-wants _ _ _ (z .pre .0) (z .args .c) (z .pre .1) (z .pre .2) (c .before .if1 .left) in
+    omega (arith, g, z .pre .1 .room (g .0))
 
 add-t15 : tie.Need-add-t15
-add-t15 c = let b = c .before .before .before .before in
+add-t15 c = let b = c .before .before .before .before .before in
     let a = b .args in
+    let g = edge-wants _ _ _ (b .pre .0) (a .c) (b .pre .1) (b .pre .2) (c .before .before .if1 .left) in
     omega (
       arith,
-      refill-number (now (a .block)) (a .end) (a .n) (b .pre .0) (a .c) (b .pre .1) (c .before .before .before .if1 .left) (c .before .before .if2 .left),
+      refill-number (now (a .block)) (a .end) (a .n) (b .pre .0) (a .c) (b .pre .1) (g .0) (g .1),
       number-below (now (a .block)) (a .end) (a .c .words + 1) (a .c .at) 64,
     )
 
 add-t16 : tie.Need-add-t16
 add-t16 c = search needs
 
-returns-3 : tie.Need-returns-3
+add-edge-of : tie.Need-add-edge-of
+add-edge-of c = search needs
+
+edge-of-requires : tie.Need-edge-of-requires
+edge-of-requires c κs = search needs
+
+returns-2 : tie.Need-returns-2
 unfolding refilled
-returns-3 c = search tests
+returns-2 c = rw (c .edge-of .ensures, le-ltb _ _ (c .before .before .before .if1 .left))
 
 pub refill-spec : {M : Type 1} → statement M
 refill-spec =
     tie.close
     (tie.spec
+    add-if1
     returns
-    add-if2
-    mul-if2
-    returns-2
     sub-w
     sub-w-2
     mul-w
     shared-slice-read-w
-    add-t9
+    add-t8
     mul-t10
     sub-t11
     shl-t14
     add-t15
     add-t16
-    returns-3)
+    add-edge-of
+    edge-of-requires
+    returns-2)

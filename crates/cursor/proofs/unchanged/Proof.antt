@@ -5,12 +5,12 @@ use borrow.Author.Needs.{needs}
 use Rattle.cursor.proofs.unchanged.Statement.{statement}
 use Rattle.cursor.proofs.unchanged.Tie as tie
 
-mul-got : tie.Need-mul-got
-mul-got c = search needs
-
 returns : tie.Need-returns
 unfolding plainWords
 returns c = search tests
+
+mul-got : tie.Need-mul-got
+mul-got c = search needs
 
 returns-2 : tie.Need-returns-2
 unfolding plainWords
@@ -25,4 +25,4 @@ unfolding plainWords
 returns-4 c = search tests
 
 pub unchanged-spec : {M : Type 1} → statement M
-unchanged-spec = tie.close (tie.spec mul-got returns returns-2 returns-3 returns-4)
+unchanged-spec = tie.close (tie.spec returns mul-got returns-2 returns-3 returns-4)
