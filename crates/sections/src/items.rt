@@ -1,21 +1,28 @@
 // A program block, item after item: what is due at a place says how the word there is read.
 ghost use mathlib.Core.Path.{_≡_};
-ghost use Prim.Native.Nat.{_≤_};
+ghost use mathlib.Core.List.{[]};
+ghost use Prim.Native.Nat.{_+_, _≤_};
+ghost use lib.ListN.{length};
 ghost use Rattle.sections.specs.Load.{loadOf, Waits};
-ghost use Rattle.sections.specs.Program.{afterLast, afterGroup, inSegment, inTable, itemStep, programStep, ItemMeets, StepMeets};
+ghost use Rattle.sections.specs.Due.{dueOf, Numbered, headOf};
+ghost use Rattle.sections.specs.Program.{afterLast, afterGroup, itemStep, programStep, ItemMeets, StepMeets};
 use crate::Item;
 use crate::heads;
 use field::Setting;
 use group::GroupStep;
 use group::Section;
 use program::Bank;
-use program::Segment;
-use program::TableSection;
 use stage::Course;
 use stage::Stage;
 use step::Step;
 use word::Area;
 use word::Reference;
+
+// The group that is due: its section, the course, the least number of a table section after it, and the IBANK; or none is.
+enum Due {
+    Group(Section, Course, Reference, Bank),
+    Other,
+}
 
 // A program block for a load that waits for s, into the core. The lent block is copied first (01, "blocks of 256 words built with
 // repeat arrays").
@@ -70,7 +77,8 @@ fn walk_items(
     Step::More(due)
 }
 
-// What stands at place i, where s is due.
+// What stands at place i, where s is due. Groups of either section are read here, at one place, so that the compiler makes their code
+// once and for this place.
 fn item_step(
     area: Area,
     io: u64,
@@ -85,119 +93,76 @@ fn item_step(
     requires { ⌜ (Waits (loadOf area io (now words) (now ranks) (now ios)) s (now block) (now core)) × (i ≤ 254) ⌝ }
     ensures { λ r. ⌜ ItemMeets (itemStep (loadOf area io (now (words .entry)) (now (ranks .entry)) (now (ios .entry))) s (now (block .entry)) i (now (core .entry))) r (now (core .exit)) ⌝ }
 {
+    match due_of(area, words, ranks, s) {
+        Due::Group(section, c, least, ibank) => {
+            let near = c.near;
+            let r = group::group_step(
+                Setting {
+                    area,
+                    near,
+                    all: io,
+                },
+                section,
+                words,
+                ranks,
+                ios,
+                block,
+                i,
+                core,
+            );
+            after_group(s, c, least, ibank, r)
+        }
+        Due::Other => head_item(area, words, ranks, s, block, i),
+    }
+}
+
+// The group that s says is due.
+fn due_of(area: Area, words: &[u64], ranks: &[u64], s: Stage) -> Due
+    requires { ⌜ (area .at .0 + area .size ≤ 65536) × (Numbered s) ⌝ }
+    ensures { λ r. ⌜ r ≡ dueOf area (now (words .entry)) (now (ranks .entry)) s ⌝ }
+{
     match s {
+        Stage::SegmentGroup(c, g) => {
+            let ibank = g.ibank;
+            Due::Group(Section::Segment(g), c, Reference(0), ibank)
+        }
+        Stage::TableGroup(c, t, ibank) => {
+            let number = t.number;
+            let count = t.count;
+            let table = lists::table_at(words, ranks, area, number);
+            Due::Group(
+                Section::Table(table, count),
+                c,
+                Reference(number.0 + 1),
+                ibank,
+            )
+        }
+        Stage::Label => Due::Other,
+        Stage::Entry(_, _, _) => Due::Other,
+        Stage::Segment(_) => Due::Other,
+        Stage::Table(_, _, _) => Due::Other,
+        Stage::Termination(_) => Due::Other,
+        Stage::Complete => Due::Other,
+        Stage::Broken => Due::Other,
+    }
+}
+
+// A section's head where one is due; anything else than these and a group ends the block.
+fn head_item(area: Area, words: &[u64], ranks: &[u64], s: Stage, block: &[u64], i: usize) -> Item
+    requires { ⌜ (area .at .0 + area .size ≤ 65536) × (length (now block) ≡ 256) × (i ≤ 254) ⌝ }
+    ensures { λ r. ⌜ r ≡ headOf (loadOf area 0 (now (words .entry)) (now (ranks .entry)) []) s (now (block .entry)) i ⌝ }
+{
+    match s {
+        Stage::Segment(c) => heads::segment_head(area, words, ranks, c, block, i),
+        Stage::Table(c, t, b) => heads::section_head(area, words, ranks, c, t, b, block, i),
         Stage::Label => Item::Stop(Step::More(s)),
         Stage::Entry(_, _, _) => Item::Stop(Step::More(s)),
-        Stage::Segment(c) => heads::segment_head(area, words, ranks, c, block, i),
-        Stage::SegmentGroup(c, g) => segment_group(
-            area,
-            io,
-            words,
-            ranks,
-            ios,
-            c,
-            g,
-            block,
-            i,
-            core,
-        ),
-        Stage::Table(c, t, b) => heads::section_head(area, words, ranks, c, t, b, block, i),
-        Stage::TableGroup(c, t, b) => table_group(
-            area,
-            io,
-            words,
-            ranks,
-            ios,
-            c,
-            t,
-            b,
-            block,
-            i,
-            core,
-        ),
+        Stage::SegmentGroup(_, _) => Item::Stop(Step::More(s)),
+        Stage::TableGroup(_, _, _) => Item::Stop(Step::More(s)),
         Stage::Termination(_) => Item::Stop(Step::More(s)),
         Stage::Complete => Item::Stop(Step::More(s)),
         Stage::Broken => Item::Stop(Step::More(s)),
     }
-}
-
-// A group of the segment section.
-fn segment_group(
-    area: Area,
-    io: u64,
-    words: &[u64],
-    ranks: &[u64],
-    ios: &[u64],
-    c: Course,
-    g: Segment,
-    block: &[u64],
-    i: usize,
-    core: &mut [u64],
-) -> Item
-    requires { ⌜ (Waits (loadOf area io (now words) (now ranks) (now ios)) (Stage.SegmentGroup c g) (now block) (now core)) × (i ≤ 254) ⌝ }
-    ensures { λ r. ⌜ ItemMeets (inSegment (loadOf area io (now (words .entry)) (now (ranks .entry)) (now (ios .entry))) c g (now (block .entry)) i (now (core .entry))) r (now (core .exit)) ⌝ }
-{
-    let near = c.near;
-    let ibank = g.ibank;
-    let r = group::group_step(
-        Setting {
-            area,
-            near,
-            all: io,
-        },
-        Section::Segment(g),
-        words,
-        ranks,
-        ios,
-        block,
-        i,
-        core,
-    );
-    after_group(Stage::SegmentGroup(c, g), c, Reference(0), ibank, r)
-}
-
-// A group of a table section.
-fn table_group(
-    area: Area,
-    io: u64,
-    words: &[u64],
-    ranks: &[u64],
-    ios: &[u64],
-    c: Course,
-    t: TableSection,
-    ibank: Bank,
-    block: &[u64],
-    i: usize,
-    core: &mut [u64],
-) -> Item
-    requires { ⌜ (Waits (loadOf area io (now words) (now ranks) (now ios)) (Stage.TableGroup c t ibank) (now block) (now core)) × (i ≤ 254) ⌝ }
-    ensures { λ r. ⌜ ItemMeets (inTable (loadOf area io (now (words .entry)) (now (ranks .entry)) (now (ios .entry))) c t ibank (now (block .entry)) i (now (core .entry))) r (now (core .exit)) ⌝ }
-{
-    let near = c.near;
-    let number = t.number;
-    let count = t.count;
-    let table = lists::table_at(words, ranks, area, number);
-    let r = group::group_step(
-        Setting {
-            area,
-            near,
-            all: io,
-        },
-        Section::Table(table, count),
-        words,
-        ranks,
-        ios,
-        block,
-        i,
-        core,
-    );
-    after_group(
-        Stage::TableGroup(c, t, ibank),
-        c,
-        Reference(number.0 + 1),
-        ibank,
-        r,
-    )
 }
 
 // What is due after a group: a group of the same section, or what follows the section's last one.
