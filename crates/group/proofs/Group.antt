@@ -34,7 +34,7 @@ use Rattle.group.specs.declared.Home.the-variants.{At, Outside}
 use Rattle.group.specs.declared.Section.{Section}
 use Rattle.group.specs.Group.{halfStep, thenHalf, wordStep, Words, thenWords, changedWords, wordsIn, bitsIn, homeOf, Outcome, Meets, untouched, zeroed, settled, counted, homed, fitted, grouped, groupStep, InArea}
 use Rattle.group.specs.Group.Words.{Become, Refuse}
-use Rattle.group.proofs.Halves.{half-word}
+use Rattle.group.proofs.Both.{half-word}
 use Rattle.group.proofs.Homes.{Lies, home-lies}
 use Rattle.word.proofs.Stretch.{Beside, length-cleared, getD-splice-beside, getD-cleared-beside, every-splice, every-cleared, every-range, every-both, every-head, every-tail}
 

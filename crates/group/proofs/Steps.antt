@@ -22,8 +22,8 @@ use Rattle.indicator.proofs.Places.{after-word-most}
 use Rattle.group.specs.declared.GroupStep.{GroupStep}
 use Rattle.group.specs.declared.GroupStep.the-variants.{Done, Refused}
 use Rattle.group.specs.declared.Home.{Home}
-use Rattle.group.specs.declared.Ran.{Ran as Ran′}
-use Rattle.group.specs.declared.Ran.the-variants.{Through, Fails}
+use Rattle.group.specs.declared.words.Ran.{Ran as Ran′}
+use Rattle.group.specs.declared.words.Ran.the-variants.{Through, Fails}
 use Rattle.group.specs.declared.Section.{Section}
 use Rattle.group.specs.Group.{Words, changedWords, wordsIn, bitsIn, homeOf, settled, counted, homed, fitted, Meets}
 use Rattle.group.specs.Group.Words.{Become, Refuse}

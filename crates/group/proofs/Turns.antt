@@ -28,15 +28,15 @@ use Rattle.cursor.specs.declared.Cursor.{Cursor}
 use Rattle.cursor.specs.Cursor.{never, Sees, startOf, pastWord, refilled, plainWords, pastPlain}
 use Rattle.cursor.proofs.Reading.{start-sees, word-sees, word-past, past-word-most, refill-sees, refill-at}
 use Rattle.cursor.proofs.Turns.{Plain, plain-words, after-zeros, after-all-plain, plain-bits, plain-sees}
-use Rattle.group.specs.declared.Moved.{Moved}
-use Rattle.group.specs.declared.Moved.the-variants.{On, Off}
-use Rattle.group.specs.declared.Ran.the-variants.{Through, Fails}
-use Rattle.group.specs.declared.Stepped.{Stepped}
-use Rattle.group.specs.declared.Stepped.the-variants.{Next, Stop}
+use Rattle.group.specs.declared.words.Moved.{Moved}
+use Rattle.group.specs.declared.words.Moved.the-variants.{On, Off}
+use Rattle.group.specs.declared.words.Ran.the-variants.{Through, Fails}
+use Rattle.group.specs.declared.halves.Stepped.{Stepped}
+use Rattle.group.specs.declared.halves.Stepped.the-variants.{Next, Stop}
 use Rattle.group.specs.Group.{halfStep, wordStep, Words, thenWords, changedWords}
 use Rattle.group.specs.Group.Words.{Become, Refuse}
 use Rattle.group.specs.Turns.{onward, bothOf, Move, Moves, oneMove, plainMove, moveOf, ranOf, Leaves, Runs, Standing, isZero}
-use Rattle.group.proofs.Halves.{both-word}
+use Rattle.group.proofs.Both.{both-word}
 
 -- ---- what a word's two halves gave
 onward-next : (r : Changed) (e : Cursor) (v : ℕ) (d : Cursor) → onward r (λ u. Next u e) ≡ Next v d → (r ≡ Word v) × (d ≡ e)

@@ -21,12 +21,12 @@ use Rattle.indicator.specs.declared.Indicator.the-variants.{Same, Change, Long}
 use Rattle.cursor.specs.declared.Cursor.{Cursor}
 use Rattle.indicator.specs.Indicator.{InBlock, afterAll}
 use Rattle.cursor.specs.Cursor.{lookOf, pastField, plainWords, pastPlain}
-use Rattle.group.specs.declared.Moved.{Moved}
-use Rattle.group.specs.declared.Moved.the-variants.{On, Off}
-use Rattle.group.specs.declared.Ran.{Ran}
-use Rattle.group.specs.declared.Ran.the-variants.{Through, Fails}
-use Rattle.group.specs.declared.Stepped.{Stepped}
-use Rattle.group.specs.declared.Stepped.the-variants.{Next, Stop}
+use Rattle.group.specs.declared.words.Moved.{Moved}
+use Rattle.group.specs.declared.words.Moved.the-variants.{On, Off}
+use Rattle.group.specs.declared.words.Ran.{Ran}
+use Rattle.group.specs.declared.words.Ran.the-variants.{Through, Fails}
+use Rattle.group.specs.declared.halves.Stepped.{Stepped}
+use Rattle.group.specs.declared.halves.Stepped.the-variants.{Next, Stop}
 use Rattle.group.specs.Group.{halfStep, Words, changedWords}
 use Rattle.group.specs.Group.Words.{Become, Refuse}
 
@@ -67,7 +67,7 @@ bothOf a w c = thenRight a (halfOf a Left w c)
 abbrev pub isMoved : Cursor → Bool
 isMoved c = eqb (c .ahead / 2 ^ 59) 8
 
--- a word with such indicators (`moved-both`, proofs/Halves.antt: it is the same)
+-- a word with such indicators (`moved-both`, proofs/Both.antt: it is the same)
 unfoldable pub movedWord : Area → ℕ → Cursor → Stepped
 movedWord area w c =
     cond (ltb (w % 65536 + area .at .0) 65536)

@@ -22,8 +22,8 @@ use Rattle.indicator.specs.Indicator.{InBlock, bitsBefore}
 use Rattle.cursor.specs.declared.Cursor.{Cursor}
 use Rattle.cursor.specs.Cursor.{Sees, lookOf, pastOf, pastField, pastWord}
 use Rattle.cursor.proofs.Reading.{look-is, field-sees, field-past}
-use Rattle.group.specs.declared.Stepped.{Stepped}
-use Rattle.group.specs.declared.Stepped.the-variants.{Next, Stop}
+use Rattle.group.specs.declared.halves.Stepped.{Stepped}
+use Rattle.group.specs.declared.halves.Stepped.the-variants.{Next, Stop}
 use Rattle.group.specs.Group.{halfStep, thenHalf, wordStep}
 use Rattle.group.specs.Turns.{sameIn, typeIn, moreIn, onward, halfOf, thenRight, bothOf, isMoved, movedWord}
 

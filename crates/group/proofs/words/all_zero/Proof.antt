@@ -1,4 +1,4 @@
--- `all_zero`: the words not yet looked at decide. Assumes nothing.
+-- `words::all_zero`: the words not yet looked at decide. Assumes nothing.
 use Prim.Native.Nat.{_≤_, _-_}
 use mathlib.Core.Path.{_≡_, refl}
 use native.Mathlib.Omega.{arith}
@@ -8,8 +8,8 @@ use denote.Ref.{now}
 use Rattle.word.specs.Lists.{every}
 use Rattle.word.proofs.Lists.{every-more, every-fails, every-ends}
 use Rattle.group.specs.Turns.{isZero}
-use Rattle.group.proofs.all_zero.Statement.{statement}
-use Rattle.group.proofs.all_zero.Tie as tie
+use Rattle.group.proofs.words.all_zero.Statement.{statement}
+use Rattle.group.proofs.words.all_zero.Tie as tie
 
 abbrev Inv-loop : tie.InvT-loop
 Inv-loop words i₀ i = (i ≤ length words) × (every isZero words ≡ every isZero (drop i words))

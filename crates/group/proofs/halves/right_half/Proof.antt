@@ -1,12 +1,12 @@
--- `right_half`: an indicator without change leaves the word; any other is one field step. Assumes nothing.
+-- `halves::right_half`: an indicator without change leaves the word; any other is one field step. Assumes nothing.
 use mathlib.Core.Path.{sym, _∙_}
 use denote.Ref.{now}
 use Rattle.word.specs.declared.Half.the-variants.{Right}
 use Rattle.field.specs.Field.{assigned}
-use Rattle.group.proofs.Halves.{half-stays, half-changes}
+use Rattle.group.proofs.Both.{half-stays, half-changes}
 use borrow.Author.Needs.{needs}
-use Rattle.group.proofs.right_half.Statement.{statement}
-use Rattle.group.proofs.right_half.Tie as tie
+use Rattle.group.proofs.halves.right_half.Statement.{statement}
+use Rattle.group.proofs.halves.right_half.Tie as tie
 
 field-requires : tie.Need-field-requires
 field-requires c κs = search needs

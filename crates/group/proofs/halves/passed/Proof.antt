@@ -1,8 +1,8 @@
--- `passed`: what became of the half goes on or stops. Assumes nothing.
+-- `halves::passed`: what became of the half goes on or stops. Assumes nothing.
 
 use borrow.Author.Needs.{needs}
-use Rattle.group.proofs.passed.Statement.{statement}
-use Rattle.group.proofs.passed.Tie as tie
+use Rattle.group.proofs.halves.passed.Statement.{statement}
+use Rattle.group.proofs.halves.passed.Tie as tie
 
 enum-known-r : tie.Need-enum-known-r
 enum-known-r c = search needs

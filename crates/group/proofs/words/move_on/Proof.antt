@@ -1,4 +1,4 @@
--- `move_on`: from what its callees ensure; words without change are no more than are left. Assumes nothing.
+-- `words::move_on`: from what its callees ensure; words without change are no more than are left. Assumes nothing.
 use Prim.Native.Nat.{_-_}
 use mathlib.Core.Path.{refl, sym}
 use native.Mathlib.Omega.{arith}
@@ -8,10 +8,10 @@ use denote.Ref.{now}
 use Rattle.field.specs.Field.{assigned}
 use Rattle.cursor.proofs.Turns.{plain-words, plain-none}
 use Rattle.group.specs.Turns.{moveOf}
-use Rattle.group.proofs.Halves.{moved-both}
+use Rattle.group.proofs.Both.{moved-both}
 use borrow.Author.Needs.{needs}
-use Rattle.group.proofs.move_on.Statement.{statement}
-use Rattle.group.proofs.move_on.Tie as tie
+use Rattle.group.proofs.words.move_on.Statement.{statement}
+use Rattle.group.proofs.words.move_on.Tie as tie
 
 mul-w : tie.Need-mul-w
 mul-w c = search needs

@@ -1,12 +1,12 @@
--- `change_words`: what is left to do after some words is what there was to do. Assumes nothing.
+-- `words::change_words`: what is left to do after some words is what there was to do. Assumes nothing.
 use Prim.Native.Nat.{_+_, _-_}
 use native.Mathlib.Omega.{arith}
 use Rattle.field.specs.Field.{assigned}
 use Rattle.cursor.specs.Cursor.{startOf}
 use Rattle.group.proofs.Turns.{Went, went-start, turn-near, turn-ready, turn-goes, turn-fails, run-through}
 use borrow.Author.Needs.{needs}
-use Rattle.group.proofs.change_words.Statement.{statement}
-use Rattle.group.proofs.change_words.Tie as tie
+use Rattle.group.proofs.words.change_words.Statement.{statement}
+use Rattle.group.proofs.words.change_words.Tie as tie
 
 abbrev Inv-loop : tie.InvT-loop
 Inv-loop s words ranks ios block end n base count core₀ stop c₀ p₀ core c p =

@@ -1,4 +1,4 @@
--- `step_word`: from what its callees ensure. Assumes nothing.
+-- `halves::step_word`: from what its callees ensure. Assumes nothing.
 use mathlib.Core.Path.{sym, _∙_}
 use native.Mathlib.Omega.{arith}
 use denote.Ref.{now}
@@ -7,10 +7,10 @@ use Rattle.word.specs.Word.{fieldOf}
 use Rattle.field.specs.Field.{assigned}
 use Rattle.cursor.proofs.Reading.{past-at-most}
 use Rattle.group.specs.Turns.{bothOf}
-use Rattle.group.proofs.Halves.{half-fits, half-reach}
+use Rattle.group.proofs.Both.{half-fits, half-reach}
 use borrow.Author.Needs.{needs}
-use Rattle.group.proofs.step_word.Statement.{statement}
-use Rattle.group.proofs.step_word.Tie as tie
+use Rattle.group.proofs.halves.step_word.Statement.{statement}
+use Rattle.group.proofs.halves.step_word.Tie as tie
 
 left-half-requires : tie.Need-left-half-requires
 left-half-requires c κs = search needs

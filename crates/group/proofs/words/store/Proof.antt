@@ -1,9 +1,9 @@
--- `store`: what became of the word is stored, or the fault given on. Assumes nothing.
+-- `words::store`: what became of the word is stored, or the fault given on. Assumes nothing.
 use mathlib.Core.Path.{refl}
 use Rattle.group.specs.Turns.{oneMove}
 use borrow.Author.Needs.{needs}
-use Rattle.group.proofs.store.Statement.{statement}
-use Rattle.group.proofs.store.Tie as tie
+use Rattle.group.proofs.words.store.Statement.{statement}
+use Rattle.group.proofs.words.store.Tie as tie
 
 enum-known-r : tie.Need-enum-known-r
 enum-known-r c = search needs

@@ -1,9 +1,9 @@
--- `moved_word`: the test of the code is that of the definition. Assumes nothing.
+-- `words::moved_word`: the test of the code is that of the definition. Assumes nothing.
 use borrow.Author.Tests.{lt-ltb, le-ltb}
 use Rattle.group.specs.Turns.{movedWord}
 use borrow.Author.Needs.{needs}
-use Rattle.group.proofs.moved_word.Statement.{statement}
-use Rattle.group.proofs.moved_word.Tie as tie
+use Rattle.group.proofs.words.moved_word.Statement.{statement}
+use Rattle.group.proofs.words.moved_word.Tie as tie
 
 add-if1 : tie.Need-add-if1
 add-if1 c = search needs

@@ -1,10 +1,10 @@
--- `change_group`: from what its callees ensure; where every indicator word is 0, no word changes. Assumes nothing.
+-- `words::change_group`: from what its callees ensure; where every indicator word is 0, no word changes. Assumes nothing.
 use mathlib.Core.Path.{sym, _∙_}
 use denote.Ref.{now}
 use Rattle.group.proofs.Turns.{run-plain, marks-zero}
 use borrow.Author.Needs.{needs}
-use Rattle.group.proofs.change_group.Statement.{statement}
-use Rattle.group.proofs.change_group.Tie as tie
+use Rattle.group.proofs.words.change_group.Statement.{statement}
+use Rattle.group.proofs.words.change_group.Tie as tie
 
 sub-all-zero : tie.Need-sub-all-zero
 sub-all-zero c = search needs

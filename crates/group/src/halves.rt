@@ -1,0 +1,109 @@
+// A program word's left half, then its right one, each by its indicator.
+ghost use mathlib.Core.Path.{_≡_};
+ghost use Prim.Native.Nat.{_+_, _<_, _≤_, _^_};
+ghost use Rattle.field.specs.Field.{assigned};
+ghost use Rattle.cursor.specs.Cursor.{pastOf};
+ghost use Rattle.group.specs.Turns.{sameIn, typeIn, moreIn, onward, halfOf, bothOf};
+use cursor::Cursor;
+use field::Changed;
+use field::Setting;
+use indicator::Indicator;
+use word::Fault;
+use word::Half;
+
+// A word and the cursor past its indicators; or the fault of one of its fields.
+pub enum Stepped {
+    Next(u64, Cursor),
+    Stop(Fault),
+}
+
+// A word's left half, then its right one.
+pub fn step_word(
+    s: Setting,
+    words: &[u64],
+    ranks: &[u64],
+    ios: &[u64],
+    c: Cursor,
+    w: u64,
+) -> Stepped
+    requires { ⌜ (s .area .at .0 + s .area .size ≤ 65536) × (w < 2 ^ 36) × (c .at + 26 < 2 ^ 64) ⌝ }
+    ensures { λ r. ⌜ r ≡ bothOf (assigned s (now (words .entry)) (now (ranks .entry)) (now (ios .entry))) w c ⌝ }
+{
+    match left_half(s, words, ranks, ios, c, w) {
+        Stepped::Next(v, d) => right_half(s, words, ranks, ios, d, v),
+        Stepped::Stop(f) => Stepped::Stop(f),
+    }
+}
+
+// Either half has a function of its own, so that its code is made for its bits alone.
+fn left_half(s: Setting, words: &[u64], ranks: &[u64], ios: &[u64], c: Cursor, w: u64) -> Stepped
+    requires { ⌜ (s .area .at .0 + s .area .size ≤ 65536) × (w < 2 ^ 36) × (c .at + 13 < 2 ^ 64) ⌝ }
+    ensures { λ r. ⌜ r ≡ halfOf (assigned s (now (words .entry)) (now (ranks .entry)) (now (ios .entry))) Half.Left w c ⌝ }
+{
+    let m = cursor::look(c.ahead, word::field(w, Half::Left));
+    if same_in(m) {
+        return Stepped::Next(w, cursor::pass(c, m));
+    }
+    passed(
+        c,
+        m,
+        field::left_step(s, words, ranks, ios, type_in(m), w, more_in(m)),
+    )
+}
+
+fn right_half(s: Setting, words: &[u64], ranks: &[u64], ios: &[u64], c: Cursor, w: u64) -> Stepped
+    requires { ⌜ (s .area .at .0 + s .area .size ≤ 65536) × (w < 2 ^ 36) × (c .at + 13 < 2 ^ 64) ⌝ }
+    ensures { λ r. ⌜ r ≡ halfOf (assigned s (now (words .entry)) (now (ranks .entry)) (now (ios .entry))) Half.Right w c ⌝ }
+{
+    let m = cursor::look(c.ahead, word::field(w, Half::Right));
+    if same_in(m) {
+        return Stepped::Next(w, cursor::pass(c, m));
+    }
+    passed(
+        c,
+        m,
+        field::right_step(s, words, ranks, ios, type_in(m), w, more_in(m)),
+    )
+}
+
+// What became of a half, and the cursor past its indicator.
+fn passed(c: Cursor, m: Indicator, r: Changed) -> Stepped
+    requires { ⌜ c .at + 13 < 2 ^ 64 ⌝ }
+    ensures { λ x. ⌜ x ≡ onward r (λ v. Stepped.Next v (pastOf c m)) ⌝ }
+{
+    match r {
+        Changed::Word(v) => Stepped::Next(v, cursor::pass(c, m)),
+        Changed::Refused(f) => Stepped::Stop(f),
+    }
+}
+
+// Whether an indicator tells no change; its type; its nine bits more.
+fn same_in(m: Indicator) -> bool
+    ensures { λ r. ⌜ r ≡ sameIn m ⌝ }
+{
+    match m {
+        Indicator::Same => true,
+        Indicator::Change(_) => false,
+        Indicator::Long(_) => false,
+    }
+}
+
+fn type_in(m: Indicator) -> u64
+    ensures { λ r. ⌜ r ≡ typeIn m ⌝ }
+{
+    match m {
+        Indicator::Same => 0,
+        Indicator::Change(t) => t,
+        Indicator::Long(_) => 2,
+    }
+}
+
+fn more_in(m: Indicator) -> u64
+    ensures { λ r. ⌜ r ≡ moreIn m ⌝ }
+{
+    match m {
+        Indicator::Same => 0,
+        Indicator::Change(_) => 0,
+        Indicator::Long(x) => x,
+    }
+}
