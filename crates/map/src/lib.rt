@@ -5,6 +5,7 @@ ghost use Prim.Native.Nat.{_+_, _<_};
 ghost use lib.ListN.{getD, drop};
 ghost use Rattle.word.specs.Lists.{every, everyTwo};
 ghost use Rattle.map.specs.Map.{none, stretchOf, mapOf, inCore, stretchesApart, mapObeys};
+ghost use Rattle.map.specs.Order.{inOrder};
 use word::Absolute;
 
 // A room's part of core: the address of its first word, and how many words it has.
@@ -31,6 +32,20 @@ pub fn read_map(numbers: &[u64]) -> [Stretch; 8]
     m
 }
 
+// Whether the map that a list tells obeys its rule. Stretches that stand in the order of their rooms obey at a glance; others are
+// held against each other.
+pub fn map_fits(core: u64, numbers: &[u64]) -> bool
+    ensures { λ b. ⌜ b ≡ mapObeys core (mapOf (now (numbers .entry))) ⌝ }
+{
+    if numbers.len() != 16 {
+        return pairs_fit(core, numbers);
+    }
+    if in_order(core, read_map(numbers)) {
+        return true;
+    }
+    pairs_fit(core, numbers)
+}
+
 // Whether each stretch lies inside the core and no two share a word, whatever the numbers are.
 pub fn map_obeys(core: u64, m: [Stretch; 8]) -> bool
     ensures { λ b. ⌜ b ≡ mapObeys core m ⌝ }
@@ -41,8 +56,43 @@ pub fn map_obeys(core: u64, m: [Stretch; 8]) -> bool
     false
 }
 
+// The same of any list, two stretches at a time.
+fn pairs_fit(core: u64, numbers: &[u64]) -> bool
+    ensures { λ b. ⌜ b ≡ mapObeys core (mapOf (now (numbers .entry))) ⌝ }
+{
+    map_obeys(core, read_map(numbers))
+}
+
+// Whether each stretch lies inside the core and starts at or behind the end of those before it; an empty one may start anywhere.
+// What is left of the core behind them tells it: a stretch that starts past the core has a difference that wraps, and so is over it.
+fn in_order(core: u64, m: [Stretch; 8]) -> bool
+    ensures { λ b. ⌜ b ≡ inOrder core 0 m ⌝ }
+{
+    let mut left = core;
+    let mut r: usize = 0;
+    while r < 8 {
+        let s = m[r];
+        let x = std::num::wrapping_sub_u64(core, s.start.0);
+        r += 1;
+        if left < x {
+            if s.len != 0 {
+                return false;
+            }
+            if core < x {
+                return false;
+            }
+        } else {
+            if x < s.len {
+                return false;
+            }
+            left = x - s.len;
+        }
+    }
+    true
+}
+
 // Room r's pair of the list.
-fn stretch_of(numbers: &[u64], r: usize) -> Stretch
+pub fn stretch_of(numbers: &[u64], r: usize) -> Stretch
     requires { ⌜ r < 8 ⌝ }
     ensures { λ s. ⌜ s ≡ stretchOf (now (numbers .entry)) r ⌝ }
 {
