@@ -1,7 +1,7 @@
 -- Stretches that stand in the order of their rooms obey the map's rule, and the pass that looks for it. Assumes nothing.
-use Prim.Native.Nat.{ℕ, zero, suc, _+_, _-_, _%_, _^_, _≤_, _<_}
+use Prim.Native.Nat.{ℕ, suc, _+_, _-_, _%_, _^_, _≤_, _<_}
 use mathlib.Core.Path.{_≡_, refl, sym, _∙_}
-use mathlib.Core.Bool.{Bool, true, false, _&&_, and-false}
+use mathlib.Core.Bool.{Bool, true, false, and-false}
 use mathlib.Core.List.{List, [], _∷_}
 use native.Mathlib.Omega.{arith}
 use native.Mathlib.Numerals.{add-one}
@@ -10,7 +10,6 @@ use lib.Seq.{drop-cons}
 use lib.Dec.{leb, eqb}
 use borrow.Author.Tests.{leb-true, leb-false, le-leb, lt-leb, eq-eqb, ne-eqb, eqb-true}
 use Rattle.word.specs.Lists.{every, everyTwo}
-use Rattle.word.specs.Runs.{within}
 use Rattle.word.proofs.Cases.{by-test, by-lt, and-left, and-right, and-both}
 use Rattle.map.specs.declared.Stretch.{Stretch}
 use Rattle.map.specs.Map.{inCore, stretchesApart, mapObeys, none}

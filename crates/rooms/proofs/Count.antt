@@ -37,6 +37,22 @@ count-some x [] i h q = absurd (omega arith)
 count-some x (a ∷ l) zero h q = omega (arith, hit-yes a x q)
 count-some x (a ∷ l) (suc i) h q = omega (arith, count-some x l i (omega arith) q)
 
+-- and one that stands at two places, or at three
+pub count-two : (x : ℕ) (l : List ℕ) (i j : ℕ) → i < j → j < length l → getD l i 0 ≡ x → getD l j 0 ≡ x → 2 ≤ count x l
+unfolding count
+count-two x [] i j o h p q = absurd (omega arith)
+count-two x (a ∷ l) i zero o h p q = absurd (omega arith)
+count-two x (a ∷ l) zero (suc j) o h p q = omega (arith, hit-yes a x p, count-some x l j (omega arith) q)
+count-two x (a ∷ l) (suc i) (suc j) o h p q = omega (arith, count-two x l i j (omega arith) (omega arith) p q)
+
+pub count-three : (x : ℕ) (l : List ℕ) (i j k : ℕ) → i < j → j < k → k < length l → getD l i 0 ≡ x → getD l j 0 ≡ x → getD l k 0 ≡ x → 3 ≤ count x l
+unfolding count
+count-three x [] i j k o u h p q r = absurd (omega arith)
+count-three x (a ∷ l) i j zero o u h p q r = absurd (omega arith)
+count-three x (a ∷ l) i zero (suc k) o u h p q r = absurd (omega arith)
+count-three x (a ∷ l) zero (suc j) (suc k) o u h p q r = omega (arith, hit-yes a x p, count-two x l j k (omega arith) (omega arith) q r)
+count-three x (a ∷ l) (suc i) (suc j) (suc k) o u h p q r = omega (arith, count-three x l i j k (omega arith) (omega arith) (omega arith) p q r)
+
 pub count-take : (x : ℕ) (l : List ℕ) (i : ℕ) → i < length l → count x (take (suc i) l) ≡ count x (take i l) + hit (getD l i 0) x
 unfolding count
 count-take x [] i h = absurd (omega arith)
@@ -48,6 +64,12 @@ unfolding count
 count-take-most x l zero = omega arith
 count-take-most x [] (suc i) = omega arith
 count-take-most x (a ∷ l) (suc i) = omega (arith, hit-most a x, count-take-most x l i)
+
+pub count-take-below : (x : ℕ) (l : List ℕ) (i : ℕ) → count x (take i l) ≤ count x l
+unfolding count
+count-take-below x l zero = omega arith
+count-take-below x [] (suc i) = omega arith
+count-take-below x (a ∷ l) (suc i) = omega (arith, count-take-below x l i)
 
 -- the loop that counts: n so far, and the rest of the list
 module _ (x : ℕ) (l : List ℕ) (i n b : ℕ) where
@@ -69,6 +91,12 @@ tab-set f g n r h k =
     (λ i j. getD-tab g n i 0 (omega arith) ∙ by-eq i r
     (λ z. rw z (sym (getD-set-same (tab f n) r (g r) 0 (omega arith))))
     (λ z. k i z ∙ sym (getD-tab f n i 0 (omega arith)) ∙ sym (getD-set-other (tab f n) r i (g r) 0 z)))
+
+-- and two that differ nowhere
+pub tab-same : (f g : ℕ → ℕ) (n : ℕ) → ((q : ℕ) → g q ≡ f q) → tab g n ≡ tab f n
+unfolding tab
+tab-same f g zero k = refl
+tab-same f g (suc n) k = rw (tab-same f g n k, k n)
 
 -- how many places each room holds
 pub each-length : (l : List ℕ) → length (heldEach l) ≡ roomCount

@@ -1,3 +1,4 @@
 pub mod Count
 pub mod Rooms
 pub mod Pass
+pub mod Counted

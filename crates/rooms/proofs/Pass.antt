@@ -2,19 +2,16 @@
 -- room's. Assumes nothing.
 use Prim.Native.Nat.{ℕ, suc, _+_, _≤_, _<_}
 use mathlib.Core.Path.{_≡_, refl, sym, ap, _∙_}
-use mathlib.Core.Bool.{_&&_}
 use mathlib.Core.List.{List, [], _∷_, map}
 use native.Mathlib.Omega.{arith}
-use native.Mathlib.Nat.{zero-add}
 use native.Mathlib.Numerals.{add-one}
-use lib.Dec.{eqb, leb}
 use lib.ListN.{length, getD, set, replicate, take, drop, length-map, List·getD-map}
 use lib.Seq.{ext-getD, getD-take, getD-drop, take-all}
-use borrow.Author.Tests.{le-leb, lt-leb, ne-eqb}
-use Rattle.word.specs.Lists.{every, tab}
+use borrow.Author.Tests.{le-leb, lt-leb}
+use Rattle.word.specs.Lists.{tab}
 use Rattle.word.proofs.Cases.{by-lt}
 use Rattle.word.proofs.Lists.{getD-tab}
-use Rattle.rooms.specs.Rooms.{roomCount, mostHeld, hit, count, free, held, heldEach, idle, atMost, fair}
+use Rattle.rooms.specs.Rooms.{hit, count, free, held, heldEach, idle}
 use Rattle.rooms.specs.Tally.{slotOf, tallied}
 use Rattle.rooms.proofs.Count.{hit-yes, hit-no, count-take, count-take-most, tab-set, each-at}
 
@@ -80,22 +77,7 @@ unfolding count
 slot-count x [] h = refl
 slot-count x (a ∷ l) h = rw (slot-hit a x h, slot-count x l h)
 
-slot-strangers : (l : List ℕ) → eqb (count 9 (map slotOf l)) 0 ≡ every (atMost roomCount) l
-unfolding count every atMost
-slot-strangers [] = refl
-slot-strangers (a ∷ l) = by-lt a 9
-    (λ k. rw (slot-room a k, hit-no a 9 (λ z. omega arith), zero-add, le-leb a roomCount (omega arith)) (slot-strangers l))
-    (λ k. rw (slot-stranger a k, hit-yes 9 9 refl, lt-leb a roomCount k) (ne-eqb (1 + count 9 (map slotOf l)) 0 (λ z. omega arith)))
-
 module _ (l : List ℕ) where
-  tally-free : getD (tallied l) 0 0 ≡ free l
-  unfolding tallied free
-  tally-free = getD-tab (λ k. count k (map slotOf l)) 10 0 0 (omega arith) ∙ slot-count 0 l (omega arith)
-
-  tally-strangers : eqb (getD (tallied l) 9 0) 0 ≡ every (atMost roomCount) l
-  unfolding tallied
-  tally-strangers = rw (getD-tab (λ k. count k (map slotOf l)) 10 9 0 (omega arith)) (slot-strangers l)
-
   tally-rooms : take 8 (drop 1 (tallied l)) ≡ heldEach l
   unfolding tallied heldEach held tab
   tally-rooms =
@@ -107,12 +89,8 @@ module _ (l : List ℕ) where
       ∙ ap (λ (x : ℕ). count x l) (omega arith)
       ∙ sym (each-at l r h))
 
--- H and the test of fairness, by the counts
+-- H by the counts
 module _ (l n : List ℕ) (q : n ≡ tallied l) where
   pub tally-idle : count 0 (take 8 (drop 1 n)) ≡ idle l
   unfolding idle
   tally-idle = rw (q, tally-rooms l)
-
-  pub tally-fair : fair l ≡ (eqb (getD n 9 0) 0 && (every (atMost mostHeld) (take 8 (drop 1 n)) && leb (count 0 (take 8 (drop 1 n))) (getD n 0 0)))
-  unfolding fair idle
-  tally-fair = rw (q, tally-strangers l, tally-rooms l, tally-free l)

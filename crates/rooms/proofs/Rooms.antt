@@ -12,27 +12,34 @@ use Rattle.word.specs.Runs.{Says}
 use Rattle.word.proofs.Cases.{by-test, by-eq, by-lt}
 use Rattle.word.proofs.Says.{says-le, says-and, says-as, says-every}
 use Rattle.rooms.specs.Rooms.{roomCount, placeCount, mostHeld, hit, count, free, held, heldEach, idle, atMost, fair, Fair, fresh, lowestFree, placeRefusal}
-use Rattle.rooms.proofs.Count.{hit-yes, hit-no, hit-most, count-set, count-some, tab-set, each-length, each-at, lowest-inside, lowest-is-free}
+use Rattle.rooms.proofs.Count.{hit-yes, hit-no, hit-most, count-set, count-some, count-three, tab-set, each-length, each-at, lowest-inside, lowest-is-free}
 
 -- ---- the test and the facts
 at-most-says : (m n : ℕ) → Says (atMost m n) (n ≤ m)
 unfolding atMost
 at-most-says m n = says-le n m
 
-pub fair-says : (l : List ℕ) → length l ≡ placeCount → Says (fair l) (Fair l)
+pub fair-parts : (l : List ℕ) → Says (fair l) (((p : ℕ) → p < length l → getD l p 0 ≤ roomCount) × (((r : ℕ) → r < roomCount → held r l ≤ mostHeld) × (idle l ≤ free l)))
 unfolding fair
-fair-says l e =
+fair-parts l =
     let n = each-length l in
     says-as
     (says-and (says-every (atMost roomCount) l (at-most-says roomCount))
     (says-and (says-every (atMost mostHeld) (heldEach l) (at-most-says mostHeld)) (says-le (idle l) (free l))))
-    (λ h. record {
-      twelve = e;
-      known = λ p k. h .0 p (omega arith);
-      two = λ r k. rw (each-at l r k) at (h .1 .0 r (omega arith));
-      enough = h .1 .1;
-    })
-    (λ f. (λ p k. f .known p (omega arith), (λ r k. rw (each-at l r (omega arith)) (f .two r (omega arith)), f .enough)))
+    (λ h. (h .0, (λ r k. rw (each-at l r k) at (h .1 .0 r (omega arith)), h .1 .1)))
+    (λ f. (f .0, (λ r k. rw (each-at l r (omega arith)) (f .1 .0 r (omega arith)), f .1 .1)))
+
+pub fair-says : (l : List ℕ) → length l ≡ placeCount → Says (fair l) (Fair l)
+fair-says l e =
+    says-as (fair-parts l)
+    (λ h. record { twelve = e; known = λ p k. h .0 p (omega arith); two = h .1 .0; enough = h .1 .1 })
+    (λ f. (λ p k. f .known p (omega arith), (f .two, f .enough)))
+
+-- no room holds three places
+pub no-third : (l : List ℕ) (r i j k : ℕ) → Fair l → r < roomCount → i < j → j < k → k < placeCount
+    → getD l i 0 ≡ r + 1 → getD l j 0 ≡ r + 1 → getD l k 0 ≡ r + 1 → ⊥
+unfolding held
+no-third l r i j k f h o u in-k p q s = omega (arith, f .two r h, count-three (r + 1) l i j k o u (omega (arith, f .twelve)) p q s)
 
 pub fresh-fair : Fair fresh
 unfolding fair every atMost heldEach tab held idle free count hit
@@ -49,7 +56,7 @@ module _ (l : List ℕ) (p b : ℕ) (h : p < length l) where
   held-set r = count-set (r + 1) l p b h
 
 -- two lists of holders that differ in room r alone: H
-idle-set : (l m : List ℕ) (r : ℕ) → r < roomCount → ((q : ℕ) → (q ≡ r → ⊥) → held q m ≡ held q l)
+pub idle-set : (l m : List ℕ) (r : ℕ) → r < roomCount → ((q : ℕ) → (q ≡ r → ⊥) → held q m ≡ held q l)
     → idle m + hit (held r l) 0 ≡ idle l + hit (held r m) 0
 unfolding idle heldEach
 idle-set l m r h k =

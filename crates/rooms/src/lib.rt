@@ -2,9 +2,8 @@
 // numbers, one for each place: 0 where it is free, r + 1 where room r holds it.
 ghost use mathlib.Core.Path.{_≡_};
 ghost use Prim.Native.Nat.{_<_};
-ghost use Rattle.word.specs.Lists.{every};
 ghost use Rattle.rooms.specs.Tally.{slotOf, tallied};
-ghost use Rattle.rooms.specs.Rooms.{roomCount, hit, count, free, held, idle, atMost, fair, lowestFree, placeRefusal};
+ghost use Rattle.rooms.specs.Rooms.{roomCount, hit, count, free, held, idle, fair, lowestFree, placeRefusal};
 
 // F: how many places are free.
 pub fn free_places(holders: &[u64]) -> u64
@@ -29,18 +28,31 @@ pub fn idle_rooms(holders: &[u64]) -> u64
     how_many(&counts[1..9], 0)
 }
 
-// Whether each holder is a room's or none, no room holds over two, and F is at least H.
+// Whether each holder is a room's or none, no room holds over two, and F is at least H: where no room holds over two, F places and
+// all rooms but H are as many as there are places that are no room's second.
 pub fn fair(holders: &[u64]) -> bool
     ensures { λ b. ⌜ b ≡ fair (now (holders .entry)) ⌝ }
 {
-    let n = tally(holders);
-    if n[9] != 0 {
-        return false;
+    let mut n = [0u64; 8];
+    let mut seconds: u64 = 0;
+    let mut i: usize = 0;
+    while i < holders.len() {
+        let h = holders[i];
+        i += 1;
+        if h != 0 {
+            if 8 < h {
+                return false;
+            }
+            let r = (h - 1) as usize;
+            let k = n[r];
+            if 1 < k {
+                return false;
+            }
+            seconds += k;
+            n[r] = k + 1;
+        }
     }
-    if !each_at_most(&n[1..9], 2) {
-        return false;
-    }
-    how_many(&n[1..9], 0) <= n[0]
+    seconds + 8 <= holders.len() as u64
 }
 
 // The lowest free place, or the length where none is free.
@@ -113,18 +125,4 @@ fn one_if_same(a: u64, b: u64) -> u64
     ensures { λ n. ⌜ n ≡ hit a b ⌝ }
 {
     if a == b { 1 } else { 0 }
-}
-
-// Whether no number is over the most that is allowed.
-fn each_at_most(numbers: &[u64], most: u64) -> bool
-    ensures { λ b. ⌜ b ≡ every (atMost most) (now (numbers .entry)) ⌝ }
-{
-    let mut i: usize = 0;
-    while i < numbers.len() {
-        if most < numbers[i] {
-            return false;
-        }
-        i += 1;
-    }
-    true
 }

@@ -1,74 +1,103 @@
--- `rooms::fair` meets its contract: its three tests are the definition's, made on the counts. Assumes nothing.
-use mathlib.Core.Path.{sym, _∙_}
-use borrow.Author.Tests.{eq-eqb, ne-eqb, not-true, not-false}
-use Rattle.rooms.proofs.Pass.{tally-fair}
-use borrow.Author.Needs.{needs}
+-- `rooms::fair` meets its contract: after i turns the first i holders are counted. Assumes nothing.
+use Prim.Native.Nat.{_≤_, _-_}
+use mathlib.Core.Path.{_≡_, refl}
+use native.Mathlib.Omega.{arith}
+use lib.ListN.{length, length-set}
+use Rattle.rooms.proofs.Counted.{Counted, counted-none, counted-free, counted-held, counted-stranger, counted-third, counted-end}
 use Rattle.rooms.proofs.fair.Statement.{statement}
 use Rattle.rooms.proofs.fair.Tie as tie
 
-tally-requires : tie.Need-tally-requires
-tally-requires c κs = search needs
+abbrev Inv-loop : tie.InvT-loop
+Inv-loop holders n₀ seconds₀ i₀ n seconds i = (i ≤ length holders) × (length n ≡ 8) × (seconds ≤ i) × (Counted holders i n seconds)
 
-array-read-if1 : tie.Need-array-read-if1
-array-read-if1 c = search needs
+abbrev μ-loop : tie.MeasureT-loop
+μ-loop holders n₀ seconds₀ i₀ n seconds i = length holders - i
 
-returns : tie.Need-returns
-returns c = sym (tally-fair _ _ (c .before .tally .ensures) ∙ rw (ne-eqb _ 0 (c .if1 .taken)))
+loop-holds : tie.Need-loop-holds Inv-loop μ-loop
+loop-holds c = (omega arith, refl, omega arith, counted-none _)
 
-sub-each-at-most : tie.Need-sub-each-at-most
-sub-each-at-most c = search needs
+mul-h : tie.Need-mul-h Inv-loop μ-loop
+mul-h c = omega arith
 
-part-each-at-most-start : tie.Need-part-each-at-most-start
-part-each-at-most-start c = search needs
+shared-slice-read-h : tie.Need-shared-slice-read-h Inv-loop μ-loop
+shared-slice-read-h c = omega arith
 
-part-each-at-most-end : tie.Need-part-each-at-most-end
-part-each-at-most-end c = search needs
+add-i : tie.Need-add-i Inv-loop μ-loop
+add-i c = omega arith
 
-each-at-most-requires : tie.Need-each-at-most-requires
-each-at-most-requires c κs = search needs
+returns : tie.Need-returns Inv-loop μ-loop
+returns c = let l = c .before .before .before .before .loop in counted-stranger _ _ (l .i) _ (l .inv .3) (omega arith) (c .if2 .taken)
 
-returns-2 : tie.Need-returns-2
+sub-r : tie.Need-sub-r Inv-loop μ-loop
+sub-r c = omega arith
+
+mul-k : tie.Need-mul-k Inv-loop μ-loop
+mul-k c = omega arith
+
+array-read-k : tie.Need-array-read-k Inv-loop μ-loop
+array-read-k c = omega arith
+
+returns-2 : tie.Need-returns-2 Inv-loop μ-loop
 returns-2 c =
-    let b = c .before .before .before .before in
-    sym (tally-fair _ _ (b .before .tally .ensures) ∙ rw (eq-eqb _ 0 (b .if1 .left), sym (c .before .each-at-most .ensures) ∙ not-true _ (c .if2 .taken)))
+    let l = c .before .before .before .before .before .loop in
+    counted-third _ _ (l .i) _ (l .inv .3) _ (omega arith) (omega arith) (omega arith) (c .if3 .taken)
 
-sub-how-many : tie.Need-sub-how-many
-sub-how-many c = search needs
+add-seconds : tie.Need-add-seconds Inv-loop μ-loop
+add-seconds c = omega arith
 
-part-how-many-start : tie.Need-part-how-many-start
-part-how-many-start c = search needs
+add-n : tie.Need-add-n Inv-loop μ-loop
+add-n c = omega arith
 
-part-how-many-end : tie.Need-part-how-many-end
-part-how-many-end c = search needs
+mul-n : tie.Need-mul-n Inv-loop μ-loop
+mul-n c = omega arith
 
-how-many-requires : tie.Need-how-many-requires
-how-many-requires c κs = search needs
+array-write-n : tie.Need-array-write-n Inv-loop μ-loop
+array-write-n c = omega arith
 
-array-read-result : tie.Need-array-read-result
-array-read-result c = search needs
+loop-less : tie.Need-loop-less Inv-loop μ-loop
+loop-less c = omega arith
 
-returns-3 : tie.Need-returns-3
-returns-3 c =
-    let d = c .before .before .before in
-    let b = d .before .before .before .before in
-    rw (c .how-many .ensures)
-    (sym (tally-fair _ _ (b .before .tally .ensures) ∙ rw (eq-eqb _ 0 (b .if1 .left), sym (d .before .each-at-most .ensures) ∙ not-false _ (d .if2 .left))))
+loop-again : tie.Need-loop-again Inv-loop μ-loop
+loop-again c =
+    let l = c .before .before .before .before .before .loop in
+    (omega arith, simp length-set (omega arith), omega arith, counted-held _ _ (l .i) _ (l .inv .3) _ (omega arith) (omega arith) (omega arith) (c .if3 .left))
+
+loop-less-2 : tie.Need-loop-less-2 Inv-loop μ-loop
+loop-less-2 c = omega arith
+
+loop-again-2 : tie.Need-loop-again-2 Inv-loop μ-loop
+loop-again-2 c =
+    let l = c .before .before .before .loop in
+    (omega arith, omega arith, omega arith, counted-free _ _ (l .i) _ (l .inv .3) (omega arith) (c .if1 .left))
+
+add-result : tie.Need-add-result Inv-loop μ-loop
+add-result c = omega arith
+
+returns-3 : tie.Need-returns-3 Inv-loop μ-loop
+returns-3 c = let l = c .before .loop in counted-end _ _ (l .i) _ (l .inv .3) (omega arith)
 
 pub fair-spec : {M : Type 1} → statement M
 fair-spec =
     tie.close
     (tie.spec
-    tally-requires
-    array-read-if1
+    Inv-loop
+    μ-loop
+    loop-holds
+    mul-h
+    shared-slice-read-h
+    add-i
     returns
-    sub-each-at-most
-    part-each-at-most-start
-    part-each-at-most-end
-    each-at-most-requires
+    sub-r
+    mul-k
+    array-read-k
     returns-2
-    sub-how-many
-    part-how-many-start
-    part-how-many-end
-    how-many-requires
-    array-read-result
+    add-seconds
+    add-n
+    mul-n
+    array-write-n
+    loop-less
+    loop-again
+    loop-less-2
+    loop-again-2
+    add-result
     returns-3)
