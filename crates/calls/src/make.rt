@@ -24,7 +24,7 @@ pub fn make_desk(desk: &mut [u64], core: u64, numbers: &[u64]) -> Answer
     if numbers.len() != 16 {
         return Answer::Refused(Fault { number: 3 });
     }
-    if !map::map_obeys(core, map::read_map(numbers)) {
+    if !map::map_fits(core, numbers) {
         return Answer::Refused(Fault { number: 3 });
     }
     write_fresh(desk, core, numbers);

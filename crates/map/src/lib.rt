@@ -2,7 +2,7 @@
 // and refusal 3).
 ghost use mathlib.Core.Path.{_≡_};
 ghost use Prim.Native.Nat.{_+_, _<_};
-ghost use lib.ListN.{getD, drop};
+ghost use lib.ListN.{length, getD, drop};
 ghost use Rattle.word.specs.Lists.{every, everyTwo};
 ghost use Rattle.map.specs.Map.{none, stretchOf, mapOf, inCore, stretchesApart, mapObeys};
 ghost use Rattle.map.specs.Order.{inOrder};
@@ -91,8 +91,19 @@ fn in_order(core: u64, m: [Stretch; 8]) -> bool
     true
 }
 
+// Room r's pair of a list that has it.
+pub fn stretch_at(numbers: &[u64], r: usize) -> Stretch
+    requires { ⌜ (r < 8) × (length (now numbers) ≡ 16) ⌝ }
+    ensures { λ s. ⌜ s ≡ stretchOf (now (numbers .entry)) r ⌝ }
+{
+    Stretch {
+        start: Absolute(numbers[2 * r]),
+        len: numbers[2 * r + 1],
+    }
+}
+
 // Room r's pair of the list.
-pub fn stretch_of(numbers: &[u64], r: usize) -> Stretch
+fn stretch_of(numbers: &[u64], r: usize) -> Stretch
     requires { ⌜ r < 8 ⌝ }
     ensures { λ s. ⌜ s ≡ stretchOf (now (numbers .entry)) r ⌝ }
 {

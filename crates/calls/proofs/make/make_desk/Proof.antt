@@ -24,17 +24,13 @@ unfolding makeOf
 returns-4 c =
     rw (eq-eqb _ _ (c .before .before .before .if1 .left), le-leb _ _ (c .before .before .if2 .left), le-leb _ _ (c .before .if3 .left), ne-eqb _ _ (c .if4 .taken)) (record { told = refl; desk-left = refl; core-left = refl })
 
-read-map-requires : tie.Need-read-map-requires
-read-map-requires c κs = search needs
-
-map-obeys-requires : tie.Need-map-obeys-requires
-map-obeys-requires c κs = search needs
+map-fits-requires : tie.Need-map-fits-requires
+map-fits-requires c κs = search needs
 
 returns-5 : tie.Need-returns-5
 unfolding makeOf
 returns-5 c =
-    let m = ap (mapObeys (c .before .before .before .before .before .before .before .before .before .args .core)) (sym (c .before .before .read-map .ensures)) ∙ sym (c .before .map-obeys .ensures) in
-    rw (eq-eqb _ _ (c .before .before .before .before .before .before .if1 .left), le-leb _ _ (c .before .before .before .before .before .if2 .left), le-leb _ _ (c .before .before .before .before .if3 .left), eq-eqb _ _ (c .before .before .before .if4 .left), m ∙ not-true _ (c .if5 .taken))
+    rw (eq-eqb _ _ (c .before .before .before .before .before .if1 .left), le-leb _ _ (c .before .before .before .before .if2 .left), le-leb _ _ (c .before .before .before .if3 .left), eq-eqb _ _ (c .before .before .if4 .left), sym (c .before .map-fits .ensures) ∙ not-true _ (c .if5 .taken))
     (record { told = refl; desk-left = refl; core-left = refl })
 
 write-fresh-requires : tie.Need-write-fresh-requires
@@ -46,8 +42,7 @@ same-length c = search needs
 returns-6 : tie.Need-returns-6
 unfolding makeOf
 returns-6 c =
-    let m = ap (mapObeys (c .before .before .before .before .before .before .before .before .before .before .before .before .before .args .core)) (sym (c .before .before .before .before .before .before .read-map .ensures)) ∙ sym (c .before .before .before .before .before .map-obeys .ensures) in
-    rw (eq-eqb _ _ (c .before .before .before .before .before .before .before .before .before .before .if1 .left), le-leb _ _ (c .before .before .before .before .before .before .before .before .before .if2 .left), le-leb _ _ (c .before .before .before .before .before .before .before .before .if3 .left), eq-eqb _ _ (c .before .before .before .before .before .before .before .if4 .left), m ∙ not-false _ (c .before .before .before .before .if5 .left))
+    rw (eq-eqb _ _ (c .before .before .before .before .before .before .before .before .before .if1 .left), le-leb _ _ (c .before .before .before .before .before .before .before .before .if2 .left), le-leb _ _ (c .before .before .before .before .before .before .before .if3 .left), eq-eqb _ _ (c .before .before .before .before .before .before .if4 .left), sym (c .before .before .before .before .before .map-fits .ensures) ∙ not-false _ (c .before .before .before .before .if5 .left))
     (record { told = refl; desk-left = c .before .before .write-fresh .ensures; core-left = refl })
 
 pub make-desk-spec : {M : Type 1} → statement M
@@ -58,8 +53,7 @@ make-desk-spec =
     returns-2
     returns-3
     returns-4
-    read-map-requires
-    map-obeys-requires
+    map-fits-requires
     returns-5
     write-fresh-requires
     same-length
