@@ -1,73 +1,47 @@
 -- Soundness as facts of each place and of each two, both ways; that a free place asks nothing; and what a held one has. Assumes nothing.
 use Prim.Native.Nat.{ℕ, _+_, _-_, _≤_, _<_}
-use mathlib.Core.Path.{_≡_, sym, _∙_}
-use mathlib.Core.Bool.{Bool, true}
-use mathlib.Core.List.{List, []}
+use mathlib.Core.Path.{_≡_, _∙_}
+use mathlib.Core.Bool.{true}
+use mathlib.Core.List.{List}
 use native.Mathlib.Omega.{arith}
 use lib.ListN.{length, getD}
 use lib.Dec.{eqb, leb}
 use borrow.Author.Tests.{eq-eqb, ne-eqb, leb-true}
-use Rattle.word.specs.Lists.{every}
 use Rattle.word.specs.Runs.{Says}
 use Rattle.word.specs.declared.Area.{Area}
-use Rattle.word.proofs.Every.{every-by}
 use Rattle.word.proofs.Cases.{by-test, and-left, and-right}
 use Rattle.word.proofs.Says.{says-eq, says-and, says-as, says-within}
 use Rattle.word.proofs.Lists.{length-range}
 use Rattle.map.specs.declared.Stretch.{Stretch}
 use Rattle.map.specs.Map.{mapOf, mapObeys, none, MapObeys}
 use Rattle.map.proofs.Map.{map-length, map-obeys-says}
-use Rattle.word.proofs.Each.{says-each, says-two}
 use Rattle.rooms.specs.Rooms.{Fair}
 use Rattle.rooms.proofs.Rooms.{fair-says}
 use Rattle.lists.specs.Chain.{chain}
 use Rattle.lists.specs.Obey.{tablesObey}
 use Rattle.lists.proofs.Kept.{numbers-obey, tables-length}
-use Rattle.layout.specs.Layout.{deskWords, coreLength, mapNumbers, placeIn, places, holderOf, holderIn, iosIn, wordsIn, ranksIn, holders}
+use Rattle.layout.specs.Layout.{deskWords, coreLength, mapNumbers, placeIn, holderOf, holderIn, iosIn, wordsIn, ranksIn, holders}
 use Rattle.layout.proofs.Places.{holder-at, length-holders, getD-holders, place-length}
 use Rattle.desk.specs.Sound.{sound, coreFits, areaIn, countsFit, tablesHeld, loadFits, heldFits, placeFits, areasApart, Sound, ownIn, HeldFacts}
-use Rattle.desk.proofs.Tested.{counts-small, places-length, places-at}
-
--- a test says that it passes
-says-self : (b : Bool) → Says b (b ≡ true)
-says-self b = record { fact = λ h. h; test = λ h. h }
+use Rattle.desk.proofs.Tested.{counts-small, says-self, places-say}
 
 pub sound-says : (d : List ℕ) → Says (sound d) (Sound d)
 unfolding sound
 sound-says d =
-    let m = mapOf (mapNumbers d) in
-    let e = places-length d in
     says-as
     (says-and (says-eq (length d) deskWords)
     (says-and (says-self (coreFits (coreLength d)))
-    (says-and (says-self (mapObeys (coreLength d) m))
-    (says-and (fair-says (holders d) (length-holders d))
-    (says-and (says-each [] (placeFits m) (λ l. placeFits m l ≡ true) (λ l. says-self (placeFits m l)) (places d))
-    (says-two [] areasApart (λ l k. areasApart l k ≡ true) (λ l k. says-self (areasApart l k)) (places d)))))))
+    (says-and (says-self (mapObeys (coreLength d) (mapOf (mapNumbers d))))
+    (says-and (fair-says (holders d) (length-holders d)) (places-say d)))))
     (λ h. record {
       long = h .0;
       core = h .1 .0;
       map = h .1 .1 .0;
       fair = h .1 .1 .1 .0;
-      place = λ p k. rw (places-at d p k) at (h .1 .1 .1 .1 .0 p (omega arith));
-      two = λ p q l k. rw (places-at d p (omega arith), places-at d q k) at (h .1 .1 .1 .1 .1 p q l (omega arith));
+      place = h .1 .1 .1 .1 .0;
+      two = h .1 .1 .1 .1 .1;
     })
-    (λ s. (
-      s .long,
-      (
-        s .core,
-        (
-          s .map,
-          (
-            s .fair,
-            (
-              λ p k. rw (places-at d p (omega arith)) (s .place p (omega arith)),
-              λ p q l k. rw (places-at d p (omega arith), places-at d q (omega arith)) (s .two p q l (omega arith)),
-            ),
-          ),
-        ),
-      ),
-    ))
+    (λ s. (s .long, (s .core, (s .map, (s .fair, (s .place, s .two))))))
 
 -- a free place asks nothing
 pub free-fits : (m : List Stretch) (l : List ℕ) → holderOf l ≡ 0 → placeFits m l ≡ true
@@ -77,9 +51,6 @@ free-fits m l h = rw (eq-eqb (holderOf l) 0 h)
 pub free-first : (l k : List ℕ) → holderOf l ≡ 0 → areasApart l k ≡ true
 unfolding areasApart
 free-first l k h = rw (eq-eqb (holderOf l) 0 h)
-
-pub free-every : (l : List ℕ) (ks : List (List ℕ)) → holderOf l ≡ 0 → true ≡ every (areasApart l) ks
-free-every l ks h = sym (every-by [] (areasApart l) ks (λ i k. free-first l (getD ks i []) h))
 
 pub free-second : (l k : List ℕ) → holderOf k ≡ 0 → areasApart l k ≡ true
 unfolding areasApart

@@ -98,9 +98,13 @@ pub record HeldFacts (d : List ℕ) (p : ℕ) : Type 0 where
   pub obey : tablesObey (ownIn d p .area) (tablesHeld (ownIn d p) (placeIn d p)) ≡ true
   pub stage : stageFits (ownIn d p .area) (tablesHeld (ownIn d p) (placeIn d p)) (ownIn d p .io) (stageIn (placeIn d p)) ≡ true
 
--- a stretch that ends in the numbers of a core, and a map of such: what the test of a map has shown
+-- a stretch that ends in the numbers of a core: what the test of a map has shown
 abbrev pub SmallStretch : Stretch → Type 0
 SmallStretch s = s .start .0 + s .len ≤ 65536
 
-abbrev pub SmallMap : List Stretch → Type 0
-SmallMap m = (r : ℕ) → r < 8 → SmallStretch (getD m r none)
+-- what the code has tested of a desk when it comes to the holders; and what it tests of its places, each one and each two
+abbrev pub MapTested : List ℕ → Type 0
+MapTested d = (length d ≡ deskWords) × (coreLength d ≤ 65536) × (mapObeys (coreLength d) (mapOf (mapNumbers d)) ≡ true)
+
+abbrev pub placesFit : List ℕ → Bool
+placesFit d = every (placeFits (mapOf (mapNumbers d))) (places d) && everyTwo areasApart (places d)

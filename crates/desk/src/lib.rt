@@ -1,11 +1,12 @@
 // The test of a desk that comes first in every call: whatever memory is lent, it is sound or it is refused.
 ghost use mathlib.Core.Path.{_≡_};
-ghost use mathlib.Core.Bool.{true};
-ghost use Prim.Native.Nat.{_+_, _≤_, _<_};
-ghost use lib.ListN.{length, drop};
-ghost use Rattle.word.specs.Lists.{every, everyTwo};
-ghost use Rattle.layout.specs.Layout.{deskWords, placeIn, places, holderOf, ownOf};
-ghost use Rattle.desk.specs.Sound.{areaIn, countsFit, loadFits, heldFits, placeFits, areasApart, SmallStretch, SmallMap, sound};
+ghost use mathlib.Core.Bool.{true, _&&_, _||_};
+ghost use Prim.Native.Nat.{_+_, _-_, _≤_, _<_};
+ghost use lib.ListN.{length};
+ghost use lib.Dec.{eqb};
+ghost use Rattle.rooms.specs.Rooms.{fair, heldPlaces};
+ghost use Rattle.layout.specs.Layout.{deskWords, placeIn, holderOf, holders};
+ghost use Rattle.desk.specs.Sound.{areaIn, countsFit, loadFits, heldFits, areasApart, SmallStretch, MapTested, placesFit, sound};
 use layout::Place;
 use map::Stretch;
 use word::Area;
@@ -24,49 +25,72 @@ pub fn is_sound(desk: &[u64]) -> bool
     if 65536 < core {
         return false;
     }
-    let m = map::read_map(layout::map_numbers(desk));
-    if !map::map_obeys(core, m) {
+    if !map::map_fits(core, layout::map_numbers(desk)) {
         return false;
     }
+    holders_fit(desk)
+}
+
+// Whether the holders are fair, each held place is in order, and no two held areas share a word.
+fn holders_fit(desk: &[u64]) -> bool
+    requires { ⌜ MapTested (now desk) ⌝ }
+    ensures { λ r. ⌜ r ≡ (fair (holders (now (desk .entry))) && placesFit (now (desk .entry))) ⌝ }
+{
     let h = layout::read_holders(desk);
     if !rooms::fair(&h) {
         return false;
     }
-    if !places_fit(desk, m) {
-        return false;
-    }
-    areas_apart(desk)
+    let mut held = [0usize; 12];
+    let n = rooms::held_places(&h, &mut held);
+    places_fit(desk, &held[..n])
 }
 
-// Whether each of the twelve places is in order.
-fn places_fit(desk: &[u64], m: [Stretch; 8]) -> bool
-    requires { ⌜ (length (now desk) ≡ deskWords) × (SmallMap m) ⌝ }
-    ensures { λ r. ⌜ r ≡ every (placeFits m) (places (now (desk .entry))) ⌝ }
+// Whether each held place is in order, and no two held areas share a word. Stretches share none, so that only areas of the same
+// room can; and no room holds over two places, so that an area is held against the last one of its room.
+fn places_fit(desk: &[u64], held: &[usize]) -> bool
+    requires { ⌜ (MapTested (now desk)) × (fair (holders (now desk)) ≡ true) × (now held ≡ heldPlaces 0 (holders (now desk))) ⌝ }
+    ensures { λ r. ⌜ r ≡ placesFit (now (desk .entry)) ⌝ }
 {
-    let mut p: usize = 0;
-    while p < 12 {
-        if !place_fits(layout::place_at(desk, p), m) {
+    let mut last = [0usize; 8];
+    let mut past: usize = 0;
+    let mut i: usize = 0;
+    while i < held.len() {
+        let p = held[i];
+        let place = layout::place_at(desk, p);
+        let r = (place[0] - 1) as usize;
+        if !held_fits(place, map::stretch_at(layout::map_numbers(desk), r)) {
             return false;
         }
-        p += 1;
+        if !apart_from_last(desk, last[r], place) {
+            return false;
+        }
+        past = p + 1;
+        last[r] = past;
+        i += 1;
     }
     true
 }
 
-// Whether a place is in order. A holder over 8 is no room's.
-fn place_fits(place: &[u64], m: [Stretch; 8]) -> bool
-    requires { ⌜ (length (now place) ≡ 303) × (SmallMap m) ⌝ }
-    ensures { λ r. ⌜ r ≡ placeFits m (now (place .entry)) ⌝ }
+// Whether a place's area shares no word with that of place q - 1, which is held too; where q is 0 there is none.
+fn apart_from_last(desk: &[u64], q: usize, place: &[u64]) -> bool
+    requires { ⌜ (length (now desk) ≡ deskWords) × (q ≤ 12) × (length (now place) ≡ 303) × (0 < q → holderOf (placeIn (now desk) (q - 1)) ≡ 0 → ⊥) ⌝ }
+    ensures { λ r. ⌜ r ≡ (eqb q 0 || areasApart (placeIn (now (desk .entry)) (q - 1)) (now (place .entry))) ⌝ }
 {
-    let holder = place[0];
-    if holder == 0 {
+    if q == 0 {
         return true;
     }
-    if 8 < holder {
-        return false;
+    apart_from_held(layout::place_at(desk, q - 1), place)
+}
+
+// The first of the two places is held.
+fn apart_from_held(one: &[u64], other: &[u64]) -> bool
+    requires { ⌜ (length (now one) ≡ 303) × (length (now other) ≡ 303) × (holderOf (now one) ≡ 0 → ⊥) ⌝ }
+    ensures { λ r. ⌜ r ≡ areasApart (now (one .entry)) (now (other .entry)) ⌝ }
+{
+    if other[0] == 0 {
+        return true;
     }
-    let s = m[(holder - 1) as usize];
-    held_fits(place, s)
+    word::runs_apart(one[1], one[2], other[1], other[2])
 }
 
 // Whether a held place is in order, s its room's stretch.
@@ -119,48 +143,4 @@ fn load_fits(place: &[u64], o: Place) -> bool
     }
     let ranks = layout::ranks_of(place, o.tables as usize);
     stage::stage_fits(area, words, ranks, o.io, layout::stage_of(place))
-}
-
-// Whether no two held areas share a word. Of a pair nothing is read but a holder, unless both places are held.
-fn areas_apart(desk: &[u64]) -> bool
-    requires { ⌜ length (now desk) ≡ deskWords ⌝ }
-    ensures { λ r. ⌜ r ≡ everyTwo areasApart (places (now (desk .entry))) ⌝ }
-{
-    let mut p: usize = 0;
-    while p < 12 {
-        if !apart_from_later(desk, p) {
-            return false;
-        }
-        p += 1;
-    }
-    true
-}
-
-fn apart_from_later(desk: &[u64], p: usize) -> bool
-    requires { ⌜ (length (now desk) ≡ deskWords) × (p < 12) ⌝ }
-    ensures { λ r. ⌜ r ≡ every (areasApart (placeIn (now (desk .entry)) p)) (drop (p + 1) (places (now (desk .entry)))) ⌝ }
-{
-    let place = layout::place_at(desk, p);
-    if place[0] == 0 {
-        return true;
-    }
-    let mut q = p + 1;
-    while q < 12 {
-        if !apart_from_held(place, layout::place_at(desk, q)) {
-            return false;
-        }
-        q += 1;
-    }
-    true
-}
-
-// The first of the two places is held.
-fn apart_from_held(one: &[u64], other: &[u64]) -> bool
-    requires { ⌜ (length (now one) ≡ 303) × (length (now other) ≡ 303) × (holderOf (now one) ≡ 0 → ⊥) ⌝ }
-    ensures { λ r. ⌜ r ≡ areasApart (now (one .entry)) (now (other .entry)) ⌝ }
-{
-    if other[0] == 0 {
-        return true;
-    }
-    word::runs_apart(one[1], one[2], other[1], other[2])
 }

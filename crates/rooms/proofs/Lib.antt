@@ -2,3 +2,4 @@ pub mod Count
 pub mod Rooms
 pub mod Pass
 pub mod Counted
+pub mod Held

@@ -57,6 +57,11 @@ pub record Fair (l : List ℕ) : Type 0 where
   pub two : (r : ℕ) → r < roomCount → held r l ≤ mostHeld
   pub enough : idle l ≤ free l
 
+-- the places that are held, lowest first, where the list's first holder is of place p
+unfoldable pub heldPlaces : ℕ → List ℕ → List ℕ
+heldPlaces p [] = []
+heldPlaces p (a ∷ l) = cond (eqb a 0) (heldPlaces (p + 1) l) (p ∷ heldPlaces (p + 1) l)
+
 -- the holders of a fresh desk
 abbrev pub fresh : List ℕ
 fresh = replicate placeCount 0

@@ -1,9 +1,11 @@
 // Who holds the twelve places, and when a room is given one (01, "The desk" and refusals 5 and 6). Holders are lent as a list of
 // numbers, one for each place: 0 where it is free, r + 1 where room r holds it.
 ghost use mathlib.Core.Path.{_≡_};
-ghost use Prim.Native.Nat.{_<_};
+ghost use Prim.Native.Nat.{_≤_, _<_};
+ghost use lib.ListN.{length};
+ghost use Rattle.word.specs.Lists.{splice};
 ghost use Rattle.rooms.specs.Tally.{slotOf, tallied};
-ghost use Rattle.rooms.specs.Rooms.{roomCount, hit, count, free, held, idle, fair, lowestFree, placeRefusal};
+ghost use Rattle.rooms.specs.Rooms.{roomCount, hit, count, free, held, idle, fair, heldPlaces, lowestFree, placeRefusal};
 
 // F: how many places are free.
 pub fn free_places(holders: &[u64]) -> u64
@@ -53,6 +55,24 @@ pub fn fair(holders: &[u64]) -> bool
         }
     }
     seconds + 8 <= holders.len() as u64
+}
+
+// The places that are held, lowest first, at the start of out. Says how many they are.
+pub fn held_places(holders: &[u64], out: &mut [usize]) -> usize
+    requires { ⌜ length (now holders) ≤ length (now out) ⌝ }
+    ensures { λ n. ⌜ (n ≡ length (heldPlaces 0 (now (holders .entry)))) × (now (out .exit) ≡ splice (now (out .entry)) 0 (heldPlaces 0 (now (holders .entry)))) ⌝ }
+{
+    let mut n: usize = 0;
+    let mut i: usize = 0;
+    while i < holders.len() {
+        let h = holders[i];
+        i += 1;
+        if h != 0 {
+            out[n] = i - 1;
+            n += 1;
+        }
+    }
+    n
 }
 
 // The lowest free place, or the length where none is free.
