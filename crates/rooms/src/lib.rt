@@ -67,7 +67,7 @@ pub fn held_places(holders: &[u64], out: &mut [usize]) -> usize
     while i < holders.len() {
         let h = holders[i];
         i += 1;
-        if h != 0 {
+        if 0 < h {
             out[n] = i - 1;
             n += 1;
         }

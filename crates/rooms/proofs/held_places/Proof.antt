@@ -50,7 +50,7 @@ loop-again : tie.Need-loop-again Inv-loop μ-loop
 loop-again c =
     let l = c .before .before .before .loop in
     let hs = now (c .before .before .before .before .args .holders) in
-    let f = drop-first (heldPlaces 0 hs) (l .n) (l .i) _ (l .inv .5 ∙ held-here hs (l .i) (omega arith) (c .if1 .taken)) in (
+    let f = drop-first (heldPlaces 0 hs) (l .n) (l .i) _ (l .inv .5 ∙ held-here hs (l .i) (omega arith) (λ z. omega arith)) in (
       omega arith,
       omega arith,
       simp length-set (omega arith),
@@ -65,7 +65,7 @@ loop-less-2 c = omega arith
 loop-again-2 : tie.Need-loop-again-2 Inv-loop μ-loop
 loop-again-2 c =
     let l = c .before .before .before .loop in
-    (omega arith, omega arith, omega arith, l .inv .3, l .inv .4, l .inv .5 ∙ held-skip _ (l .i) (omega arith) (c .if1 .left))
+    (omega arith, omega arith, omega arith, l .inv .3, l .inv .4, l .inv .5 ∙ held-skip _ (l .i) (omega arith) (omega arith))
 
 same-length : tie.Need-same-length Inv-loop μ-loop
 same-length c = omega arith
