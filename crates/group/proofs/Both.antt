@@ -25,7 +25,7 @@ use Rattle.cursor.proofs.Reading.{look-is, field-sees, field-past}
 use Rattle.group.specs.declared.halves.Stepped.{Stepped}
 use Rattle.group.specs.declared.halves.Stepped.the-variants.{Next, Stop}
 use Rattle.group.specs.Group.{halfStep, thenHalf, wordStep}
-use Rattle.group.specs.Turns.{sameIn, typeIn, moreIn, onward, halfOf, thenRight, bothOf, isMoved, movedWord}
+use Rattle.group.specs.Turns.{sameIn, typeIn, moreIn, onward, halfOf, thenRight, bothOf, isMoved, movedWord, pastTwo}
 
 -- of the bits 01000 the first tells no change, the others type 000
 look-same : (x f : ℕ) → x / 576460752303423488 ≡ 8 → lookOf x f ≡ Same
@@ -38,6 +38,15 @@ look-moved x f e =
     let y = x * 2 % 18446744073709551616 in
     let t : y / 1152921504606846976 % 8 ≡ 0 = omega arith in
     rw (le-ltb y 9223372036854775808 (omega arith), t)
+
+-- of the bits 00 neither tells a change
+look-first : (x f : ℕ) → x < 4611686018427387904 → lookOf x f ≡ Same
+unfolding lookOf
+look-first x f e = rw (lt-ltb x 9223372036854775808 (omega arith))
+
+look-second : (x f : ℕ) → x < 4611686018427387904 → lookOf (x * 2 % 18446744073709551616) f ≡ Same
+unfolding lookOf
+look-second x f e = rw (lt-ltb (x * 2 % 18446744073709551616) 9223372036854775808 (omega arith))
 
 module _ (a : Assignments) where
   -- ---- one half
@@ -137,3 +146,12 @@ module _ (a : Assignments) where
       rw (look-same (c .ahead) (fieldOf Left w) e, look-moved (c .ahead) (fieldOf Right w) e, i, j)
       (ap (λ (r : Changed). onward r (λ v. Next v (record { at = c .at + 5; ahead = c .ahead * 32 % 18446744073709551616; words = c .words; edge = c .edge }))) (moved-field w)
       ∙ moved-right w (record { at = c .at + 5; ahead = c .ahead * 32 % 18446744073709551616; words = c .words; edge = c .edge }))
+
+  -- ---- the bits 00
+  pub plain-both : (w : ℕ) (c : Cursor) → c .ahead < 4611686018427387904 → bothOf a w c ≡ Next w (pastTwo c)
+  unfolding bothOf halfOf halfStep pastField pastOf
+  plain-both w c l =
+      let i : c .at + 1 + 1 ≡ c .at + 2 = omega arith in
+      let k : c .ahead * 2 % 18446744073709551616 ≡ c .ahead * 2 = omega arith in
+      let j : c .ahead * 2 * 2 ≡ c .ahead * 4 = omega arith in
+      rw (look-first (c .ahead) (fieldOf Left w) l, look-second (c .ahead) (fieldOf Right w) l, i, k, j)

@@ -15,7 +15,7 @@ use Rattle.word.specs.declared.Area.{Area}
 use Rattle.word.specs.declared.Fault.{Fault}
 use Rattle.word.specs.Lists.{every, range, splice, cleared}
 use Rattle.word.specs.Word.{isWord}
-use Rattle.word.proofs.Cases.{by-lt, when}
+use Rattle.word.proofs.Cases.{by-test, by-lt, when}
 use Rattle.word.proofs.Lists.{range-turn, range-end, length-range, getD-range}
 use Rattle.word.proofs.Says.{every-at}
 use Rattle.word.proofs.Stretch.{splice-none, splice-first, cleared-set}
@@ -35,8 +35,8 @@ use Rattle.group.specs.declared.halves.Stepped.{Stepped}
 use Rattle.group.specs.declared.halves.Stepped.the-variants.{Next, Stop}
 use Rattle.group.specs.Group.{halfStep, wordStep, Words, thenWords, changedWords}
 use Rattle.group.specs.Group.Words.{Become, Refuse}
-use Rattle.group.specs.Turns.{onward, bothOf, Move, Moves, oneMove, plainMove, moveOf, ranOf, Leaves, Runs, Standing, isZero}
-use Rattle.group.proofs.Both.{both-word}
+use Rattle.group.specs.Turns.{onward, bothOf, Move, Moves, oneMove, plainMove, plainOf, moveOf, ranOf, Leaves, Runs, Standing, isZero}
+use Rattle.group.proofs.Both.{both-word, plain-both}
 
 -- ---- what a word's two halves gave
 onward-next : (r : Changed) (e : Cursor) (v : ℕ) (d : Cursor) → onward r (λ u. Next u e) ≡ Next v d → (r ≡ Word v) × (d ≡ e)
@@ -86,6 +86,14 @@ module _ (a : Assignments) (bits : List ℕ) (stop : ℕ) (core : List ℕ) (top
       rw (x, y)
       (ih
       ∙ sym (rw (range-turn core p stop (omega arith) top, plain-step a bits q w b d, after-zeros bits q w b d, onto-first core p w (changedWords a bits (q + 2) (range core (p + 1) (stop - (p + 1)))) (omega arith), set-getD core p 0)))
+
+-- words without change leave the core as it is
+pub plain-move-is : (a : Assignments) (c : Cursor) (p stop : ℕ) (core : List ℕ) (m : Moved) → c .ahead < 4611686018427387904 → m ≡ plainOf c p stop
+    → Moves (moveOf a c p stop core) m core
+unfolding plainOf moveOf oneMove
+plain-move-is a c p stop core m l e =
+    rw (e, plain-both a (getD core p 0) c l)
+    (by-test (eqb (plainWords c (stop - p)) 0) (λ q. rw q (record { told = refl; left = sym (set-getD core p 0) })) (λ q. rw q (record { told = refl; left = refl })))
 
 module _ (a : Assignments) (block : List ℕ) (end n base stop : ℕ) where
   abbrev bits : List ℕ
@@ -316,10 +324,11 @@ module _ (area : Area) (block : List ℕ) (end n base count : ℕ) (core : List 
           went-then a block end n base (base + count) core (startOf n) base core′ c p core′ full p w
           (rw e (went-refilled a block end n base (base + count) (st .marks) core′ c p (w .on) h top (w .sees) (omega (arith, turn-near))))
 
-      pub turn-ready : (p < base + count) × (base + count ≤ length core′) × (getD core′ p 0 < 2 ^ 36) × (36 * full .words < 2 ^ 32) × (full .at + 26 * (base + count - p) < 2 ^ 32)
+      pub turn-ready : (p < base + count) × (base + count ≤ length core′) × (length core′ ≤ 65536) × (getD core′ p 0 < 2 ^ 36) × (36 * full .words < 2 ^ 32) × (full .at + 26 * (base + count - p) < 2 ^ 32)
       turn-ready = (
         h,
         top,
+        rw (w .long) (st .most),
         rw (w .after p (omega arith)) (standing-word p (w .on) h),
         omega (arith, full-sees .few, st .marks .first, st .marks .last, st .long),
         omega (arith, full-at, turn-near),

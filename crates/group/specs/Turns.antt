@@ -94,6 +94,15 @@ oneMove p core (Stop f) = record { answer = Off f; core = core }
 abbrev pub plainMove : ℕ → List ℕ → Cursor → ℕ → Move
 plainMove p core c k = record { answer = On (pastPlain c k) (p + k); core = core }
 
+-- past the two 0s of one word without change
+abbrev pub pastTwo : Cursor → Cursor
+pastTwo c = record { at = c .at + 2; ahead = c .ahead * 2 ^ 2 % 2 ^ 64; words = c .words; edge = c .edge }
+
+-- where the next two bits are 0: many words at once, or the one (`plain-move-is`, proofs/Turns.antt: it is what `moveOf` says)
+unfoldable pub plainOf : Cursor → ℕ → ℕ → Moved
+plainOf c p stop =
+    cond (eqb (plainWords c (stop - p)) 0) (On (pastTwo c) (p + 1)) (On (pastPlain c (plainWords c (stop - p))) (p + plainWords c (stop - p)))
+
 -- from place p on, where the words end at `stop`
 unfoldable pub moveOf : Assignments → Cursor → ℕ → ℕ → List ℕ → Move
 moveOf a c p stop core =

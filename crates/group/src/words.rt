@@ -6,7 +6,7 @@ ghost use lib.ListN.{length, getD};
 ghost use Rattle.word.specs.Lists.{every};
 ghost use Rattle.field.specs.Field.{assigned};
 ghost use Rattle.indicator.specs.Indicator.{bitsBefore};
-ghost use Rattle.group.specs.Turns.{movedWord, Moves, moveOf, oneMove, Runs, Standing, isZero};
+ghost use Rattle.group.specs.Turns.{movedWord, Moves, plainOf, moveOf, oneMove, Runs, Standing, isZero};
 use crate::halves;
 use crate::halves::Stepped;
 use cursor::Cursor;
@@ -95,7 +95,7 @@ fn change_words(
     Ran::Through(c.at)
 }
 
-// From the word at place p on: words without change at once, or one word. The commonest change is tested first.
+// From the word at place p on: words without change, or one word. The commonest change is tested first.
 fn move_on(
     s: Setting,
     words: &[u64],
@@ -106,7 +106,7 @@ fn move_on(
     stop: usize,
     core: &mut [u64],
 ) -> Moved
-    requires { ⌜ (s .area .at .0 + s .area .size ≤ 65536) × (p < stop) × (stop ≤ length (now core)) × (getD (now core) p 0 < 2 ^ 36) × (36 * c .words < 2 ^ 32) × (c .at + 26 * (stop - p) < 2 ^ 32) ⌝ }
+    requires { ⌜ (s .area .at .0 + s .area .size ≤ 65536) × (p < stop) × (stop ≤ length (now core)) × (length (now core) ≤ 65536) × (getD (now core) p 0 < 2 ^ 36) × (36 * c .words < 2 ^ 32) × (c .at + 26 * (stop - p) < 2 ^ 32) ⌝ }
     ensures { λ r. ⌜ Moves (moveOf (assigned s (now (words .entry)) (now (ranks .entry)) (now (ios .entry))) c p stop (now (core .entry))) r (now (core .exit)) ⌝ }
 {
     let w = core[p];
@@ -114,11 +114,28 @@ fn move_on(
     if c.ahead / 576460752303423488 == 8 {
         return store(core, p, moved_word(area, c, w));
     }
+    if c.ahead < 4611686018427387904 {
+        return plain_move(c, p, stop);
+    }
+    store(core, p, halves::step_word(s, words, ranks, ios, c, w))
+}
+
+// Words without change at once, or the one whose two 0s come next: they stand in the core already.
+fn plain_move(c: Cursor, p: usize, stop: usize) -> Moved
+    requires { ⌜ (p < stop) × (stop < 2 ^ 32) × (36 * c .words < 2 ^ 32) × (c .at + 26 * (stop - p) < 2 ^ 32) ⌝ }
+    ensures { λ r. ⌜ r ≡ plainOf c p stop ⌝ }
+{
     let k = cursor::unchanged(c, stop - p);
     if k != 0 {
         return Moved::On(cursor::pass_plain(c, k), p + k);
     }
-    store(core, p, halves::step_word(s, words, ranks, ios, c, w))
+    let next = Cursor {
+        at: c.at + 2,
+        ahead: c.ahead << 2,
+        words: c.words,
+        edge: c.edge,
+    };
+    Moved::On(next, p + 1)
 }
 
 // What became of the word at place p.

@@ -35,7 +35,7 @@ move-on-requires : tie.Need-move-on-requires Inv-loop μ-loop
 move-on-requires c κs = let z = c .before .before .before .before .before .before .before .before .before .before in
     let l = c .before .before .before .loop in
     let r = turn-ready _ _ _ _ _ _ _ (z .pre) _ _ _ _ (l .inv) (c .before .before .loop-test .taken) _ (c .before .refill .ensures) in
-    (z .pre .inside, r .0, r .1, r .2, r .3, r .4)
+    (z .pre .inside, r .0, r .1, r .2, r .3, r .4, r .5)
 
 enum-known-d : tie.Need-enum-known-d Inv-loop μ-loop
 enum-known-d c = search needs
