@@ -2,9 +2,9 @@
 use Prim.Native.Nat.{ℕ, _+_, _-_, _/_, _≤_, _<_}
 use mathlib.Core.Path.{_≡_, refl, sym, ap, _∙_}
 use mathlib.Core.Bool.{Bool, true, false}
-use mathlib.Core.List.{List, [], _∷_}
+use mathlib.Core.List.{List, [], _∷_, _++_}
 use native.Mathlib.Omega.{arith}
-use lib.ListN.{length, getD, take, set}
+use lib.ListN.{length, getD, take, drop, set}
 use lib.Dec.{eqb, leb}
 use borrow.Author.Tests.{eq-eqb, ne-eqb, eqb-true, leb-true, le-leb, lt-leb}
 use Rattle.word.specs.Lists.{every, splice, range, cleared}
@@ -13,7 +13,7 @@ use Rattle.word.specs.Fault.{fault}
 use Rattle.word.specs.declared.Area.{Area}
 use Rattle.word.proofs.Cases.{by-eq, when, both, and-left, and-right, or-not}
 use Rattle.word.proofs.Every.{every-place}
-use Rattle.word.proofs.Lists.{getD-range, range-splice-same, range-splice-before, length-splice}
+use Rattle.word.proofs.Lists.{getD-range, range-splice-same, range-splice-before, length-splice, splice-lent}
 use Rattle.word.proofs.Says.{says-within, says-apart}
 use Rattle.map.specs.declared.Stretch.{Stretch}
 use Rattle.map.specs.Map.{mapOf, none, Separate}
@@ -21,8 +21,10 @@ use Rattle.rooms.specs.Rooms.{free, held, idle, placeRefusal, lowestFree}
 use Rattle.rooms.proofs.Count.{lowest-is-free}
 use Rattle.rooms.proofs.Rooms.{given-place, given-fair}
 use Rattle.lists.specs.Obey.{tablesOf, listsObey}
-use Rattle.lists.specs.Keep.{numbersKept, wordsKept, ranksKept, Keeps}
+use Rattle.lists.specs.Keep.{numbersKept, wordsKept, ranksKept, Takes}
+use Rattle.lists.specs.declared.Taken.the-variants.{Words}
 use Rattle.lists.proofs.Keep.{lists-obey, kept-passes}
+use Rattle.lists.proofs.Take.{taken-words}
 use Rattle.lists.proofs.Lent.{lent-length}
 use Rattle.lists.proofs.Numbers.{numbers-kept-length}
 use Rattle.lists.proofs.Ranks.{words-few, ranks-length}
@@ -85,28 +87,18 @@ pub numbers-lent : (l ios ws : List ℕ) → ws ≡ splice l 0 (numbersKept ios)
 numbers-lent l ios ws e h k =
     let n = numbers-kept-length ios in lent-start l (numbersKept ios) ws ((length ios + 3) / 4) e (sym n) (omega arith)
 
-module _ (tables l k : List ℕ) (n : ℕ) (ws rs : List ℕ) (kept : Keeps (tablesOf tables) l k n ws rs)
-    (h : length (tablesOf tables) ≤ length l) (g : length (tablesOf tables) ≤ length k) where
+-- the words of the tables, in the array that they were taken to
+module _ (a : Area) (ios tables l ws : List ℕ) (n : ℕ) (t : Takes a ios tables l (Words n) ws) (h : length l ≡ 128) where
   few-words : length (wordsKept (tablesOf tables)) ≤ length l
-  few-words = omega (arith, words-few (tablesOf tables))
-
-  few-ranks : length (ranksKept (tablesOf tables)) ≤ length k
-  few-ranks = omega (arith, ranks-length (tablesOf tables))
-
-  ranks-count : length tables / 2 ≡ length (ranksKept (tablesOf tables))
-  ranks-count = omega (arith, ranks-length (tablesOf tables), lent-length tables)
+  few-words =
+      let o = lists-obey a ios tables (taken-words a ios tables l ws n t .0) in
+      omega (arith, words-few (tablesOf tables), o .tables-few)
 
   pub words-inside : n ≤ length ws
-  words-inside = lent-inside l _ ws n (kept .words) (kept .count) few-words
+  words-inside = let k = taken-words a ios tables l ws n t in lent-inside l _ ws n (k .2) (k .1) few-words
 
   pub words-lent : take n ws ≡ wordsKept (tablesOf tables)
-  words-lent = lent-start l _ ws n (kept .words) (kept .count) few-words
-
-  pub ranks-inside : length tables / 2 ≤ length rs
-  ranks-inside = lent-inside k _ rs _ (kept .ranks) ranks-count few-ranks
-
-  pub ranks-lent : take (length tables / 2) rs ≡ ranksKept (tablesOf tables)
-  ranks-lent = lent-start k _ rs _ (kept .ranks) ranks-count few-ranks
+  words-lent = let k = taken-words a ios tables l ws n t in lent-start l _ ws n (k .2) (k .1) few-words
 
 -- ---- a place written
 module _ (r : ℕ) (a : Area) (ios tables : List ℕ) where
@@ -115,15 +107,19 @@ module _ (r : ℕ) (a : Area) (ios tables : List ℕ) where
   unfolding openedOwn numbersOf
   own-written n e = rw (e, lent-length tables)
 
-  pub desk-written : (d : List ℕ) (p n : ℕ) (e f g h ws rs : List ℕ)
-      → n ≡ length (wordsKept (tablesOf tables))
-      → e ≡ splice d (base p) ((r + 1) ∷ a .at .0 ∷ a .size ∷ length ios ∷ (length tables / 2) ∷ n ∷ 0 ∷ 0 ∷ 0 ∷ 0 ∷ 0 ∷ 0 ∷ 0 ∷ 0 ∷ 0 ∷ [])
+  pub desk-written : (d : List ℕ) (p : ℕ) (e f g ws rs : List ℕ)
+      → ws ≡ wordsKept (tablesOf tables)
+      → e ≡ splice d (base p) ((r + 1) ∷ a .at .0 ∷ a .size ∷ length ios ∷ (length tables / 2) ∷ length ws ∷ 0 ∷ 0 ∷ 0 ∷ 0 ∷ 0 ∷ 0 ∷ 0 ∷ 0 ∷ 0 ∷ [])
       → f ≡ splice e (base p + 15) (numbersKept ios)
-      → ws ≡ wordsKept (tablesOf tables) → g ≡ splice f (base p + 47) ws
-      → rs ≡ ranksKept (tablesOf tables) → h ≡ splice g (base p + 175) rs
-      → h ≡ openedDesk d p r a ios tables
+      → g ≡ splice f (base p + 47) ws
+      → base p + 303 ≤ length g → length (tablesOf tables) ≤ 128
+      → rs ≡ splice (take (base p + 175 + 128 - (base p + 175)) (drop (base p + 175) g)) 0 (ranksKept (tablesOf tables))
+      → take (base p + 175) g ++ (rs ++ drop (base p + 175 + 128 - (base p + 175)) (drop (base p + 175) g)) ≡ openedDesk d p r a ios tables
   unfolding openedDesk
-  desk-written d p n e f g h ws rs c x y w z k u = u ∙ rw (k, z, w, y, x, own-written n c)
+  desk-written d p e f g ws rs c x y w l m z =
+      let k = ranks-length (tablesOf tables) in
+      rw z (splice-lent g (base p + 175) 128 (ranksKept (tablesOf tables)) (omega arith) (omega arith)
+      ∙ rw (w, c, y, x, own-written (length ws) (ap length c)))
 
 -- ---- the answers
 module _ (d core : List ℕ) (r : ℕ) (a : Area) (ios tables : List ℕ) where

@@ -5,13 +5,14 @@ ghost use mathlib.Core.Bool.{true};
 ghost use Prim.Native.Nat.{_+_, _/_, _≤_, _<_};
 ghost use lib.ListN.{length};
 ghost use Rattle.word.specs.Lists.{every, splice};
-ghost use Rattle.lists.specs.Obey.{listsObey};
-ghost use Rattle.lists.specs.Keep.{numbersKept};
+ghost use Rattle.lists.specs.Obey.{tablesOf, listsObey};
+ghost use Rattle.lists.specs.Keep.{numbersKept, wordsKept};
 ghost use Rattle.layout.specs.Layout.{deskWords, coreLength, places};
 ghost use Rattle.desk.specs.Sound.{sound};
 ghost use Rattle.calls.specs.Outcome.{Meets};
 ghost use Rattle.calls.specs.Open.{besideOwn, areaFits, openedDesk, grantOf, openOf};
 use answer::Answer;
+use lists::Taken;
 use word::Area;
 use word::Fault;
 
@@ -58,13 +59,16 @@ fn grant(
     if !area_fits(desk, room, area) {
         return Answer::Refused(Fault { number: 7 });
     }
-    if !lists::lists_obey(area, ios, tables) {
-        return Answer::Refused(Fault { number: 8 });
+    let mut words = [0u64; 128];
+    match lists::take_lists(area, ios, tables, &mut words) {
+        Taken::Words(n) => {
+            let p = rooms::lowest_free(&h);
+            write_place(desk, p, room, area, ios, tables, &words[..n]);
+            slices::clear(core, area.at.0 as usize, area.size as usize);
+            Answer::Opened(p as u64)
+        }
+        Taken::Nothing => Answer::Refused(Fault { number: 8 }),
     }
-    let p = rooms::lowest_free(&h);
-    write_place(desk, p, room, area, ios, tables);
-    slices::clear(core, area.at.0 as usize, area.size as usize);
-    Answer::Opened(p as u64)
 }
 
 // Whether the area is not empty, lies in the room's stretch and shares no word with one the room holds.
@@ -105,15 +109,20 @@ fn beside_own(place: &[u64], room: u64, area: Area) -> bool
     word::runs_apart(place[1], place[2], area.at.0, area.size)
 }
 
-// The numbers of place p: its own, the stage of a load that waits for its label, and the lists. A place's parts cannot be lent at
-// the same time, so the tables are kept in arrays and copied from there.
-fn write_place(desk: &mut [u64], p: usize, room: u64, area: Area, ios: &[u64], tables: &[u64])
-    requires { ⌜ (length (now desk) ≡ deskWords) × (p < 12) × (room < 8) × (area .at .0 + area .size ≤ 65536) × (listsObey area (now ios) (now tables) ≡ true) ⌝ }
+// The numbers of place p: its own, the stage of a load that waits for its label, and the lists, of whose tables these words are
+// kept.
+fn write_place(
+    desk: &mut [u64],
+    p: usize,
+    room: u64,
+    area: Area,
+    ios: &[u64],
+    tables: &[u64],
+    words: &[u64],
+)
+    requires { ⌜ (length (now desk) ≡ deskWords) × (p < 12) × (room < 8) × (area .at .0 + area .size ≤ 65536) × (listsObey area (now ios) (now tables) ≡ true) × (now words ≡ wordsKept (tablesOf (now tables))) ⌝ }
     ensures { λ _. ⌜ now (desk .exit) ≡ openedDesk (now (desk .entry)) p room area (now (ios .entry)) (now (tables .entry)) ⌝ }
 {
-    let mut words = [0u64; 128];
-    let mut ranks = [0u64; 128];
-    let kept = lists::keep_tables(tables, &mut words, &mut ranks);
     let n = tables.len() / 2;
     let own = [
         room + 1,
@@ -121,7 +130,7 @@ fn write_place(desk: &mut [u64], p: usize, room: u64, area: Area, ios: &[u64], t
         area.size,
         ios.len() as u64,
         n as u64,
-        kept as u64,
+        words.len() as u64,
         0,
         0,
         0,
@@ -135,8 +144,9 @@ fn write_place(desk: &mut [u64], p: usize, room: u64, area: Area, ios: &[u64], t
     let b = 17 + p * 303;
     slices::copy_in(desk, b, &own);
     write_numbers(desk, b + 15, ios);
-    slices::copy_in(desk, b + 47, &words[..kept]);
-    slices::copy_in(desk, b + 175, &ranks[..n]);
+    slices::copy_in(desk, b + 47, words);
+    let r = b + 175;
+    lists::keep_ranks(tables, words, &mut desk[r..r + 128]);
 }
 
 // The I/O numbers as they are kept, in the desk from place a on.

@@ -20,7 +20,7 @@ use Rattle.lists.specs.Chain.{chainFrom, chain}
 use Rattle.lists.specs.Obey.{tableInside, tablesApart}
 use Rattle.lists.specs.Keep.{wordOf, hasRoom, wordsFrom, sorted, wordsKept}
 use Rattle.lists.proofs.Obey.{says-inside, first-empty, second-empty, first-before, apart-before, apart-sym}
-use Rattle.lists.proofs.Rising.{every-sorted, two-sorted, sorted-rising}
+use Rattle.lists.proofs.Rising.{every-sorted, two-sorted, sorted-rising, rising-sorted}
 
 pub same-test : (a b : Bool) → (a ≡ true → b ≡ true) → (b ≡ true → a ≡ true) → a ≡ b
 same-test true b f g = sym (f refl)
@@ -167,3 +167,31 @@ inside-room area t h q = let i = says-inside area t .fact q in says-room t .test
 
 pub all-room : (area : Area) (ts : List Table) → area .at .0 + area .size < 2 ^ 20 → every (tableInside area) ts ≡ true → every hasRoom ts ≡ true
 all-room area ts h q = every-then (tableInside area) hasRoom (λ t i. inside-room area t h i) ts q
+
+-- ---- words that pass as they stand rise already
+chain-above : (w end last from to : ℕ) (l : List ℕ) → addressIn w < end → w < 2 ^ 64 → every (lies from to) l ≡ true → chainFrom end last l ≡ true
+    → every (leb w) l ≡ true
+unfolding chainFrom every
+chain-above w end last from to [] h f t q = refl
+chain-above w end last from to (v ∷ l) h f t q =
+    let a = leb-true end (addressIn v) (and-left (leb end (addressIn v)) _ q) in
+    let b = says-lies from to v .fact (and-left (lies from to v) _ t) in
+    and-both _ _ (le-leb w v (omega arith))
+    (chain-above w (addressIn v + lengthIn v) last from to l (omega arith) f (and-right (lies from to v) _ t) (and-right (leb end (addressIn v)) _ q))
+
+chain-rising : (end last from to : ℕ) (l : List ℕ) → every (lies from to) l ≡ true → chainFrom end last l ≡ true → everyTwo leb l ≡ true
+unfolding chainFrom every everyTwo
+chain-rising end last from to [] t q = refl
+chain-rising end last from to (w ∷ l) t q =
+    let b = says-lies from to w .fact (and-left (lies from to w) _ t) in
+    let s = and-right (lies from to w) _ t in
+    let n = and-right (leb end (addressIn w)) _ q in
+    and-both _ _ (chain-above w (addressIn w + lengthIn w) last from to l (omega arith) (b .0 .0) s n)
+    (chain-rising (addressIn w + lengthIn w) last from to l s n)
+
+pub kept-already : (area : Area) (ts : List Table) → length ts ≤ 2 ^ 20 → every hasRoom ts ≡ true → every (tableInside area) ts ≡ true
+    → chain area (wordsFrom 0 ts) ≡ true → wordsKept ts ≡ wordsFrom 0 ts
+unfolding chain wordsKept
+kept-already area ts n r q t =
+    rising-sorted (wordsFrom 0 ts)
+    (chain-rising (area .at .0) (area .at .0 + area .size) (area .at .0) (area .at .0 + area .size) (wordsFrom 0 ts) (words-lie area 0 ts (omega arith) r q) t)

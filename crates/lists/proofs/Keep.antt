@@ -14,7 +14,7 @@ use Rattle.word.proofs.Cases.{and-left, and-right}
 use Rattle.lists.specs.Kept.{numbersIn, tablesIn}
 use Rattle.lists.specs.Chain.{chain}
 use Rattle.lists.specs.Obey.{tablesOf, tableInside, tablesApart, tablesObey, isIoNumber, listsObey}
-use Rattle.lists.specs.Keep.{numbersKept, wordsKept, ranksKept, Keepable}
+use Rattle.lists.specs.Keep.{numbersKept, wordsKept, ranksKept, Ranking}
 use Rattle.lists.proofs.Lent.{lent-length}
 use Rattle.lists.proofs.Exact.{all-room, order-exact}
 use Rattle.lists.proofs.Numbers.{numbers-back}
@@ -47,13 +47,13 @@ lists-obey area ios tables q =
     }
 
 module _ (area : Area) (ios tables : List ℕ) (fits : area .at .0 + area .size ≤ 65536) (q : listsObey area ios tables ≡ true) where
-  -- what `keep_tables` asks of two stretches of 128 words
-  pub tables-keepable : (ws rs : List ℕ) → tablesMost ≤ length ws → tablesMost ≤ length rs → Keepable (tablesOf tables) ws rs
-  tables-keepable ws rs h k =
+  -- what `keep_ranks` asks of the kept words and of a stretch of 128 words
+  pub tables-ranking : (ws rs : List ℕ) → ws ≡ wordsKept (tablesOf tables) → tablesMost ≤ length rs → Ranking (tablesOf tables) ws rs
+  tables-ranking ws rs e h =
       let o = lists-obey area ios tables q in record {
         room = all-room area (tablesOf tables) (omega arith) (o .inside);
         few = o .tables-few;
-        words = omega (arith, o .tables-few);
+        kept = e;
         ranks = omega (arith, o .tables-few);
       }
 

@@ -9,3 +9,5 @@ pub mod Exact
 pub mod Numbers
 pub mod Ranks
 pub mod Keep
+pub mod Merge
+pub mod Take

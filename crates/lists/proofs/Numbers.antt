@@ -1,22 +1,30 @@
 -- I/O numbers that are kept are read as they were lent. Assumes nothing.
-use Prim.Native.Nat.{ℕ, _+_, _*_, _/_, _%_, _^_, _≤_, _<_}
+use Prim.Native.Nat.{ℕ, suc, _+_, _*_, _/_, _%_, _^_, _≤_, _<_}
 use mathlib.Core.Path.{_≡_, sym, ap, _∙_}
 use mathlib.Core.Bool.{true}
-use mathlib.Core.List.{List}
+use mathlib.Core.List.{List, [], _∷_, _++_, append-assoc}
 use native.Mathlib.Omega.{arith}
 use native.Mathlib.Nat.{zero-add}
-use lib.ListN.{length, getD}
-use lib.Seq.{ext-getD}
+use lib.ListN.{length, getD, set, drop, length-append}
+use lib.Seq.{ext-getD, take-length, drop-cons, set-at}
 use borrow.Author.Tests.{ltb-true}
 use Rattle.word.specs.Word.{part}
-use Rattle.word.specs.Lists.{every, splice}
+use Rattle.word.specs.Lists.{every, tab, splice}
 use Rattle.word.proofs.Cases.{by-eq}
 use Rattle.word.proofs.Every.{every-place}
 use Rattle.word.proofs.Lists.{length-tab, getD-tab, getD-range, range-splice-same}
 use Rattle.lists.specs.Kept.{numberIn, numbersIn}
 use Rattle.lists.specs.Obey.{isIoNumber}
-use Rattle.lists.specs.Keep.{fourFrom, numbersKept}
+use Rattle.lists.specs.Keep.{fourFrom, foursKept, numbersKept}
 use Rattle.lists.proofs.Kept.{numbers-length, numbers-at}
+
+-- one more number after those at the start of a stretch
+set-past : (out s : List ℕ) (n v : ℕ) → length s ≡ n → n < length out → set (splice out 0 s) n v ≡ splice out 0 (s ++ (v ∷ []))
+unfolding splice
+set-past out s n v h k =
+    let m : length (s ++ (v ∷ [])) ≡ suc n = length-append s (v ∷ []) ∙ omega arith in
+    rw (take-length s, take-length (s ++ (v ∷ [])), h, m, zero-add n, zero-add (suc n), drop-cons out n 0 k)
+    (set-at s (getD out n 0) (drop (suc n) out) v n h ∙ sym (append-assoc s (v ∷ []) (drop (suc n) out)))
 
 pub numbers-kept-length : (ios : List ℕ) → length (numbersKept ios) ≡ (length ios + 3) / 4
 unfolding numbersKept
@@ -25,6 +33,26 @@ numbers-kept-length ios = length-tab (fourFrom ios) ((length ios + 3) / 4)
 pub numbers-kept-at : (ios : List ℕ) (i : ℕ) → i < (length ios + 3) / 4 → getD (numbersKept ios) i 0 ≡ fourFrom ios i
 unfolding numbersKept
 numbers-kept-at ios i h = getD-tab (fourFrom ios) ((length ios + 3) / 4) i 0 h
+
+pub fours-kept-length : (ios : List ℕ) → length (foursKept ios) ≡ length ios / 4
+unfolding foursKept
+fours-kept-length ios = length-tab (fourFrom ios) (length ios / 4)
+
+pub fours-kept-at : (ios : List ℕ) (i : ℕ) → i < length ios / 4 → getD (foursKept ios) i 0 ≡ fourFrom ios i
+unfolding foursKept
+fours-kept-at ios i h = getD-tab (fourFrom ios) (length ios / 4) i 0 h
+
+-- the words that are full are all, or all but the last
+pub fours-all : (ios : List ℕ) → length ios % 4 ≡ 0 → foursKept ios ≡ numbersKept ios
+unfolding foursKept numbersKept
+fours-all ios h = ap (tab (fourFrom ios)) (omega arith)
+
+pub fours-last : (out ios : List ℕ) → (length ios % 4 ≡ 0 → ⊥) → (length ios + 3) / 4 ≤ length out
+    → set (splice out 0 (foursKept ios)) (length ios / 4) (fourFrom ios (length ios / 4)) ≡ splice out 0 (numbersKept ios)
+unfolding foursKept numbersKept tab
+fours-last out ios n h =
+    let e : (length ios + 3) / 4 ≡ suc (length ios / 4) = omega arith in
+    rw e (set-past out (tab (fourFrom ios) (length ios / 4)) (length ios / 4) (fourFrom ios (length ios / 4)) (length-tab (fourFrom ios) (length ios / 4)) (omega arith))
 
 -- the four quarters of a word
 quarters : (ios : List ℕ) (k : ℕ) → part (16 * (k % 4)) 16 (fourFrom ios (k / 4)) ≡ getD ios k 0 % 2 ^ 16

@@ -7,8 +7,12 @@ use lib.ListN.{length, getD, set}
 use lib.Dec.{ltb, eqb}
 use Rattle.word.specs.Limits.{tablesMost}
 use Rattle.word.specs.Lists.{every, tab, splice}
+use Rattle.word.specs.declared.Area.{Area}
 use Rattle.lists.specs.declared.Table.{Table}
+use Rattle.lists.specs.declared.Taken.{Taken}
+use Rattle.lists.specs.declared.Taken.the-variants.{Words, Nothing}
 use Rattle.lists.specs.Kept.{tableNumberIn}
+use Rattle.lists.specs.Obey.{tablesOf, listsObey, entriesObey}
 
 -- ---- I/O numbers
 -- word i: numbers 4 i to 4 i + 3 in 16 bits each, the first lowest
@@ -19,9 +23,12 @@ fourFrom ios i =
     + getD ios (4 * i + 2) 0 % 2 ^ 16 * 2 ^ 32
     + getD ios (4 * i + 3) 0 % 2 ^ 16 * 2 ^ 48
 
--- the words that are kept
+-- the words that are kept; and those of them that are full
 unfoldable pub numbersKept : List ℕ → List ℕ
 numbersKept ios = tab (fourFrom ios) ((length ios + 3) / 4)
+
+unfoldable pub foursKept : List ℕ → List ℕ
+foursKept ios = tab (fourFrom ios) (length ios / 4)
 
 -- ---- tables
 -- table k as a word: its address in bits 63-40, its number in bits 39-20, its length in bits 19-0
@@ -64,15 +71,19 @@ ranked p (w ∷ ws) rs = ranked (suc p) ws (set rs (tableNumberIn w) p)
 unfoldable pub ranksKept : List Table → List ℕ
 ranksKept ts = ranked 0 (wordsKept ts) (map awayRank ts)
 
--- ---- how a call keeps the tables ts: the stretches ws and rs have room, and then begin with the words and with the ranks; what
--- follows in them is as it was, and n is the count of the words
-pub record Keepable (ts : List Table) (ws rs : List ℕ) : Type 0 where
+-- ---- how a call takes the lists: so many words are kept for the tables, or refusal 8 is due. The words stand at the start of the
+-- stretch ws wherever each entry obeys by itself, and what follows in it is as it was
+unfoldable pub takenOf : Area → List ℕ → List ℕ → Taken
+takenOf area ios tables = cond (listsObey area ios tables) (Words (length (wordsKept (tablesOf tables)))) Nothing
+
+pub record Takes (area : Area) (ios tables ws : List ℕ) (r : Taken) (ws′ : List ℕ) : Type 0 where
+  pub told : r ≡ takenOf area ios tables
+  pub words : ws′ ≡ cond (entriesObey area ios tables) (splice ws 0 (wordsKept (tablesOf tables))) ws
+
+-- ---- how a call keeps the ranks: the words are those that are kept for the tables ts, and among the ranks rs there is room for one
+-- of each
+pub record Ranking (ts : List Table) (words rs : List ℕ) : Type 0 where
   pub room : every hasRoom ts ≡ true
   pub few : length ts ≤ tablesMost
-  pub words : length ts ≤ length ws
+  pub kept : words ≡ wordsKept ts
   pub ranks : length ts ≤ length rs
-
-pub record Keeps (ts : List Table) (ws rs : List ℕ) (n : ℕ) (ws′ rs′ : List ℕ) : Type 0 where
-  pub count : n ≡ length (wordsKept ts)
-  pub words : ws′ ≡ splice ws 0 (wordsKept ts)
-  pub ranks : rs′ ≡ splice rs 0 (ranksKept ts)

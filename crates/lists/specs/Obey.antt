@@ -45,3 +45,12 @@ listsObey area ios tables =
     && (eqb (length tables % 2) 0
     && (every isIoNumber ios
     && tablesObey area (tablesOf tables))))
+
+-- what it asks of the lists' lengths and of each entry by itself, all but that no two tables share a word
+unfoldable pub entriesObey : Area → List ℕ → List ℕ → Bool
+entriesObey area ios tables =
+    leb (length ios) ioMost
+    && (leb (length tables) (2 * tablesMost)
+    && (eqb (length tables % 2) 0
+    && (every isIoNumber ios
+    && every (tableInside area) (tablesOf tables))))

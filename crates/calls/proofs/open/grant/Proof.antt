@@ -1,13 +1,15 @@
 -- `calls::open::grant` meets its contract: each return by the tests that led to it. Assumes nothing.
-use mathlib.Core.Path.{sym, ap, _∙_}
+use mathlib.Core.Path.{refl, sym, ap, _∙_}
 use native.Mathlib.Omega.{arith}
+use lib.ListN.{length}
 use denote.Ref.{now}
 use borrow.Author.Tests.{not-true, not-false}
+use Rattle.lists.proofs.Take.{taken-words, taken-nothing}
 use Rattle.layout.specs.Layout.{holders}
 use Rattle.rooms.specs.Rooms.{placeRefusal, lowestFree}
 use Rattle.rooms.proofs.Rooms.{given-place}
 use Rattle.desk.proofs.Facts.{sound-long, sound-fair}
-use Rattle.calls.proofs.Opened.{area-in-core, area-small, grant-denied, grant-outside, grant-unlisted, grant-given}
+use Rattle.calls.proofs.Opened.{area-in-core, area-small, words-inside, words-lent, grant-denied, grant-outside, grant-unlisted, grant-given}
 use borrow.Author.Needs.{needs}
 use Rattle.calls.proofs.open.grant.Statement.{statement}
 use Rattle.calls.proofs.open.grant.Tie as tie
@@ -25,36 +27,29 @@ same-length : tie.Need-same-length
 same-length c = search needs
 
 returns : tie.Need-returns
-returns c =
-    let s = c .before .before .before .before .before .before .before .before .before in
+returns c = let s = c .before .before .before .before .before .before .before .before .before in
     grant-denied _ _ _ _ _ _ _ (c .before .place-refusal .ensures ∙ ap (placeRefusal (s .args .room)) (c .before .before .before .read-holders .ensures)) (c .if1 .taken)
 
 area-fits-requires : tie.Need-area-fits-requires
-area-fits-requires c κs = (sound-long _ (c .before .before .before .before .before .before .before .before .before .before .pre .0), c .before .before .before .before .before .before .before .before .before .before .pre .2)
+area-fits-requires c κs = let s = c .before .before .before .before .before .before .before .before .before .before in (sound-long _ (s .pre .0), s .pre .2)
 
 same-length-2 : tie.Need-same-length-2
 same-length-2 c = search needs
 
 returns-2 : tie.Need-returns-2
-returns-2 c =
-    let s = c .before .before .before .before .before .before .before .before .before .before .before .before in
+returns-2 c = let s = c .before .before .before .before .before .before .before .before .before .before .before .before in
     grant-outside _ _ _ _ _ _ (sym (c .before .before .before .before .place-refusal .ensures ∙ ap (placeRefusal (s .args .room)) (c .before .before .before .before .before .before .read-holders .ensures)) ∙ c .before .before .before .if1 .left)
     (sym (c .before .area-fits .ensures) ∙ not-true _ (c .if2 .taken))
 
-lists-obey-requires : tie.Need-lists-obey-requires
-lists-obey-requires c κs =
-    let s = c .before .before .before .before .before .before .before .before .before .before .before .before in
-    area-small _ (s .pre .0) _ _ (s .pre .2) (sym (c .before .area-fits .ensures) ∙ not-false _ (c .if2 .left))
+slice-aggregate-take-lists : tie.Need-slice-aggregate-take-lists
+slice-aggregate-take-lists c = search needs
 
-same-length-3 : tie.Need-same-length-3
-same-length-3 c = search needs
+take-lists-requires : tie.Need-take-lists-requires
+take-lists-requires c κs = let s = c .before .before .before .before .before .before .before .before .before .before .before .before .before in
+    (area-small _ (s .pre .0) _ _ (s .pre .2) (sym (c .before .before .area-fits .ensures) ∙ not-false _ (c .before .if2 .left)), refl)
 
-returns-3 : tie.Need-returns-3
-returns-3 c =
-    let s = c .before .before .before .before .before .before .before .before .before .before .before .before .before .before in
-    grant-unlisted _ _ _ _ _ _ (sym (c .before .before .before .before .before .before .place-refusal .ensures ∙ ap (placeRefusal (s .args .room)) (c .before .before .before .before .before .before .before .before .read-holders .ensures)) ∙ c .before .before .before .before .before .if1 .left)
-    (sym (c .before .before .before .area-fits .ensures) ∙ not-false _ (c .before .before .if2 .left))
-    (sym (c .before .lists-obey .ensures) ∙ not-true _ (c .if3 .taken))
+enum-known-n : tie.Need-enum-known-n
+enum-known-n c = search needs
 
 slice-aggregate-lowest-free : tie.Need-slice-aggregate-lowest-free
 slice-aggregate-lowest-free c = search needs
@@ -62,43 +57,75 @@ slice-aggregate-lowest-free c = search needs
 lowest-free-requires : tie.Need-lowest-free-requires
 lowest-free-requires c κs = search needs
 
+array-share-prefix-words : tie.Need-array-share-prefix-words
+array-share-prefix-words c = let t = c .before .before .before .before .before .before .before in
+    let s = t .before .before .before .before .before .before .before .before .before .before .before .before .before .before in
+    let k = rw (c .before .before .before .before .n .given .1) at (t .take-lists .ensures) in
+    words-inside _ _ _ _ _ _ k refl
+
+slice-aggregate-write-place : tie.Need-slice-aggregate-write-place
+slice-aggregate-write-place c = let t = c .before .before .before .before .before .before .before .before in
+    let s = t .before .before .before .before .before .before .before .before .before .before .before .before .before .before in
+    let k = rw (c .before .before .before .before .before .n .given .1) at (t .take-lists .ensures) in
+    let e = taken-words _ _ _ _ _ _ k in
+    e .1 ∙ sym (ap length (words-lent _ _ _ _ _ _ k refl))
+
 write-place-requires : tie.Need-write-place-requires
-write-place-requires c κs =
-    let s = c .before .before .before .before .before .before .before .before .before .before .before .before .before .before .before .before .before in
+write-place-requires c κs = let t = c .before .before .before .before .before .before .before .before in
+    let s = t .before .before .before .before .before .before .before .before .before .before .before .before .before .before in
+    let k = rw (c .before .before .before .before .before .n .given .1) at (t .take-lists .ensures) in
     let d = now (s .args .desk) in
-    let e = c .before .before .before .before .before .before .before .before .before .before .before .read-holders .ensures in
-    let f = sym (c .before .before .before .before .before .before .before .before .before .place-refusal .ensures ∙ ap (placeRefusal (s .args .room)) e) ∙ c .before .before .before .before .before .before .before .before .if1 .left in
-    let n = c .before .lowest-free .ensures ∙ ap lowestFree e in (
+    let e = t .before .before .before .before .before .before .before .before .read-holders .ensures in
+    let f = sym (t .before .before .before .before .before .before .place-refusal .ensures ∙ ap (placeRefusal (s .args .room)) e) ∙ t .before .before .before .before .before .if1 .left in
+    let n = c .before .before .lowest-free .ensures ∙ ap lowestFree e in (
       sound-long _ (s .pre .0),
       omega (arith, n, given-place (holders d) (s .args .room) (sound-fair d (s .pre .0)) (s .pre .2) f),
       s .pre .2,
-      area-small _ (s .pre .0) _ _ (s .pre .2) (sym (c .before .before .before .before .before .before .area-fits .ensures) ∙ not-false _ (c .before .before .before .before .before .if2 .left)),
-      sym (c .before .before .before .before .lists-obey .ensures) ∙ not-false _ (c .before .before .before .if3 .left),
+      area-small _ (s .pre .0) _ _ (s .pre .2) (sym (t .before .before .before .area-fits .ensures) ∙ not-false _ (t .before .before .if2 .left)),
+      taken-words _ _ _ _ _ _ k .0,
+      words-lent _ _ _ _ _ _ k refl,
     )
 
 clear-requires : tie.Need-clear-requires
-clear-requires c κs =
-    let s = c .before .before .before .before .before .before .before .before .before .before .before .before .before .before .before .before .before .before .before .before .before in
-    let g = sym (c .before .before .before .before .before .before .before .before .before .before .area-fits .ensures) ∙ not-false _ (c .before .before .before .before .before .before .before .before .before .if2 .left) in
+clear-requires c κs = let t = c .before .before .before .before .before .before .before .before .before .before .before .before in
+    let s = t .before .before .before .before .before .before .before .before .before .before .before .before .before .before in
+    let g = sym (t .before .before .before .area-fits .ensures) ∙ not-false _ (t .before .before .if2 .left) in
     omega (arith, s .pre .1, area-in-core (now (s .args .desk)) (s .pre .0) (s .args .room) (s .args .area) (s .pre .2) g)
+
+enum-told : tie.Need-enum-told
+enum-told c = search needs
+
+same-length-3 : tie.Need-same-length-3
+same-length-3 c = search needs
 
 same-length-4 : tie.Need-same-length-4
 same-length-4 c = search needs
+
+returns-3 : tie.Need-returns-3
+returns-3 c = let t = c .before .before .before .before .before .before .before .before .before .before .before .before .before .before .before in
+    let s = t .before .before .before .before .before .before .before .before .before .before .before .before .before .before in
+    let k = rw (c .before .before .before .before .before .before .before .before .before .before .before .before .n .given .1) at (t .take-lists .ensures) in
+    let e = t .before .before .before .before .before .before .before .before .read-holders .ensures in
+    grant-given _ _ _ _ _ _
+    (sym (t .before .before .before .before .before .before .place-refusal .ensures ∙ ap (placeRefusal (s .args .room)) e) ∙ t .before .before .before .before .before .if1 .left)
+    (sym (t .before .before .before .area-fits .ensures) ∙ not-false _ (t .before .before .if2 .left)) _ _ _
+    (taken-words _ _ _ _ _ _ k .0)
+    (c .before .before .before .before .before .before .before .before .before .lowest-free .ensures ∙ ap lowestFree e)
+    (c .before .before .before .before .before .before .write-place .ensures)
+    (c .before .before .clear .ensures)
 
 same-length-5 : tie.Need-same-length-5
 same-length-5 c = search needs
 
 returns-4 : tie.Need-returns-4
-returns-4 c =
-    let s = c .before .before .before .before .before .before .before .before .before .before .before .before .before .before .before .before .before .before .before .before .before .before .before .before in
-    let e = c .before .before .before .before .before .before .before .before .before .before .before .before .before .before .before .before .before .before .read-holders .ensures in
-    grant-given _ _ _ _ _ _
-    (sym (c .before .before .before .before .before .before .before .before .before .before .before .before .before .before .before .before .place-refusal .ensures ∙ ap (placeRefusal (s .args .room)) e) ∙ c .before .before .before .before .before .before .before .before .before .before .before .before .before .before .before .if1 .left)
-    (sym (c .before .before .before .before .before .before .before .before .before .before .before .before .before .area-fits .ensures) ∙ not-false _ (c .before .before .before .before .before .before .before .before .before .before .before .before .if2 .left)) _ _ _
-    (sym (c .before .before .before .before .before .before .before .before .before .before .before .lists-obey .ensures) ∙ not-false _ (c .before .before .before .before .before .before .before .before .before .before .if3 .left))
-    (c .before .before .before .before .before .before .before .before .lowest-free .ensures ∙ ap lowestFree e)
-    (c .before .before .before .before .before .before .write-place .ensures)
-    (c .before .before .clear .ensures)
+returns-4 c = let t = c .before .before .before in
+    let s = t .before .before .before .before .before .before .before .before .before .before .before .before .before .before in
+    let k = rw (c .enum-told .given .1) at (t .take-lists .ensures) in
+    let e = t .before .before .before .before .before .before .before .before .read-holders .ensures in
+    grant-unlisted _ _ _ _ _ _
+    (sym (t .before .before .before .before .before .before .place-refusal .ensures ∙ ap (placeRefusal (s .args .room)) e) ∙ t .before .before .before .before .before .if1 .left)
+    (sym (t .before .before .before .area-fits .ensures) ∙ not-false _ (t .before .before .if2 .left))
+    (taken-nothing _ _ _ _ _ k)
 
 pub grant-spec : {M : Type 1} → statement M
 grant-spec =
@@ -112,13 +139,18 @@ grant-spec =
     area-fits-requires
     same-length-2
     returns-2
-    lists-obey-requires
-    same-length-3
-    returns-3
+    slice-aggregate-take-lists
+    take-lists-requires
+    enum-known-n
     slice-aggregate-lowest-free
     lowest-free-requires
+    array-share-prefix-words
+    slice-aggregate-write-place
     write-place-requires
     clear-requires
+    enum-told
+    same-length-3
     same-length-4
+    returns-3
     same-length-5
     returns-4)

@@ -1,30 +1,18 @@
--- `calls::open::write_place` meets its contract: each return by the tests that led to it. Assumes nothing.
-use mathlib.Core.Path.{sym, ap, _∙_}
+-- `calls::open::write_place` meets its contract: the parts are written one after the other (desk-written). Assumes nothing.
+use mathlib.Core.Path.{ap}
 use native.Mathlib.Omega.{arith}
 use denote.Ref.{now}
 use lib.ListN.{length}
 use Rattle.lists.specs.Obey.{tablesOf}
-use Rattle.lists.proofs.Keep.{lists-obey, tables-keepable}
-use Rattle.lists.proofs.Ranks.{words-few, ranks-length}
-use Rattle.lists.proofs.Lent.{lent-length}
-use Rattle.calls.proofs.Opened.{words-inside, words-lent, ranks-inside, ranks-lent, desk-written}
+use Rattle.lists.proofs.Keep.{lists-obey, tables-ranking}
+use Rattle.lists.proofs.Ranks.{words-few}
+use Rattle.calls.proofs.Opened.{desk-written}
 use borrow.Author.Needs.{needs}
 use Rattle.calls.proofs.open.write_place.Statement.{statement}
 use Rattle.calls.proofs.open.write_place.Tie as tie
 
-slice-aggregate-keep-tables : tie.Need-slice-aggregate-keep-tables
-slice-aggregate-keep-tables c = search needs
-
-slice-aggregate-keep-tables-2 : tie.Need-slice-aggregate-keep-tables-2
-slice-aggregate-keep-tables-2 c = search needs
-
-keep-tables-requires : tie.Need-keep-tables-requires
-keep-tables-requires c κs =
-    let s = c .before .before .before .before .before in
-    tables-keepable (s .args .area) (now (s .args .ios)) (now (s .args .tables)) (s .pre .3) (s .pre .4) _ _ (omega arith) (omega arith)
-
-add-t18 : tie.Need-add-t18
-add-t18 c = search needs
+add-t13 : tie.Need-add-t13
+add-t13 c = search needs
 
 mul-b : tie.Need-mul-b
 mul-b c = search needs
@@ -42,78 +30,58 @@ add-write-numbers : tie.Need-add-write-numbers
 add-write-numbers c = search needs
 
 write-numbers-requires : tie.Need-write-numbers-requires
-write-numbers-requires c κs =
-    let s = c .before .before .before .before .before .before .before .before .before .before .before .before .before .before in
+write-numbers-requires c κs = let s = c .before .before .before .before .before .before .before .before .before .before in
     let o = lists-obey (s .args .area) (now (s .args .ios)) (now (s .args .tables)) (s .pre .4) in
     (o .ios-few, omega arith)
 
 add-copy-in : tie.Need-add-copy-in
 add-copy-in c = search needs
 
-array-share-prefix-words : tie.Need-array-share-prefix-words
-array-share-prefix-words c =
-    let s = c .before .before .before .before .before .before .before .before .before .before .before .before .before .before .before .before .before .before in
-    let o = lists-obey (s .args .area) (now (s .args .ios)) (now (s .args .tables)) (s .pre .4) in
-    words-inside _ _ _ _ _ _ (c .before .before .before .before .before .before .before .before .before .before .before .before .keep-tables .ensures) (o .tables-few) (o .tables-few)
-
-slice-aggregate-copy-in-2 : tie.Need-slice-aggregate-copy-in-2
-slice-aggregate-copy-in-2 c =
-    let s = c .before .before .before .before .before .before .before .before .before .before .before .before .before .before .before .before .before .before .before in
-    let k = c .before .before .before .before .before .before .before .before .before .before .before .before .before .keep-tables .ensures in
-    let o = lists-obey (s .args .area) (now (s .args .ios)) (now (s .args .tables)) (s .pre .4) in
-    sym (ap length (words-lent _ _ _ _ _ _ k (o .tables-few) (o .tables-few)) ∙ sym (k .count))
-
 copy-in-requires-2 : tie.Need-copy-in-requires-2
-copy-in-requires-2 c κs =
-    let s = c .before .before .before .before .before .before .before .before .before .before .before .before .before .before .before .before .before .before .before in
+copy-in-requires-2 c κs = let s = c .before .before .before .before .before .before .before .before .before .before .before .before .before .before in
     let o = lists-obey (s .args .area) (now (s .args .ios)) (now (s .args .tables)) (s .pre .4) in
     let n = words-few (tablesOf (now (s .args .tables))) in
-    rw (words-lent _ _ _ _ _ _ (c .before .before .before .before .before .before .before .before .before .before .before .before .before .keep-tables .ensures) (o .tables-few) (o .tables-few)) (omega (arith, n, o .tables-few))
+    omega (arith, n, o .tables-few, ap length (s .pre .5))
 
-add-copy-in-2 : tie.Need-add-copy-in-2
-add-copy-in-2 c = search needs
+add-r : tie.Need-add-r
+add-r c = search needs
 
-array-share-prefix-ranks : tie.Need-array-share-prefix-ranks
-array-share-prefix-ranks c =
-    let s = c .before .before .before .before .before .before .before .before .before .before .before .before .before .before .before .before .before .before .before .before .before .before .before in
-    let o = lists-obey (s .args .area) (now (s .args .ios)) (now (s .args .tables)) (s .pre .4) in
-    ranks-inside _ _ _ _ _ _ (c .before .before .before .before .before .before .before .before .before .before .before .before .before .before .before .before .before .keep-tables .ensures) (o .tables-few) (o .tables-few)
+add-keep-ranks : tie.Need-add-keep-ranks
+add-keep-ranks c = search needs
 
-slice-aggregate-copy-in-3 : tie.Need-slice-aggregate-copy-in-3
-slice-aggregate-copy-in-3 c =
-    let s = c .before .before .before .before .before .before .before .before .before .before .before .before .before .before .before .before .before .before .before .before .before .before .before .before in
-    let ts = now (s .args .tables) in
-    let o = lists-obey (s .args .area) (now (s .args .ios)) ts (s .pre .4) in
-    sym (ap length (ranks-lent ts _ _ _ _ _ (c .before .before .before .before .before .before .before .before .before .before .before .before .before .before .before .before .before .before .keep-tables .ensures) (o .tables-few) (o .tables-few)) ∙ ranks-length (tablesOf ts) ∙ lent-length ts)
+mul-keep-ranks : tie.Need-mul-keep-ranks
+mul-keep-ranks c = search needs
 
-copy-in-requires-3 : tie.Need-copy-in-requires-3
-copy-in-requires-3 c κs =
-    let s = c .before .before .before .before .before .before .before .before .before .before .before .before .before .before .before .before .before .before .before .before .before .before .before .before in
-    let ts = now (s .args .tables) in
-    let o = lists-obey (s .args .area) (now (s .args .ios)) ts (s .pre .4) in
-    let n = ranks-length (tablesOf ts) in
-    rw (ranks-lent ts _ _ _ _ _ (c .before .before .before .before .before .before .before .before .before .before .before .before .before .before .before .before .before .before .keep-tables .ensures) (o .tables-few) (o .tables-few)) (omega (arith, n, o .tables-few))
+sub-keep-ranks : tie.Need-sub-keep-ranks
+sub-keep-ranks c = search needs
+
+part-keep-ranks-start : tie.Need-part-keep-ranks-start
+part-keep-ranks-start c = search needs
+
+part-keep-ranks-end : tie.Need-part-keep-ranks-end
+part-keep-ranks-end c = search needs
+
+keep-ranks-requires : tie.Need-keep-ranks-requires
+keep-ranks-requires c κs = let s = c .before .before .before .before .before .before .before .before .before .before .before .before .before .before .before .before .before .before in
+    tables-ranking (s .args .area) (now (s .args .ios)) (now (s .args .tables)) (s .pre .3) (s .pre .4) _ _ (s .pre .5) (omega arith)
 
 same-length : tie.Need-same-length
 same-length c = search needs
 
 returns : tie.Need-returns
-returns c =
-    let s = c .before .before .before .before .before .before .before .before .before .before .before .before .before .before .before .before .before .before .before .before .before .before .before .before .before .before .before in
-    let k = c .before .before .before .before .before .before .before .before .before .before .before .before .before .before .before .before .before .before .before .before .before .keep-tables .ensures in
-    let o = lists-obey (s .args .area) (now (s .args .ios)) (now (s .args .tables)) (s .pre .4) in
-    desk-written _ _ _ _ _ _ _ _ _ _ _ _ _ (k .count) (c .before .before .before .before .before .before .before .before .before .before .before .before .before .before .before .before .copy-in .ensures) (c .before .before .before .before .before .before .before .before .before .before .before .before .write-numbers .ensures)
-    (words-lent _ _ _ _ _ _ k (o .tables-few) (o .tables-few)) (c .before .before .before .before .before .before .before .copy-in2 .ensures)
-    (ranks-lent _ _ _ _ _ _ k (o .tables-few) (o .tables-few)) (c .before .before .copy-in3 .ensures)
+returns c = let r = c .before .before in
+    let w = r .before .before .before .before in
+    let n = w .before .before .before .before in
+    let o = n .before .before .before .before in
+    let s = o .before .before .before .before .before .before .before in
+    let b = lists-obey (s .args .area) (now (s .args .ios)) (now (s .args .tables)) (s .pre .4) in
+    desk-written _ _ _ _ _ _ _ _ _ _ _ (s .pre .5) (o .copy-in .ensures) (n .write-numbers .ensures) (w .copy-in2 .ensures) (omega arith) (b .tables-few) (r .keep-ranks .ensures)
 
 pub write-place-spec : {M : Type 1} → statement M
 write-place-spec =
     tie.close
     (tie.spec
-    slice-aggregate-keep-tables
-    slice-aggregate-keep-tables-2
-    keep-tables-requires
-    add-t18
+    add-t13
     mul-b
     add-b
     slice-aggregate-copy-in
@@ -121,12 +89,13 @@ write-place-spec =
     add-write-numbers
     write-numbers-requires
     add-copy-in
-    array-share-prefix-words
-    slice-aggregate-copy-in-2
     copy-in-requires-2
-    add-copy-in-2
-    array-share-prefix-ranks
-    slice-aggregate-copy-in-3
-    copy-in-requires-3
+    add-r
+    add-keep-ranks
+    mul-keep-ranks
+    sub-keep-ranks
+    part-keep-ranks-start
+    part-keep-ranks-end
+    keep-ranks-requires
     same-length
     returns)
