@@ -10,4 +10,5 @@ pub mod Numbers
 pub mod Ranks
 pub mod Keep
 pub mod Merge
+pub mod Fours
 pub mod Take

@@ -14,8 +14,9 @@ use borrow.Author.Tests.{eq-eqb, ne-eqb, lt-ltb, le-ltb, ltb-true}
 use Rattle.word.specs.declared.Area.{Area}
 use Rattle.word.specs.Lists.{every, splice}
 use Rattle.word.specs.Runs.{Says}
-use Rattle.word.proofs.Cases.{by-test, by-eq, and-both, and-left, and-right}
+use Rattle.word.proofs.Cases.{by-test, by-eq, by-lt, and-both, and-left, and-right}
 use Rattle.word.proofs.Every.{every-place, every-then}
+use Rattle.word.proofs.Lists.{length-splice, getD-splice-out}
 use Rattle.word.proofs.Says.{says-eq, says-lt, says-le, says-and, says-within}
 use Rattle.lists.specs.declared.Table.{Table}
 use Rattle.lists.specs.Kept.{tableNumberIn, tableOf, rankIn, awayIn, emptyIn, tableBy, tableAt, tablesIn}
@@ -250,3 +251,57 @@ module _ (ts : List Table) (words rs : List ℕ) (r : Ranking ts words rs) where
   ranking-kept =
       let e = length-map ts awayRank in
       ranked-start rs 0 words (map awayRank ts) (rw e ranking-numbered) ∙ rw (r .kept)
+
+-- ---- where no table is empty, the words rank every one, whatever stood among the ranks
+-- as many words as tables: none is empty
+all-full : (k : ℕ) (ts : List Table) → length (wordsFrom k ts) ≡ length ts → (i : ℕ) → i < length ts → 0 < getD ts i noTable .len
+unfolding wordsFrom
+all-full k [] e i h = absurd (omega arith)
+all-full k (t ∷ ts) e zero h =
+    by-eq (t .len) 0
+    (λ z. let l = length-words (suc k) ts in
+    let f = rw (eq-eqb (t .len) 0 z) at e in
+    absurd (omega arith))
+    (λ z. omega arith)
+all-full k (t ∷ ts) e (suc i) h =
+    all-full (suc k) ts
+    (by-eq (t .len) 0
+    (λ z. let l = length-words (suc k) ts in
+    let f = rw (eq-eqb (t .len) 0 z) at e in
+    absurd (omega arith))
+    (λ z. let f = rw (ne-eqb (t .len) 0 z) at e in omega arith))
+    i (omega arith)
+
+-- at number k two lists of ranks become the same, if they were or if a word bears k
+ranked-same : (p : ℕ) (ws rs us : List ℕ) (k : ℕ) → k < length rs → k < length us
+    → (getD rs k 0 ≡ getD us k 0) ⊎ (every (notOf k) ws ≡ true → ⊥) → getD (ranked p ws rs) k 0 ≡ getD (ranked p ws us) k 0
+unfolding ranked every notOf
+ranked-same p [] rs us k h l d = ⊎-elim (λ e. e) (λ f. absurd (f refl)) d
+ranked-same p (w ∷ ws) rs us k h l d =
+    ranked-same (suc p) ws (set rs (tableNumberIn w) p) (set us (tableNumberIn w) p) k (rw length-set h) (rw length-set l)
+    (by-eq (tableNumberIn w) k
+    (λ e. inl (rw e (getD-set-same rs k p 0 h ∙ sym (getD-set-same us k p 0 l))))
+    (λ n. ⊎-elim
+    (λ e. inl (getD-set-other rs (tableNumberIn w) k p 0 (λ x. n (sym x)) ∙ e ∙ sym (getD-set-other us (tableNumberIn w) k p 0 (λ x. n (sym x)))))
+    (λ f. inr (λ q. f (rw (ne-eqb (tableNumberIn w) k n) q))) d))
+
+module _ (ts : List Table) (words rs : List ℕ) (r : Ranking ts words rs) (e : length words ≡ length ts) where
+  bears-all : (i : ℕ) → i < length ts → every (notOf i) words ≡ true → ⊥
+  unfolding wordsKept
+  bears-all i h q =
+      let k = r .kept in
+      let n : length (wordsFrom 0 ts) ≡ length ts = sym (length-sorted (wordsFrom 0 ts)) ∙ sym (ap length k) ∙ e in
+      has-word 0 ts i (omega (arith, r .few)) (r .room) h (all-full 0 ts n i h)
+      (rw zero-add (sym (every-sorted (notOf i) (wordsFrom 0 ts)) ∙ rw k at q))
+
+  pub ranking-full : ranked 0 words rs ≡ splice rs 0 (ranksKept ts)
+  ranking-full =
+      let m = length-map ts awayRank in
+      let s = length-splice rs 0 (map awayRank ts) (omega (arith, r .ranks)) in
+      ext-getD 0 _ _ (length-ranked 0 words rs ∙ sym s ∙ sym (length-ranked 0 words (splice rs 0 (map awayRank ts))))
+      (λ i h. let g = length-ranked 0 words rs in
+      ranked-same 0 words rs (splice rs 0 (map awayRank ts)) i (omega arith) (omega arith)
+      (by-lt i (length ts)
+      (λ l. inr (bears-all i l))
+      (λ l. inl (sym (getD-splice-out rs 0 (map awayRank ts) i (omega (arith, r .ranks)) (λ x y. omega arith))))))
+      ∙ ranking-kept ts words rs r

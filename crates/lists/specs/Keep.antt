@@ -39,6 +39,10 @@ wordOf k t = t .at .0 * 2 ^ 40 + k * 2 ^ 20 + t .len
 unfoldable pub hasRoom : Table → Bool
 hasRoom t = ltb (t .at .0) (2 ^ 24) && ltb (t .len) (2 ^ 20)
 
+-- a table that is not empty
+unfoldable pub hasWords : Table → Bool
+hasWords t = ltb 0 (t .len)
+
 -- the words of the tables that are not empty, where the first table's number is k
 unfoldable pub wordsFrom : ℕ → List Table → List ℕ
 wordsFrom k [] = []
