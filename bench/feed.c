@@ -4,7 +4,7 @@
 
      feed                     the table
      feed once LOADER-CALL N  one call between begin_call and end_call, for bench/run to count its instructions; N is few or full,
-                              or falling for open */
+                              or falling for open, or how many groups the block of a call of that name has */
 #include <stdio.h>
 #include <stdlib.h>
 #include <string.h>
@@ -147,12 +147,13 @@ static void row(const char *name, by_each call, unsigned calls) {
 
 /* ---- the rows */
 
-static const char *const shapes[SHAPES] = {"no half changed", "right halves 000", "every half changed"};
+static const char *const shapes[SHAPES] = {"no half changed", "right halves 000", "every half changed", "mixed"};
+static const char *const calls[SHAPES] = {"plain", "right", "dense", "mixed"};
 
 static void fed_rows(const char *where, struct entries entries) {
   char name[80];
   for (enum shape shape = PLAIN; shape < SHAPES; shape++) {
-    unsigned words = write_group_block(block, shape, entries);
+    unsigned words = write_group_block(block, shape, entries, 1);
     all_feed(66);
     snprintf(name, sizeof name, "feed, %s: %u words, %s", where, words, shapes[shape]);
     row(name, fed, 20);
@@ -187,6 +188,7 @@ static int table(void) {
   opened_row("open and release, one load, tables rising", 1, 0);
   opened_row("open and release, one load, tables falling", 1, 1);
   opened_row("open and release, eleven loads, tables rising", 11, 0);
+  opened_row("open and release, eleven loads, tables falling", 11, 1);
   row("make", made, 50);
   return 0;
 }
@@ -208,7 +210,10 @@ static int counted(const char *call, const char *where) {
   unsigned by = strncmp(call, "reader-", 7) == 0 ? READER : strncmp(call, "peer-", 5) == 0 ? PEER : CLAMP;
   call += strcspn(call, "-") + 1;
   make_desk(entries.tables == 128 ? 12 : 1, entries);
-  write_group_block(block, strcmp(call, "plain") == 0 ? PLAIN : strcmp(call, "right") == 0 ? RIGHT : DENSE, entries);
+  write_group_block(block, MIXED, entries, strcmp(call, "groups") == 0 ? (unsigned)atoi(where) : 1);
+  for (enum shape shape = PLAIN; shape < MIXED; shape++)
+    if (strcmp(call, calls[shape]) == 0)
+      write_group_block(block, shape, entries, 1);
   if (strcmp(call, "open") == 0) {
     make_desk(11, full);
     write_lists(io, tables, full, 7 * 8192 + 4096, strcmp(where, "falling") == 0);

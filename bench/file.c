@@ -84,8 +84,9 @@ static uint64_t dense_half(struct bits *bits, unsigned half, struct entries entr
 }
 
 static uint64_t next_word(struct bits *bits, unsigned i, enum shape shape, struct entries entries) {
+  static const enum shape mixed[8] = {RIGHT, PLAIN, RIGHT, RIGHT, PLAIN, PLAIN, RIGHT, DENSE};
   uint64_t left;
-  switch (shape) {
+  switch (shape == MIXED ? mixed[i % 8] : shape) {
   case PLAIN:
     add(bits, 0, 2);
     return (uint64_t)(i + 1) * 0123456701 & 0777777777777;
@@ -98,24 +99,33 @@ static uint64_t next_word(struct bits *bits, unsigned i, enum shape shape, struc
   }
 }
 
-/* As many program words as have room with their indicators. A last indicator word that no bit needs is none: such a group is one
-   word shorter, and a word of the block is left zero. */
-unsigned write_group_block(uint64_t *block, enum shape shape, struct entries entries) {
+/* A group at word `at` whose identifier, program words and indicators are at most so many words. A last indicator word that no bit
+   needs is none: such a group is one word shorter. Gives how many program words it has; its first is word `from` of the file. */
+static unsigned write_group(uint64_t *block, unsigned at, unsigned most, unsigned from, enum shape shape, struct entries entries) {
   static struct bits bits;
   unsigned words = 0, before = 0, marks;
-  begin(block, 0502527242710);
   bits.count = 0;
   for (;;) {
-    uint64_t word = next_word(&bits, words, shape, entries);
-    if (words + 1 + (bits.count + 35) / 36 > 253)
+    uint64_t word = next_word(&bits, from + words, shape, entries);
+    if (words + 1 + (bits.count + 35) / 36 > most - 1)
       break;
     before = bits.count;
-    block[2 + words++] = word;
+    block[at + 1 + words++] = word;
   }
   marks = (before + 35) / 36;
   for (unsigned i = 0; i < before; i++)
-    block[1 + words + marks - i / 36] |= (uint64_t)bits.bit[i] << (35 - i % 36);
-  block[1] = (uint64_t)2 << 34 | (uint64_t)(words + marks) << 26 | (uint64_t)words << 18;
+    block[at + words + marks - i / 36] |= (uint64_t)bits.bit[i] << (35 - i % 36);
+  block[at] = (uint64_t)2 << 34 | (uint64_t)(words + marks) << 26 | (uint64_t)words << 18 | from;
+  return words;
+}
+
+unsigned write_group_block(uint64_t *block, enum shape shape, struct entries entries, unsigned groups) {
+  unsigned words = 0, at = 1;
+  begin(block, 0502527242710);
+  for (unsigned k = 0; k < groups; k++) {
+    words += write_group(block, at, 254 / groups, words, shape, entries);
+    at += 1 + (unsigned)(block[at] >> 26 & 255);
+  }
   seal(block, 255);
   return words;
 }

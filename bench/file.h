@@ -1,4 +1,4 @@
-/* file.h: a program file to measure with. Its program block fills words 1 to 254 with one group that is not its section's last, so
+/* file.h: a program file to measure with. Its program block fills words 1 to 254 with groups, none of them its section's last, so
    that the load waits for the same after the block as before it: the block can be fed again and again, and is accepted each time. */
 
 #ifndef FILE_H
@@ -6,8 +6,9 @@
 
 #include <stdint.h>
 
-/* No half changed; each right half of type 000; each half changed, by all the types that are carried in turn. */
-enum shape { PLAIN, RIGHT, DENSE, SHAPES };
+/* No half changed; each right half of type 000; each half changed, by all the types that are carried in turn; and of eight words
+   three of the first kind, four of the second and one of the third, mixed. */
+enum shape { PLAIN, RIGHT, DENSE, MIXED, SHAPES };
 
 /* How many entries the file has: of type 2, of type 3 and of type 12. */
 struct entries {
@@ -20,7 +21,10 @@ void write_label_block(uint64_t *block, struct entries entries);
 void write_entries_block(uint64_t *block);
 unsigned entries_blocks(struct entries entries);
 void write_segment_block(uint64_t *block); /* the IBANK is words 0 to TABLES_FROM - 1 of the area */
-unsigned write_group_block(uint64_t *block, enum shape shape, struct entries entries); /* gives its program words */
+
+/* So many groups, as long as have room; gives how many program words they have. */
+unsigned write_group_block(uint64_t *block, enum shape shape, struct entries entries, unsigned groups);
+
 void write_last_block(uint64_t *block);    /* the section's last group, of one word */
 void write_termination_block(uint64_t *block);
 

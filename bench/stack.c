@@ -74,7 +74,7 @@ static void feed_file(void) {
   write_segment_block(block);
   note(FEED, feed, 66);
   for (enum shape shape = PLAIN; shape < SHAPES; shape++) {
-    write_group_block(block, shape, full);
+    write_group_block(block, shape, full, 1);
     note(FEED, feed, 66);
     block[255] ^= 1;
     note(FEED, feed, 12);
