@@ -15,7 +15,7 @@ use Rattle.program.specs.Groups.{groupOf}
 use Rattle.indicator.specs.Indicator.{bitsOf, indicatorBits, bitsBefore, numberAt, indicatorAt, afterField, afterWord, afterAll}
 use Rattle.field.specs.Field.{valued, movedField, becomes, putBack, fieldStep}
 use Rattle.group.specs.Group.{halfStep, wordStep, changedWords, homeIn, homeOf, settled, counted, homed, fitted, grouped, groupStep}
-use Rattle.demands.specs.Image.{headAt, piecesFrom, pieces, storeOf, storesFrom, reached, wordFrom, storesBeyond, storesOf, imageOf, fileStart}
+use Rattle.demands.specs.Image.{headAt, piecesFrom, pieces, storeOf, groupsFrom, upToLast, storesFrom, reached, wordFrom, storesBeyond, storesOf, imageOf, fileStart}
 use Rattle.demands.specs.HandDeck.{filled, blank, file, load}
 use Rattle.demands.specs.HandDeck as deck
 use Rattle.block.specs.Records.{modification, program, termination}
@@ -35,7 +35,7 @@ use Rattle.demands.proofs.Imaged.{image-is}
 -- the one program word is 7, with the area's address added to its right field
 pub deck-image : imageOf (load .area) (load .tables) (load .ios) file ≡ 519 ∷ replicate 63 0
 unfolding deck.label deck.program deck.termination filled blank imageOf storesOf storesBeyond labelOf isName isRest letterOrDigit every
-    characters tableTally tallied range finished programWordFits pieces piecesFrom headAt groupOf tableSectionOf segmentOf bankOf storesFrom
+    characters tableTally tallied range finished programWordFits pieces piecesFrom headAt groupOf tableSectionOf segmentOf bankOf groupsFrom upToLast storesFrom
     storeOf homeOf homeIn within changedWords wordStep halfStep fieldStep becomes movedField valued putBack bitsOf flatMap indicatorBits
     bitsBefore numberAt indicatorAt afterField afterWord wordFrom reached tab
 deck-image = refl

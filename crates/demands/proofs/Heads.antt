@@ -25,7 +25,7 @@ use Rattle.field.specs.Field.{Assignments}
 use Rattle.group.specs.declared.Section.{Section}
 use Rattle.group.specs.declared.Section.the-variants.{Segment as InSegment}
 use Rattle.sections.specs.Program.{closes}
-use Rattle.demands.specs.Image.{Piece, headAt, piecesFrom, storeOf, tableSection, storesBy, storesFrom}
+use Rattle.demands.specs.Image.{Piece, headAt, piecesFrom, storeOf, SectionGroup, tableSection, groupsFrom, upToLast, storesFrom}
 use Rattle.demands.specs.Image.Head.{SegmentHead, TableHead, GroupHead}
 
 -- ---- bits 35-34 tell a head: 00 the segment's, 01 a table section's, 10 a group's
@@ -58,13 +58,6 @@ module _ (w : ℕ) where
   unfolding segmentOf
   segment-bits second g e = segment-by second g (bankOf w) refl e
 
--- while a section is still to end, each piece stores
-stores-on : (a : Assignments) (m : ℕ) (section : Section) (p : Piece) (ps : List Piece)
-    → storesFrom a (suc m) section (p ∷ ps)
-    ≡ storesBy a (suc m) section (p .block) (p .at) (p .head) (λ k s. storesFrom a k s ps)
-unfolding storesFrom
-stores-on a m section p ps = rw (ne-eqb (suc m) 0 (omega arith))
-
 module _ (block : List ℕ) (i : ℕ) where
   abbrev here : ℕ
   here = getD block i 0
@@ -87,23 +80,21 @@ module _ (block : List ℕ) (i : ℕ) where
   module _ (a : Assignments) (m : ℕ) (section : Section) (n : ℕ) (rest : List Piece) (more : closes block i ≡ false) where
     pub stores-segment : (g : Segment) → headAt block i ≡ SegmentHead g
         → storesFrom a (suc m) section (piecesFrom (suc n) block i ++ rest) ≡ storesFrom a (suc m) (InSegment g) (piecesFrom n block (i + 4) ++ rest)
-    unfolding piecesFrom closes
-    stores-segment g e = rw (more, e) (stores-on a m section (record { block = block; at = i; head = SegmentHead g }) (piecesFrom n block (i + 4) ++ rest))
+    unfolding piecesFrom closes storesFrom groupsFrom
+    stores-segment g e = rw (more, e)
 
     pub stores-table : (t : TableSection) → headAt block i ≡ TableHead t
-        → storesFrom a (suc m) section (piecesFrom (suc n) block i ++ rest) ≡ storesFrom a (suc m) (tableSection a t) (piecesFrom n block (i + 1) ++ rest)
-    unfolding piecesFrom closes
-    stores-table t e = rw (more, e) (stores-on a m section (record { block = block; at = i; head = TableHead t }) (piecesFrom n block (i + 1) ++ rest))
+        → storesFrom a (suc m) section (piecesFrom (suc n) block i ++ rest) ≡ storesFrom a (suc m) (tableSection (a .tables) t) (piecesFrom n block (i + 1) ++ rest)
+    unfolding piecesFrom closes storesFrom groupsFrom
+    stores-table t e = rw (more, e)
 
     pub stores-group : (g : Group) → headAt block i ≡ GroupHead g
         → storesFrom a (suc m) section (piecesFrom (suc n) block i ++ rest)
         ≡ storeOf a section block i g ∷ storesFrom a (cond (g .last) m (suc m)) section (piecesFrom n block (i + 1 + g .words) ++ rest)
-    unfolding piecesFrom closes
+    unfolding piecesFrom closes storesFrom groupsFrom upToLast
     stores-group g e =
         let k : suc m - 1 ≡ m = omega arith in
-        rw (more, e)
-        (stores-on a m section (record { block = block; at = i; head = GroupHead g }) (piecesFrom n block (i + 1 + g .words) ++ rest)
-        ∙ ap (λ (j : ℕ). storeOf a section block i g ∷ storesFrom a (cond (g .last) j (suc m)) section (piecesFrom n block (i + 1 + g .words) ++ rest)) k)
+        rw (more, e, ne-eqb (suc m) 0 (omega arith), k)
 
   -- where the block is closed there is no piece, and after the last section no store
   pub no-fuel : piecesFrom 0 block i ≡ []
@@ -115,7 +106,11 @@ module _ (block : List ℕ) (i : ℕ) where
   no-pieces zero q = refl
   no-pieces (suc n) q = rw q
 
+none-left : (gs : List SectionGroup) → upToLast 0 gs ≡ []
+unfolding upToLast
+none-left [] = refl
+none-left (g ∷ gs) = refl
+
 pub no-stores : (a : Assignments) (section : Section) (ps : List Piece) → storesFrom a 0 section ps ≡ []
 unfolding storesFrom
-no-stores a section [] = refl
-no-stores a section (p ∷ ps) = refl
+no-stores a section ps = rw (none-left (groupsFrom (a .tables) section ps))

@@ -87,7 +87,7 @@ Stands x near (Entry c strict b) section = ⊥
 Stands x near (segment-due c) section = c .near ≡ near
 Stands x near (SegmentGroup c g) section = Housing x near c (InSegment g) section
 Stands x near (table-due c t b) section = c .near ≡ near
-Stands x near (TableGroup c t b) section = Housing x near c (tableSection (given x near) t) section
+Stands x near (TableGroup c t b) section = Housing x near c (tableSection (x .tables) t) section
 Stands x near (Termination b) section = Unit {0}
 Stands x near Complete section = ⊥
 Stands x near Broken section = ⊥
@@ -228,7 +228,7 @@ module _ (x : Load) (near : ℕ) (tables : every (tableInside (x .area)) (x .tab
           (λ _. when Tables (countFits (x .tables) s)
           (λ f r k section st.
           rw (stores-table block i a (c .sections - 1) section n rest more s (head-table block i s e))
-          (ih (TableGroup (record { near = c .near; sections = c .sections - 1 }) s ibank) (i + 1) core r k (tableSection a s)
+          (ih (TableGroup (record { near = c .near; sections = c .sections - 1 }) s ibank) (i + 1) core r k (tableSection (x .tables) s)
           (record { count = st; same = refl; room = table-room (x .area) (x .tables) s tables f })))
           (λ f. refuses _ (fault 17) core))
           (λ _. refuses _ (fault 17) core)
@@ -251,7 +251,7 @@ module _ (x : Load) (near : ℕ) (tables : every (tableInside (x .area)) (x .tab
     item-leads (table-due c u b) r k section st = section-leads c (u .0) b r k section st
     item-leads (TableGroup c u b) r k section st =
         rw (st .same)
-        (group-leads (TableGroup c u b) c (u .number .0 + 1) b (tableSection a u) (st .count) (st .room) refl
+        (group-leads (TableGroup c u b) c (u .number .0 + 1) b (tableSection (x .tables) u) (st .count) (st .room) refl
         (record { count = st .count; same = refl; room = st .room }) r k)
     item-leads (Termination b) r k section st =
         rw (no-stores a section ps) (rw (no-stores a section rest) at (stays (Termination b) core r k section tt))

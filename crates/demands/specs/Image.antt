@@ -4,7 +4,7 @@
 -- is refused with 16.
 use Prim.Native.Nat.{ℕ, zero, suc, _+_, _-_}
 use mathlib.Core.Bool.{Bool, false, cond, _&&_, _||_}
-use mathlib.Core.List.{List, [], _∷_, _++_}
+use mathlib.Core.List.{List, [], _∷_, _++_, map}
 use lib.ListN.{length, getD, drop}
 use lib.Dec.{eqb, leb, ltb}
 use Rattle.word.specs.Lists.{tab}
@@ -114,6 +114,13 @@ storeAt a block i g Outside = record { at = 0; words = [] }
 unfoldable pub storeOf : Assignments → Section → List ℕ → ℕ → Group → Store
 storeOf a section block i g = storeAt a block i g (homeOf (a .area) section g)
 
+-- ---- the groups in order, each with the section that it stands in
+pub record SectionGroup : Type 0 where
+  pub section : Section
+  pub block : List ℕ
+  pub at : ℕ
+  pub group : Group
+
 -- before the first head no bank has a word
 abbrev pub noSection : Section
 noSection = InSegment (record {
@@ -121,22 +128,32 @@ noSection = InSegment (record {
   dbank = record { at = record { 0 = 0 }; count = 0 };
 })
 
-abbrev pub tableSection : Assignments → TableSection → Section
-tableSection a t = InTable (getD (a .tables) (t .number .0) noTable) (t .count)
+abbrev pub tableSection : List CoreTable → TableSection → Section
+tableSection tables t = InTable (getD tables (t .number .0) noTable) (t .count)
 
--- what a piece stores, n sections being still to end; `next` are the stores of the pieces after it
-abbrev pub storesBy : Assignments → ℕ → Section → List ℕ → ℕ → Head → (ℕ → Section → List Store) → List Store
-storesBy a n section block i (SegmentHead g) next = next n (InSegment g)
-storesBy a n section block i (TableHead t) next = next n (tableSection a t)
-storesBy a n section block i (GroupHead g) next = storeOf a section block i g ∷ next (cond (g .last) (n - 1) n) section
-storesBy a n section block i NoHead next = []
+-- a section's head leads to its groups; `next` are the groups of the pieces after it, by the section that they begin in
+abbrev pub groupsBy : List CoreTable → Section → List ℕ → ℕ → Head → (Section → List SectionGroup) → List SectionGroup
+groupsBy tables section block i (SegmentHead g) next = next (InSegment g)
+groupsBy tables section block i (TableHead t) next = next (tableSection tables t)
+groupsBy tables section block i (GroupHead g) next = record { section = section; block = block; at = i; group = g } ∷ next section
+groupsBy tables section block i NoHead next = next section
 
--- the groups' stores in order: "bit 17 set on the section's last group"; "After the last section's last group the rest of the block is
--- disregarded"
+unfoldable pub groupsFrom : List CoreTable → Section → List Piece → List SectionGroup
+groupsFrom tables section [] = []
+groupsFrom tables section (p ∷ ps) = groupsBy tables section (p .block) (p .at) (p .head) (λ s. groupsFrom tables s ps)
+
+-- "bit 17 set on the section's last group"; "After the last section's last group the rest of the block is disregarded": the groups up to
+-- the n-th that is the last of its section
+unfoldable pub upToLast : ℕ → List SectionGroup → List SectionGroup
+upToLast n [] = []
+upToLast n (g ∷ gs) = cond (eqb n 0) [] (g ∷ upToLast (cond (g .group .last) (n - 1) n) gs)
+
+-- what they store
+abbrev pub storeIn : Assignments → SectionGroup → Store
+storeIn a g = storeOf a (g .section) (g .block) (g .at) (g .group)
+
 unfoldable pub storesFrom : Assignments → ℕ → Section → List Piece → List Store
-storesFrom a n section [] = []
-storesFrom a n section (p ∷ ps) =
-    cond (eqb n 0) [] (storesBy a n section (p .block) (p .at) (p .head) (λ m s. storesFrom a m s ps))
+storesFrom a n section ps = map (storeIn a) (upToLast n (groupsFrom (a .tables) section ps))
 
 -- ---- "Where groups overlap, the later word stands": the word at address j is that of the last store that reaches it, and zero where none does
 abbrev pub reaches : Store → ℕ → Bool
