@@ -16,8 +16,8 @@ use Rattle.indicator.specs.Indicator.{bitsOf, indicatorBits, bitsBefore, number
 use Rattle.field.specs.Field.{valued, movedField, becomes, putBack, fieldStep}
 use Rattle.group.specs.Group.{halfStep, wordStep, changedWords, homeIn, homeOf, settled, counted, homed, fitted, grouped, groupStep}
 use Rattle.demands.specs.Image.{headAt, piecesFrom, pieces, storeOf, groupsFrom, upToLast, storesFrom, reached, wordFrom, storesBeyond, storesOf, imageOf, fileStart}
-use Rattle.demands.specs.HandDeck.{filled, blank, file, load}
-use Rattle.demands.specs.HandDeck as deck
+use Rattle.hand_deck.specs.Blocks.{withWords, blank, deckLabel, deckProgram, deckTermination, deckFile}
+use Rattle.demands.specs.HandDeck.{deckGiven}
 use Rattle.block.specs.Records.{modification, program, termination}
 use Rattle.modification.specs.Assignments.{assignmentsFit}
 use Rattle.program.specs.Start.{inBank}
@@ -33,16 +33,16 @@ use Rattle.demands.specs.Taking.{Takes}
 use Rattle.demands.proofs.Imaged.{image-is}
 
 -- the one program word is 7, with the area's address added to its right field
-pub deck-image : imageOf (load .area) (load .tables) (load .ios) file ≡ 519 ∷ replicate 63 0
-unfolding deck.label deck.program deck.termination filled blank imageOf storesOf storesBeyond labelOf isName isRest letterOrDigit every
+pub deck-image : imageOf (deckGiven .area) (deckGiven .tables) (deckGiven .ios) deckFile ≡ 519 ∷ replicate 63 0
+unfolding deckLabel deckProgram deckTermination withWords blank imageOf storesOf storesBeyond labelOf isName isRest letterOrDigit every
     characters tableTally tallied range finished programWordFits pieces piecesFrom headAt groupOf tableSectionOf segmentOf bankOf groupsFrom upToLast storesFrom
     storeOf homeOf homeIn within changedWords wordStep halfStep fieldStep becomes movedField valued putBack bitsOf flatMap indicatorBits
     bitsBefore numberAt indicatorAt afterField afterWord wordFrom reached tab
 deck-image = refl
 
 -- "2 done 512"
-pub deck-start : fileStart (load .area) file ≡ record { 0 = 512 }
-unfolding deck.termination filled blank
+pub deck-start : fileStart (deckGiven .area) deckFile ≡ record { 0 = 512 }
+unfolding deckTermination withWords blank
 deck-start = refl
 
 -- ---- it is taken to its end, so that the image theorem speaks of it
@@ -50,10 +50,10 @@ abbrev core : List ℕ
 core = replicate 576 0
 
 abbrev afterwards : List ℕ
-afterwards = blockStep load (Segment (record { near = 0; sections = 0 })) deck.program core .core
+afterwards = blockStep deckGiven (Segment (record { near = 0; sections = 0 })) deckProgram core .core
 
-pub deck-taken : Takes load Label core file Complete afterwards
-unfolding deck.label deck.program deck.termination filled blank labelOf isName isRest letterOrDigit every characters tableTally tallied
+pub deck-taken : Takes deckGiven Label core deckFile Complete afterwards
+unfolding deckLabel deckProgram deckTermination withWords blank labelOf isName isRest letterOrDigit every characters tableTally tallied
     range finished programWordFits groupOf tableSectionOf segmentOf bankOf homeOf homeIn within changedWords wordStep halfStep fieldStep
     becomes movedField valued putBack bitsOf flatMap indicatorBits bitsBefore numberAt indicatorAt afterField afterWord Takes isOver blockStep
     dueStep recordDue labelStep withLabel afterLabel assignmentsFit programStep programFrom closes itemStep segmentStep withSegment banksFit
@@ -64,4 +64,4 @@ deck-taken = (refl, (refl, (refl, (refl, refl))))
 -- so the area holds that image
 pub deck-area : range afterwards 512 64 ≡ 519 ∷ replicate 63 0
 unfolding every
-deck-area = image-is load core afterwards file (omega arith) refl (λ k h. getD-replicate {A = ℕ} 576 (512 + k) 0 0 (omega arith)) deck-taken ∙ deck-image
+deck-area = image-is deckGiven core afterwards deckFile (omega arith) refl (λ k h. getD-replicate {A = ℕ} 576 (512 + k) 0 0 (omega arith)) deck-taken ∙ deck-image

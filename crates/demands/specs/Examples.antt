@@ -4,7 +4,8 @@ use mathlib.Core.List.{List, [], _∷_}
 use lib.ListN.{replicate}
 use Rattle.word.specs.declared.Area.{Area}
 use Rattle.answer.specs.declared.Answer.{Answer}
-use Rattle.demands.specs.HandDeck as deck
+use Rattle.hand_deck.specs.Blocks.{deckLabel, deckProgram, deckTermination}
+use Rattle.demands.specs.HandDeck.{deckGiven}
 use Rattle.demands.specs.History.{State, fresh, Call, Told}
 use Rattle.demands.specs.History.Call.{Open, Feed}
 
@@ -36,7 +37,7 @@ otherArea = record { at = record { 0 = 2560 }; size = 64 }
 
 -- room 0 feeds place 0, room 1 place 1
 abbrev pub open0 : Call
-open0 = Open 0 (deck.load .area) [] []
+open0 = Open 0 (deckGiven .area) [] []
 
 abbrev pub open1 : Call
 open1 = Open 1 otherArea [] []
@@ -49,7 +50,7 @@ fed1 block = Feed 1 1 block
 
 -- the hand deck
 abbrev pub deckFeeds : List Call
-deckFeeds = fed0 deck.label ∷ fed0 deck.program ∷ fed0 deck.termination ∷ []
+deckFeeds = fed0 deckLabel ∷ fed0 deckProgram ∷ fed0 deckTermination ∷ []
 
 abbrev pub deckLife : List Call
 deckLife = open0 ∷ deckFeeds
@@ -58,14 +59,14 @@ deckLife = open0 ∷ deckFeeds
 abbrev pub byTurns : List Call
 byTurns =
     open0 ∷ open1
-    ∷ fed0 deck.label ∷ fed1 deck.label
-    ∷ fed1 deck.program ∷ fed0 deck.program
-    ∷ fed0 deck.termination ∷ fed1 deck.termination ∷ []
+    ∷ fed0 deckLabel ∷ fed1 deckLabel
+    ∷ fed1 deckProgram ∷ fed0 deckProgram
+    ∷ fed0 deckTermination ∷ fed1 deckTermination ∷ []
 
 -- room 0 feeds its program block again where the termination block is due, and then goes on
 abbrev pub oneBroken : List Call
 oneBroken =
     open0 ∷ open1
-    ∷ fed0 deck.label ∷ fed1 deck.label
-    ∷ fed0 deck.program ∷ fed0 deck.program
-    ∷ fed1 deck.program ∷ fed0 deck.termination ∷ fed1 deck.termination ∷ []
+    ∷ fed0 deckLabel ∷ fed1 deckLabel
+    ∷ fed0 deckProgram ∷ fed0 deckProgram
+    ∷ fed1 deckProgram ∷ fed0 deckTermination ∷ fed1 deckTermination ∷ []

@@ -18,49 +18,48 @@ use Rattle.program.specs.Groups.{groupOf}
 use Rattle.program.specs.Start.{startOf, inBank}
 use Rattle.program.specs.declared.SegmentRead.the-variants.{Good as segment-read}
 use Rattle.program.specs.declared.GroupRead.the-variants.{Good as group-read}
-use Rattle.hand_deck.specs.Blocks.{blank, filled}
-use Rattle.hand_deck.specs.Blocks as deck
+use Rattle.hand_deck.specs.Blocks.{blank, withWords, deckLabel, deckProgram, deckTermination}
 
 -- each is a block, with its checksum, of its record
-pub label-sealed : verdict Label deck.label ≡ Pass
-unfolding deck.label filled blank verdict sealVerdict every sumOf
+pub label-sealed : verdict Label deckLabel ≡ Pass
+unfolding deckLabel withWords blank verdict sealVerdict every sumOf
 label-sealed = refl
 
-pub program-sealed : verdict Program deck.program ≡ Pass
-unfolding deck.program filled blank verdict sealVerdict every sumOf
+pub program-sealed : verdict Program deckProgram ≡ Pass
+unfolding deckProgram withWords blank verdict sealVerdict every sumOf
 program-sealed = refl
 
-pub termination-sealed : verdict Termination deck.termination ≡ Pass
-unfolding deck.termination filled blank verdict sealVerdict every sumOf
+pub termination-sealed : verdict Termination deckTermination ≡ Pass
+unfolding deckTermination withWords blank verdict sealVerdict every sumOf
 termination-sealed = refl
 
-pub program-known : ofRecord Program deck.program ≡ true
-unfolding deck.program filled blank program spelt
+pub program-known : ofRecord Program deckProgram ≡ true
+unfolding deckProgram withWords blank program spelt
 program-known = refl
 
-pub termination-known : ofRecord Termination deck.termination ≡ true
-unfolding deck.termination filled blank termination spelt
+pub termination-known : ofRecord Termination deckTermination ≡ true
+unfolding deckTermination withWords blank termination spelt
 termination-known = refl
 
 -- the label of a program named A: no tables, no table sections
-pub label-read-whole : labelOf deck.label
+pub label-read-whole : labelOf deckLabel
     ≡ label-read (record { switches = 0; channels = 0; units = 0; tables = 0; strict = false; sections = 0 })
-unfolding deck.label filled blank labelOf isName isRest letterOrDigit every characters tableTally tallied range finished programWordFits
+unfolding deckLabel withWords blank labelOf isName isRest letterOrDigit every characters tableTally tallied range finished programWordFits
 label-read-whole = refl
 
 -- an IBANK of one word at relative 0, no DBANK
-pub segment-read-whole : segmentOf (getD deck.program 1 0) (getD deck.program 2 0)
+pub segment-read-whole : segmentOf (getD deckProgram 1 0) (getD deckProgram 2 0)
     ≡ segment-read (record { ibank = record { at = record { 0 = 0 }; count = 1 }; dbank = record { at = record { 0 = 0 }; count = 0 } })
-unfolding deck.program filled blank segmentOf bankOf
+unfolding deckProgram withWords blank segmentOf bankOf
 segment-read-whole = refl
 
 -- one group, the section's last: one program word at relative 0 and one indicator word
-pub group-read-whole : groupOf (getD deck.program 5 0)
+pub group-read-whole : groupOf (getD deckProgram 5 0)
     ≡ group-read (record { words = 2; program = 1; last = true; ibank = true; at = record { 0 = 0 } })
-unfolding deck.program filled blank groupOf
+unfolding deckProgram withWords blank groupOf
 group-read-whole = refl
 
 -- the start is relative 0, in the IBANK
-pub start-in : inBank (record { at = record { 0 = 0 }; count = 1 }) (startOf deck.termination) ≡ true
-unfolding deck.termination filled blank inBank
+pub start-in : inBank (record { at = record { 0 = 0 }; count = 1 }) (startOf deckTermination) ≡ true
+unfolding deckTermination withWords blank inBank
 start-in = refl

@@ -8,15 +8,16 @@ pub record Named : Type 0 where
   pub at : ℕ
   pub word : ℕ
 
-unfoldable pub filled : List Named → List ℕ → List ℕ
-filled [] block = block
-filled (n ∷ ns) block = filled ns (set block (n .at) (n .word))
+-- a block with these words
+unfoldable pub withWords : List Named → List ℕ → List ℕ
+withWords [] block = block
+withWords (n ∷ ns) block = withWords ns (set block (n .at) (n .word))
 
 unfoldable pub blank : List ℕ
 blank = replicate 256 0
 
-unfoldable pub label : List ℕ
-label = filled (
+unfoldable pub deckLabel : List ℕ
+deckLabel = withWords (
     record { at = 0; word = 0o060505050505 }
     ∷ record { at = 1; word = 0o050505050505 }
     ∷ record { at = 2; word = 0o100000000000 }
@@ -25,8 +26,8 @@ label = filled (
     ∷ record { at = 255; word = 0o060505050505 }
     ∷ []) blank
 
-unfoldable pub program : List ℕ
-program = filled (
+unfoldable pub deckProgram : List ℕ
+deckProgram = withWords (
     record { at = 0; word = 0o502527242710 }
     ∷ record { at = 1; word = 0o000001000000 }
     ∷ record { at = 5; word = 0o401001400000 }
@@ -35,8 +36,11 @@ program = filled (
     ∷ record { at = 255; word = 0o000001146450 }
     ∷ []) blank
 
-unfoldable pub termination : List ℕ
-termination = filled (
+unfoldable pub deckTermination : List ℕ
+deckTermination = withWords (
     record { at = 0; word = 0o503127222710 }
     ∷ record { at = 255; word = 0o000000726037 }
     ∷ []) blank
+
+abbrev pub deckFile : List (List ℕ)
+deckFile = deckLabel ∷ deckProgram ∷ deckTermination ∷ []

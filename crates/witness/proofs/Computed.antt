@@ -41,8 +41,8 @@ use Rattle.calls.specs.Open.{besideOwn, areaFits, openedOwn, openedDesk, opened
 use Rattle.calls.specs.Release.{holds}
 use Rattle.feed.specs.Block.{dueStep, blockStep}
 use Rattle.feed.specs.Feed.{loadIn, staged, settledOf, takenOf, checkedOf, heldOf, feedOf}
-use Rattle.demands.specs.HandDeck.{filled, blank}
-use Rattle.demands.specs.HandDeck as deck
+use Rattle.hand_deck.specs.Blocks.{withWords, blank, deckLabel, deckProgram, deckTermination, deckFile}
+use Rattle.demands.specs.HandDeck.{deckGiven}
 use Rattle.demands.specs.Image.{imageOf, fileStart}
 use Rattle.demands.specs.Orders.{run}
 use Rattle.demands.specs.History.{Call, Told, answerTo, call, told, taken, starts, released}
@@ -61,7 +61,7 @@ unfolding every everyTwo range tab splice cleared within apart characters spelt 
     programFrom programStep stretchOf mapOf inCore stretchesApart mapObeys hit count free held heldEach idle atMost fair placeRefusal
     lowestFree mapNumbers holders places placeIn ownOf stageIn iosIn wordsIn ranksIn areaIn countsFit loadFits heldFits placeFits areasApart
     sound freed freshDesk makeOf besideOwn areaFits openedOwn openedDesk opened grantOf openOf holds dueStep blockStep loadIn staged
-    settledOf takenOf checkedOf heldOf feedOf filled blank deck.label deck.program deck.termination run answerTo call told oldDesk oldCore
+    settledOf takenOf checkedOf heldOf feedOf withWords blank deckLabel deckProgram deckTermination run answerTo call told oldDesk oldCore
     madeWith answersIn taken starts released
 computed m cs = told cs (madeWith m)
 
@@ -79,11 +79,11 @@ unfolding computed
 deck-core = refl
 
 -- so Demand 2 speaks of it: what it asks is computed, and the image is what it then says
-pub deck-demand : (range (run call deckFeeds (call open0 (madeWith oneRoom)) .core) 512 64 ≡ imageOf (deck.load .area) [] [] deck.file)
-    × (record { 0 = 512 } ≡ fileStart (deck.load .area) deck.file)
+pub deck-demand : (range (run call deckFeeds (call open0 (madeWith oneRoom)) .core) 512 64 ≡ imageOf (deckGiven .area) [] [] deckFile)
+    × (record { 0 = 512 } ≡ fileStart (deckGiven .area) deckFile)
 unfolding computed
 deck-demand =
-    let k = demand-2 oldDesk oldCore oneRoom made-one [] deckFeeds 0 0 (deck.load .area) [] [] (madeWith oneRoom)
+    let k = demand-2 oldDesk oldCore oneRoom made-one [] deckFeeds 0 0 (deckGiven .area) [] [] (madeWith oneRoom)
     (told deckFeeds (call open0 (madeWith oneRoom))) (record { 0 = 512 }) [] refl refl refl refl refl in
     (k .0, k .1 .0)
 
