@@ -37,7 +37,7 @@ fn write_fresh(desk: &mut [u64], core: u64, numbers: &[u64])
     ensures { λ _. ⌜ now (desk .exit) ≡ freshDesk (now (desk .entry)) core (now (numbers .entry)) ⌝ }
 {
     desk[0] = core;
-    slices::copy_in(desk, 1, numbers);
+    word::slices::copy_in(desk, 1, numbers);
     free_places(desk);
 }
 

@@ -64,7 +64,7 @@ fn grant(
         Taken::Words(n) => {
             let p = rooms::lowest_free(&h);
             write_place(desk, p, room, area, ios, tables, &words[..n]);
-            slices::clear(core, area.at.0 as usize, area.size as usize);
+            word::slices::clear(core, area.at.0 as usize, area.size as usize);
             Answer::Opened(p as u64)
         }
         Taken::Nothing => Answer::Refused(Fault { number: 8 }),
@@ -142,9 +142,9 @@ fn write_place(
         0,
     ];
     let b = 17 + p * 303;
-    slices::copy_in(desk, b, &own);
+    word::slices::copy_in(desk, b, &own);
     write_numbers(desk, b + 15, ios);
-    slices::copy_in(desk, b + 47, words);
+    word::slices::copy_in(desk, b + 47, words);
     let r = b + 175;
     lists::keep_ranks(tables, words, &mut desk[r..r + 128]);
 }
@@ -156,5 +156,5 @@ fn write_numbers(desk: &mut [u64], a: usize, ios: &[u64])
 {
     let mut numbers = [0u64; 32];
     lists::keep_numbers(ios, &mut numbers);
-    slices::copy_in(desk, a, &numbers[..(ios.len() + 3) / 4]);
+    word::slices::copy_in(desk, a, &numbers[..(ios.len() + 3) / 4]);
 }

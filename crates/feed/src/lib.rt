@@ -134,7 +134,7 @@ fn settle(desk: &mut [u64], core: &mut [u64], p: usize, area: Area, r: Step) -> 
         }
         Step::Refused(f) => {
             write_stage(desk, p, Stage::Broken);
-            slices::clear(core, area.at.0 as usize, area.size as usize);
+            word::slices::clear(core, area.at.0 as usize, area.size as usize);
             Answer::Refused(f)
         }
     }
@@ -146,5 +146,5 @@ fn write_stage(desk: &mut [u64], p: usize, s: Stage)
     ensures { λ _. ⌜ now (desk .exit) ≡ staged (now (desk .entry)) p s ⌝ }
 {
     let n = stage::stage_numbers(s);
-    slices::copy_in(desk, 17 + p * 303 + 6, &n);
+    word::slices::copy_in(desk, 17 + p * 303 + 6, &n);
 }

@@ -153,17 +153,17 @@ fn count_group(
     let count = g.program as usize;
     let end = first + g.words as usize;
     let n = (g.words - g.program) as usize;
-    slices::copy_in(core, base, &block[first..first + count]);
+    word::slices::copy_in(core, base, &block[first..first + count]);
     match words::change_group(s, words, ranks, ios, block, end, n, base, count, core) {
         Ran::Through(bits) => {
             if just_enough(bits, n) {
                 return GroupStep::Done(end, g.last);
             }
-            slices::clear(core, base, count);
+            word::slices::clear(core, base, count);
             GroupStep::Refused(Fault { number: 18 })
         }
         Ran::Fails(f) => {
-            slices::clear(core, base, count);
+            word::slices::clear(core, base, count);
             if cursor::count_fits(block, first, first + count, end, n) {
                 return GroupStep::Refused(f);
             }

@@ -40,7 +40,7 @@ pub fn program_step(
     ensures { λ r. ⌜ StepMeets (programStep (loadOf area io (now (words .entry)) (now (ranks .entry)) (now (ios .entry))) s (now (block .entry)) (now (core .entry))) r (now (core .exit)) ⌝ }
 {
     let mut b = [0u64; 256];
-    slices::copy_in(&mut b, 0, block);
+    word::slices::copy_in(&mut b, 0, block);
     walk_items(area, io, words, ranks, ios, s, &b, core)
 }
 

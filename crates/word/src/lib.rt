@@ -1,4 +1,6 @@
 // A core word and its fields, the three sorts of number, an area, runs of words and a fault: what every other crate builds on.
+pub mod slices;
+
 ghost use mathlib.Core.Path.{_≡_};
 ghost use Prim.Native.Nat.{_+_, _<_, _^_};
 ghost use lib.ListN.{getD};

@@ -1,12 +1,12 @@
--- `slices::clear` meets its contract: by the loop's invariant. Assumes nothing.
+-- `word::slices::clear` meets its contract: by the loop's invariant. Assumes nothing.
 use Prim.Native.Nat.{_≤_, _-_}
 use mathlib.Core.Path.{_≡_, sym}
 use native.Mathlib.Omega.{arith}
 use lib.ListN.{length, length-set, replicate, length-replicate, getD-replicate}
 use Rattle.word.specs.Lists.{cleared}
 use Rattle.word.proofs.Lists.{copied, copied-none, copied-more, copied-all}
-use Rattle.slices.proofs.clear.Statement.{statement}
-use Rattle.slices.proofs.clear.Tie as tie
+use Rattle.word.proofs.slices.clear.Statement.{statement}
+use Rattle.word.proofs.slices.clear.Tie as tie
 
 abbrev Inv-loop : tie.InvT-loop
 Inv-loop dst₀ a n i₀ dst i = (i ≤ n) × (length dst ≡ length dst₀) × (dst ≡ copied dst₀ a (replicate n 0) i)

@@ -1,11 +1,11 @@
--- `slices::copy_in` meets its contract: by the loop's invariant. Assumes nothing.
+-- `word::slices::copy_in` meets its contract: by the loop's invariant. Assumes nothing.
 use Prim.Native.Nat.{_≤_, _-_}
 use mathlib.Core.Path.{_≡_, refl}
 use native.Mathlib.Omega.{arith}
 use lib.ListN.{length, length-set}
 use Rattle.word.proofs.Lists.{copied, copied-none, copied-more, copied-all}
-use Rattle.slices.proofs.copy_in.Statement.{statement}
-use Rattle.slices.proofs.copy_in.Tie as tie
+use Rattle.word.proofs.slices.copy_in.Statement.{statement}
+use Rattle.word.proofs.slices.copy_in.Tie as tie
 
 abbrev Inv-loop : tie.InvT-loop
 Inv-loop dst₀ a src i₀ dst i = (i ≤ length src) × (length dst ≡ length dst₀) × (dst ≡ copied dst₀ a src i)
