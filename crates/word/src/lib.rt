@@ -1,4 +1,5 @@
 // A core word and its fields, the three sorts of number, an area, runs of words and a fault: what every other crate builds on.
+pub mod limits;
 pub mod slices;
 
 ghost use mathlib.Core.Path.{_≡_};
