@@ -9,7 +9,7 @@ use lib.ListN.{length, getD}
 use lib.Dec.{eqb, leb}
 use Rattle.word.specs.Lists.{every, everyTwo}
 use Rattle.word.specs.Runs.{within, apart}
-use Rattle.word.specs.Limits.{ioMost, tablesMost}
+use Rattle.word.specs.Limits.{placeCount, coreMost, ioMost, tablesMost}
 use Rattle.word.specs.declared.Area.{Area}
 use Rattle.map.specs.declared.Stretch.{Stretch}
 use Rattle.map.specs.Map.{mapOf, mapObeys, none}
@@ -61,7 +61,7 @@ areasApart l k =
 
 -- a core has from 1 to 65,536 words
 abbrev pub coreFits : ℕ → Bool
-coreFits n = leb 1 n && leb n 65536
+coreFits n = leb 1 n && leb n coreMost
 
 unfoldable pub sound : List ℕ → Bool
 sound d =
@@ -78,8 +78,8 @@ pub record Sound (d : List ℕ) : Type 0 where
   pub core : coreFits (coreLength d) ≡ true
   pub map : mapObeys (coreLength d) (mapOf (mapNumbers d)) ≡ true
   pub fair : Fair (holders d)
-  pub place : (p : ℕ) → p < 12 → placeFits (mapOf (mapNumbers d)) (placeIn d p) ≡ true
-  pub two : (p q : ℕ) → p < q → q < 12 → areasApart (placeIn d p) (placeIn d q) ≡ true
+  pub place : (p : ℕ) → p < placeCount → placeFits (mapOf (mapNumbers d)) (placeIn d p) ≡ true
+  pub two : (p q : ℕ) → p < q → q < placeCount → areasApart (placeIn d p) (placeIn d q) ≡ true
 
 -- the numbers of its own of place p of a desk
 abbrev pub ownIn : List ℕ → ℕ → Place
@@ -88,7 +88,7 @@ ownIn d p = ownOf (placeIn d p)
 -- and what a sound desk says of a place p that is held (`held-facts`, proofs/Facts.antt): its area, its lists, its stage
 pub record HeldFacts (d : List ℕ) (p : ℕ) : Type 0 where
   pub inside : ownIn d p .area .at .0 + ownIn d p .area .size ≤ coreLength d
-  pub core : coreLength d ≤ 65536
+  pub core : coreLength d ≤ coreMost
   pub some : 1 ≤ ownIn d p .area .size
   pub io : ownIn d p .io ≤ ioMost
   pub tables : ownIn d p .tables ≤ tablesMost
@@ -100,11 +100,11 @@ pub record HeldFacts (d : List ℕ) (p : ℕ) : Type 0 where
 
 -- a stretch that ends in the numbers of a core: what the test of a map has shown
 abbrev pub SmallStretch : Stretch → Type 0
-SmallStretch s = s .start .0 + s .len ≤ 65536
+SmallStretch s = s .start .0 + s .len ≤ coreMost
 
 -- what the code has tested of a desk when it comes to the holders; and what it tests of its places, each one and each two
 abbrev pub MapTested : List ℕ → Type 0
-MapTested d = (length d ≡ deskWords) × (coreLength d ≤ 65536) × (mapObeys (coreLength d) (mapOf (mapNumbers d)) ≡ true)
+MapTested d = (length d ≡ deskWords) × (coreLength d ≤ coreMost) × (mapObeys (coreLength d) (mapOf (mapNumbers d)) ≡ true)
 
 abbrev pub placesFit : List ℕ → Bool
 placesFit d = every (placeFits (mapOf (mapNumbers d))) (places d) && everyTwo areasApart (places d)

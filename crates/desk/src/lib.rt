@@ -4,25 +4,35 @@ ghost use mathlib.Core.Bool.{true, _&&_, _||_};
 ghost use Prim.Native.Nat.{_+_, _-_, _≤_, _<_};
 ghost use lib.ListN.{length};
 ghost use lib.Dec.{eqb};
+ghost use Rattle.word.specs.Limits.{placeCount, coreMost, ioMost, tablesMost};
 ghost use Rattle.rooms.specs.Rooms.{fair, heldPlaces};
-ghost use Rattle.layout.specs.Layout.{deskWords, placeIn, holderOf, holders};
+ghost use Rattle.layout.specs.Layout.{deskWords, placeWords, placeIn, holderOf, holders};
 ghost use Rattle.desk.specs.Sound.{areaIn, countsFit, loadFits, heldFits, areasApart, SmallStretch, MapTested, placesFit, sound};
+use layout::AREA_AT;
+use layout::DESK_WORDS;
+use layout::HOLDER_AT;
 use layout::Place;
+use layout::SIZE_AT;
 use map::Stretch;
 use word::Area;
+use word::limits::CORE_MOST;
+use word::limits::IO_MOST;
+use word::limits::PLACES;
+use word::limits::ROOMS;
+use word::limits::TABLES_MOST;
 
 // Whether a desk is sound.
 pub fn is_sound(desk: &[u64]) -> bool
     ensures { λ r. ⌜ r ≡ sound (now (desk .entry)) ⌝ }
 {
-    if desk.len() != 3653 {
+    if desk.len() != DESK_WORDS {
         return false;
     }
     let core = desk[0];
     if core < 1 {
         return false;
     }
-    if 65536 < core {
+    if CORE_MOST < core {
         return false;
     }
     if !map::map_fits(core, layout::map_numbers(desk)) {
@@ -40,7 +50,7 @@ fn holders_fit(desk: &[u64]) -> bool
     if !rooms::fair(&h) {
         return false;
     }
-    let mut held = [0usize; 12];
+    let mut held = [0usize; PLACES];
     let n = rooms::held_places(&h, &mut held);
     places_fit(desk, &held[..n])
 }
@@ -51,13 +61,13 @@ fn places_fit(desk: &[u64], held: &[usize]) -> bool
     requires { ⌜ (MapTested (now desk)) × (fair (holders (now desk)) ≡ true) × (now held ≡ heldPlaces 0 (holders (now desk))) ⌝ }
     ensures { λ r. ⌜ r ≡ placesFit (now (desk .entry)) ⌝ }
 {
-    let mut last = [0usize; 8];
+    let mut last = [0usize; ROOMS];
     let mut past: usize = 0;
     let mut i: usize = 0;
     while i < held.len() {
         let p = held[i];
         let place = layout::place_at(desk, p);
-        let r = (place[0] - 1) as usize;
+        let r = (place[HOLDER_AT] - 1) as usize;
         if !held_fits(place, map::stretch_at(layout::map_numbers(desk), r)) {
             return false;
         }
@@ -73,7 +83,7 @@ fn places_fit(desk: &[u64], held: &[usize]) -> bool
 
 // Whether a place's area shares no word with that of place q - 1, which is held too; where q is 0 there is none.
 fn apart_from_last(desk: &[u64], q: usize, place: &[u64]) -> bool
-    requires { ⌜ (length (now desk) ≡ deskWords) × (q ≤ 12) × (length (now place) ≡ 303) × (0 < q → holderOf (placeIn (now desk) (q - 1)) ≡ 0 → ⊥) ⌝ }
+    requires { ⌜ (length (now desk) ≡ deskWords) × (q ≤ placeCount) × (length (now place) ≡ placeWords) × (0 < q → holderOf (placeIn (now desk) (q - 1)) ≡ 0 → ⊥) ⌝ }
     ensures { λ r. ⌜ r ≡ (eqb q 0 || areasApart (placeIn (now (desk .entry)) (q - 1)) (now (place .entry))) ⌝ }
 {
     if q == 0 {
@@ -84,18 +94,18 @@ fn apart_from_last(desk: &[u64], q: usize, place: &[u64]) -> bool
 
 // The first of the two places is held.
 fn apart_from_held(one: &[u64], other: &[u64]) -> bool
-    requires { ⌜ (length (now one) ≡ 303) × (length (now other) ≡ 303) × (holderOf (now one) ≡ 0 → ⊥) ⌝ }
+    requires { ⌜ (length (now one) ≡ placeWords) × (length (now other) ≡ placeWords) × (holderOf (now one) ≡ 0 → ⊥) ⌝ }
     ensures { λ r. ⌜ r ≡ areasApart (now (one .entry)) (now (other .entry)) ⌝ }
 {
-    if other[0] == 0 {
+    if other[HOLDER_AT] == 0 {
         return true;
     }
-    word::runs_apart(one[1], one[2], other[1], other[2])
+    word::runs_apart(one[AREA_AT], one[SIZE_AT], other[AREA_AT], other[SIZE_AT])
 }
 
 // Whether a held place is in order, s its room's stretch.
 fn held_fits(place: &[u64], s: Stretch) -> bool
-    requires { ⌜ (length (now place) ≡ 303) × (SmallStretch s) ⌝ }
+    requires { ⌜ (length (now place) ≡ placeWords) × (SmallStretch s) ⌝ }
     ensures { λ r. ⌜ r ≡ heldFits s (now (place .entry)) ⌝ }
 {
     let o = layout::own_of(place);
@@ -122,18 +132,18 @@ pub fn area_in(s: Stretch, a: Area) -> bool
 fn counts_fit(o: Place) -> bool
     ensures { λ r. ⌜ r ≡ countsFit o ⌝ }
 {
-    if 128 < o.io {
+    if (IO_MOST as u64) < o.io {
         return false;
     }
-    if 128 < o.tables {
+    if (TABLES_MOST as u64) < o.tables {
         return false;
     }
-    o.kept <= 128
+    o.kept <= TABLES_MOST as u64
 }
 
 // Whether the kept tables and the stage of a held place are in order.
 fn load_fits(place: &[u64], o: Place) -> bool
-    requires { ⌜ (length (now place) ≡ 303) × (o .io ≤ 128) × (o .tables ≤ 128) × (o .kept ≤ 128) × (o .area .at .0 + o .area .size ≤ 65536) ⌝ }
+    requires { ⌜ (length (now place) ≡ placeWords) × (o .io ≤ ioMost) × (o .tables ≤ tablesMost) × (o .kept ≤ tablesMost) × (o .area .at .0 + o .area .size ≤ coreMost) ⌝ }
     ensures { λ r. ⌜ r ≡ loadFits o (now (place .entry)) ⌝ }
 {
     let area = o.area;

@@ -1,14 +1,19 @@
--- A write inside one place changes that place so, and leaves every other place, the core length and the map. Assumes nothing.
+-- A write inside one place changes that place so, and leaves every other place, the core length and the map; and what it says that a room
+-- holds a place. Assumes nothing.
 use Prim.Native.Nat.{ℕ, _+_, _≤_, _<_}
 use mathlib.Core.Path.{_≡_, sym, ap, _∙_}
+use mathlib.Core.Bool.{true}
 use mathlib.Core.List.{List}
 use native.Mathlib.Omega.{arith}
 use lib.ListN.{length, getD, set, length-set}
 use lib.Seq.{ext-getD, getD-set-same, getD-set-other}
+use lib.Dec.{eqb, ltb}
+use borrow.Author.Tests.{eqb-true, ltb-true}
 use Rattle.word.specs.Lists.{range, splice}
-use Rattle.word.proofs.Cases.{by-eq, by-lt}
+use Rattle.word.specs.Limits.{placeCount}
+use Rattle.word.proofs.Cases.{and-left, and-right, by-eq, by-lt}
 use Rattle.word.proofs.Lists.{length-range, getD-range, length-splice, range-splice-before, range-splice-after, range-splice-inner, getD-splice-in, getD-splice-out, length-tab, getD-tab}
-use Rattle.layout.specs.Layout.{deskWords, base, coreLength, mapNumbers, placeIn, holderOf, holders}
+use Rattle.layout.specs.Layout.{deskWords, base, coreLength, mapNumbers, placeIn, holderOf, holderIn, holders, holds}
 
 pub holder-at : (d : List ℕ) (p : ℕ) → getD d (base p) 0 ≡ holderOf (placeIn d p)
 unfolding placeIn
@@ -73,3 +78,13 @@ module _ (d : List ℕ) (long : length d ≡ deskWords) (p : ℕ) (in-p : p < 12
         rw i at (getD-splice-in d (base p + o) vs 0 h (omega arith)) ∙ sym (rw y (getD-set-same (holders d) p (getD vs 0 0) 0 (omega arith))))
         (λ y. getD-splice-out d (base p + o) vs (base q) (omega arith) (λ a b. y (omega arith))
         ∙ sym (getD-set-other (holders d) p q (getD vs 0 0) 0 y ∙ getD-holders d q k)))
+
+-- ---- a place that a room holds is one of the twelve, and the room is its holder
+module _ (d : List ℕ) (r p : ℕ) (q : holds d r p ≡ true) where
+  pub holds-inside : p < placeCount
+  unfolding holds
+  holds-inside = ltb-true p placeCount (and-left (ltb p placeCount) _ q)
+
+  pub holds-holder : holderIn d p ≡ r + 1
+  unfolding holds
+  holds-holder = eqb-true (holderIn d p) (r + 1) (and-right (ltb p placeCount) _ q)

@@ -1,25 +1,61 @@
 -- Where each number of a desk stands (docs/DESK.md has the table). A desk is the core length, the map's sixteen numbers and twelve
 -- places; a place is its holder, its area, the counts of its lists, its stage, and the lists as the crate lists keeps them. Only
 -- what a count says is there is read: of a free place nothing but its holder.
-use Prim.Native.Nat.{ℕ, _+_, _*_}
+use Prim.Native.Nat.{ℕ, _+_, _*_, _/_}
+use mathlib.Core.Bool.{Bool, _&&_}
 use mathlib.Core.List.{List}
 use lib.ListN.{getD}
+use lib.Dec.{eqb, ltb}
 use Rattle.word.specs.Lists.{range, tab}
+use Rattle.word.specs.Limits.{placeCount, mapWords, ioMost, tablesMost}
 use Rattle.stage.specs.Stage.{stageOf}
 use Rattle.stage.specs.declared.Stage.{Stage}
 use Rattle.layout.specs.declared.Place.{Place}
 
--- "Eight rooms, 0 to 7; twelve places, 0 to 11."
-abbrev pub placeCount : ℕ
-placeCount = 12
-
 -- the core length and the map come first
 abbrev pub fixedWords : ℕ
-fixedWords = 17
+fixedWords = 1 + mapWords
 
--- the numbers of a place: 6 of its own, 9 of its stage, 32 for 128 I/O numbers, 128 for kept tables, 128 for ranks
+-- where a place's own numbers stand in it
+abbrev pub holderAt : ℕ
+holderAt = 0
+
+abbrev pub areaAt : ℕ
+areaAt = 1
+
+abbrev pub sizeAt : ℕ
+sizeAt = 2
+
+abbrev pub ioAt : ℕ
+ioAt = 3
+
+abbrev pub tablesAt : ℕ
+tablesAt = 4
+
+abbrev pub keptAt : ℕ
+keptAt = 5
+
+-- and behind them those of its stage, the I/O numbers, four to a word, the kept words of the tables, the ranks
+abbrev pub stageAt : ℕ
+stageAt = 6
+
+abbrev pub stageWords : ℕ
+stageWords = 9
+
+abbrev pub iosAt : ℕ
+iosAt = stageAt + stageWords
+
+abbrev pub iosWords : ℕ
+iosWords = ioMost / 4
+
+abbrev pub wordsAt : ℕ
+wordsAt = iosAt + iosWords
+
+abbrev pub ranksAt : ℕ
+ranksAt = wordsAt + tablesMost
+
 abbrev pub placeWords : ℕ
-placeWords = 303
+placeWords = ranksAt + tablesMost
 
 abbrev pub deskWords : ℕ
 deskWords = fixedWords + placeCount * placeWords
@@ -29,7 +65,7 @@ coreLength d = getD d 0 0
 
 -- start, length, start, length, .. of the rooms' stretches
 unfoldable pub mapNumbers : List ℕ → List ℕ
-mapNumbers d = range d 1 16
+mapNumbers d = range d 1 mapWords
 
 -- where place p begins, and its numbers
 abbrev pub base : ℕ → ℕ
@@ -47,30 +83,30 @@ places d = tab (placeIn d) placeCount
 -- the numbers of its own: the holder, 0 where the place is free and r + 1 where room r holds it; the area; how many I/O references,
 -- core tables and kept words there are
 abbrev pub holderOf : List ℕ → ℕ
-holderOf l = getD l 0 0
+holderOf l = getD l holderAt 0
 
 unfoldable pub ownOf : List ℕ → Place
 ownOf l = record {
   holder = holderOf l;
-  area = record { at = record { 0 = getD l 1 0 }; size = getD l 2 0 };
-  io = getD l 3 0;
-  tables = getD l 4 0;
-  kept = getD l 5 0;
+  area = record { at = record { 0 = getD l areaAt 0 }; size = getD l sizeAt 0 };
+  io = getD l ioAt 0;
+  tables = getD l tablesAt 0;
+  kept = getD l keptAt 0;
 }
 
 -- what the load waits for
 unfoldable pub stageIn : List ℕ → Stage
-stageIn l = stageOf (range l 6 9)
+stageIn l = stageOf (range l stageAt stageWords)
 
 -- its lists: packed I/O numbers, n kept words, n ranks
 unfoldable pub iosIn : List ℕ → List ℕ
-iosIn l = range l 15 32
+iosIn l = range l iosAt iosWords
 
 unfoldable pub wordsIn : List ℕ → ℕ → List ℕ
-wordsIn l n = range l 47 n
+wordsIn l n = range l wordsAt n
 
 unfoldable pub ranksIn : List ℕ → ℕ → List ℕ
-ranksIn l n = range l 175 n
+ranksIn l n = range l ranksAt n
 
 -- who holds place p of a desk, and who holds each
 abbrev pub holderIn : List ℕ → ℕ → ℕ
@@ -78,3 +114,7 @@ holderIn d p = getD d (base p) 0
 
 unfoldable pub holders : List ℕ → List ℕ
 holders d = tab (holderIn d) placeCount
+
+-- room r holds place p: where it does not, the refusal is 9, "place over 11, free, or another room's"
+unfoldable pub holds : List ℕ → ℕ → ℕ → Bool
+holds d r p = ltb p placeCount && eqb (holderIn d p) (r + 1)

@@ -2,10 +2,48 @@
 ghost use mathlib.Core.Path.{_≡_};
 ghost use Prim.Native.Nat.{_+_, _≤_, _<_};
 ghost use lib.ListN.{length, getD};
-ghost use Rattle.layout.specs.Layout.{deskWords, mapNumbers, placeIn, ownOf, stageIn, iosIn, wordsIn, ranksIn, holders};
+ghost use Rattle.word.specs.Limits.{roomCount, placeCount, tablesMost};
+ghost use Rattle.layout.specs.Layout.{deskWords, placeWords, mapNumbers, placeIn, ownOf, stageIn, iosIn, wordsIn, ranksIn, holders, holds};
 use stage::Stage;
 use word::Absolute;
 use word::Area;
+use word::limits::IO_MOST;
+use word::limits::MAP_WORDS;
+use word::limits::PLACES;
+use word::limits::TABLES_MOST;
+
+// A desk: its core length, the map's numbers, the places.
+pub const MAP_AT: usize = 1;
+
+pub const PLACES_AT: usize = MAP_AT + MAP_WORDS;
+
+pub const DESK_WORDS: usize = PLACES_AT + PLACES * PLACE_WORDS;
+
+// A place's own numbers.
+pub const HOLDER_AT: usize = 0;
+
+pub const AREA_AT: usize = 1;
+
+pub const SIZE_AT: usize = 2;
+
+pub const IO_AT: usize = 3;
+
+pub const TABLES_AT: usize = 4;
+
+pub const KEPT_AT: usize = 5;
+
+// Behind them: those of its stage, the I/O numbers, four to a word, the kept words of the tables, the ranks.
+pub const STAGE_AT: usize = 6;
+
+pub const IOS_AT: usize = STAGE_AT + 9;
+
+pub const IOS_WORDS: usize = IO_MOST / 4;
+
+pub const WORDS_AT: usize = IOS_AT + IOS_WORDS;
+
+pub const RANKS_AT: usize = WORDS_AT + TABLES_MOST;
+
+pub const PLACE_WORDS: usize = RANKS_AT + TABLES_MOST;
 
 // A place's own numbers: who holds it (0: nobody, r + 1: room r), its area, and how many I/O references, core tables and kept words
 // its lists have.
@@ -19,85 +57,89 @@ pub struct Place {
 
 // The numbers of place p.
 pub fn place_at(desk: &[u64], p: usize) -> &[u64]
-    requires { ⌜ (length (now desk) ≡ deskWords) × (p < 12) ⌝ }
+    requires { ⌜ (length (now desk) ≡ deskWords) × (p < placeCount) ⌝ }
     ensures { λ r. ⌜ now r ≡ placeIn (now (desk .entry)) p ⌝ }
 {
-    let b = 17 + p * 303;
-    &desk[b..b + 303]
+    let b = PLACES_AT + p * PLACE_WORDS;
+    &desk[b..b + PLACE_WORDS]
 }
 
 // A place's own numbers.
 pub fn own_of(place: &[u64]) -> Place
-    requires { ⌜ length (now place) ≡ 303 ⌝ }
+    requires { ⌜ length (now place) ≡ placeWords ⌝ }
     ensures { λ r. ⌜ r ≡ ownOf (now (place .entry)) ⌝ }
 {
     Place {
-        holder: place[0],
+        holder: place[HOLDER_AT],
         area: Area {
-            at: Absolute(place[1]),
-            size: place[2],
+            at: Absolute(place[AREA_AT]),
+            size: place[SIZE_AT],
         },
-        io: place[3],
-        tables: place[4],
-        kept: place[5],
+        io: place[IO_AT],
+        tables: place[TABLES_AT],
+        kept: place[KEPT_AT],
     }
 }
 
 // The stage of the load at a place.
 pub fn stage_of(place: &[u64]) -> Stage
-    requires { ⌜ length (now place) ≡ 303 ⌝ }
+    requires { ⌜ length (now place) ≡ placeWords ⌝ }
     ensures { λ r. ⌜ r ≡ stageIn (now (place .entry)) ⌝ }
 {
-    stage::read_stage(&place[6..15])
+    stage::read_stage(&place[STAGE_AT..IOS_AT])
 }
 
 // The lists of the load at a place: its packed I/O numbers, its n kept words, its n ranks.
 pub fn ios_of(place: &[u64]) -> &[u64]
-    requires { ⌜ length (now place) ≡ 303 ⌝ }
+    requires { ⌜ length (now place) ≡ placeWords ⌝ }
     ensures { λ r. ⌜ now r ≡ iosIn (now (place .entry)) ⌝ }
 {
-    &place[15..47]
+    &place[IOS_AT..WORDS_AT]
 }
 
 pub fn words_of(place: &[u64], n: usize) -> &[u64]
-    requires { ⌜ (length (now place) ≡ 303) × (n ≤ 128) ⌝ }
+    requires { ⌜ (length (now place) ≡ placeWords) × (n ≤ tablesMost) ⌝ }
     ensures { λ r. ⌜ now r ≡ wordsIn (now (place .entry)) n ⌝ }
 {
-    &place[47..47 + n]
+    &place[WORDS_AT..WORDS_AT + n]
 }
 
 pub fn ranks_of(place: &[u64], n: usize) -> &[u64]
-    requires { ⌜ (length (now place) ≡ 303) × (n ≤ 128) ⌝ }
+    requires { ⌜ (length (now place) ≡ placeWords) × (n ≤ tablesMost) ⌝ }
     ensures { λ r. ⌜ now r ≡ ranksIn (now (place .entry)) n ⌝ }
 {
-    &place[175..175 + n]
+    &place[RANKS_AT..RANKS_AT + n]
 }
 
-// Who holds each of the twelve places.
-pub fn read_holders(desk: &[u64]) -> [u64; 12]
+// Who holds each place.
+pub fn read_holders(desk: &[u64]) -> [u64; PLACES]
     requires { ⌜ length (now desk) ≡ deskWords ⌝ }
     ensures { λ r. ⌜ r ≡ holders (now (desk .entry)) ⌝ }
 {
-    [
-        desk[17],
-        desk[320],
-        desk[623],
-        desk[926],
-        desk[1229],
-        desk[1532],
-        desk[1835],
-        desk[2138],
-        desk[2441],
-        desk[2744],
-        desk[3047],
-        desk[3350],
-    ]
+    let mut h = [0u64; PLACES];
+    let mut p: usize = 0;
+    while p < PLACES {
+        h[p] = desk[PLACES_AT + p * PLACE_WORDS];
+        p += 1;
+    }
+    h
 }
 
-// The map's sixteen numbers.
+// Whether the room holds the place; a place over 11 nobody holds.
+pub fn holds_place(desk: &[u64], room: u64, place: u64) -> bool
+    requires { ⌜ (length (now desk) ≡ deskWords) × (room < roomCount) ⌝ }
+    ensures { λ r. ⌜ r ≡ holds (now (desk .entry)) room place ⌝ }
+{
+    if PLACES as u64 <= place {
+        return false;
+    }
+    desk[PLACES_AT + place as usize * PLACE_WORDS] == room + 1
+}
+
+// The map's numbers.
 pub fn map_numbers(desk: &[u64]) -> &[u64]
     requires { ⌜ length (now desk) ≡ deskWords ⌝ }
     ensures { λ r. ⌜ now r ≡ mapNumbers (now (desk .entry)) ⌝ }
 {
-    &desk[1..17]
+    &desk[MAP_AT..PLACES_AT]
 }

@@ -6,6 +6,7 @@ use mathlib.Core.Bool.{Bool, _&&_}
 use mathlib.Core.List.{List}
 use lib.ListN.{getD}
 use Rattle.word.specs.Lists.{every, everyTwo, tab}
+use Rattle.word.specs.Limits.{roomCount}
 use Rattle.word.specs.Runs.{within, apart, Apart}
 use Rattle.map.specs.declared.Stretch.{Stretch}
 
@@ -15,7 +16,7 @@ stretchOf l r = record { start = record { 0 = getD l (2 * r) 0 }; len = getD l (
 
 -- "eight pairs", one for each room
 unfoldable pub mapOf : List ℕ → List Stretch
-mapOf l = tab (stretchOf l) 8
+mapOf l = tab (stretchOf l) roomCount
 
 -- a stretch lies inside the core
 unfoldable pub inCore : ℕ → Stretch → Bool
@@ -34,8 +35,8 @@ abbrev pub Separate : Stretch → Stretch → Type 0
 Separate s t = Apart (s .start .0) (s .len) (t .start .0) (t .len)
 
 pub record MapObeys (core : ℕ) (room : ℕ → Stretch) : Type 0 where
-  pub inside : (r : ℕ) → r < 8 → room r .start .0 + room r .len ≤ core
-  pub separate : (r q : ℕ) → r < 8 → q < 8 → (r ≡ q → ⊥) → Separate (room r) (room q)
+  pub inside : (r : ℕ) → r < roomCount → room r .start .0 + room r .len ≤ core
+  pub separate : (r q : ℕ) → r < roomCount → q < roomCount → (r ≡ q → ⊥) → Separate (room r) (room q)
 
 -- what is read past a map's end: no word
 abbrev pub none : Stretch

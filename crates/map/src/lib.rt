@@ -4,9 +4,12 @@ ghost use mathlib.Core.Path.{_≡_};
 ghost use Prim.Native.Nat.{_+_, _<_};
 ghost use lib.ListN.{length, getD, drop};
 ghost use Rattle.word.specs.Lists.{every, everyTwo};
+ghost use Rattle.word.specs.Limits.{roomCount, mapWords};
 ghost use Rattle.map.specs.Map.{none, stretchOf, mapOf, inCore, stretchesApart, mapObeys};
 ghost use Rattle.map.specs.Order.{inOrder};
 use word::Absolute;
+use word::limits::MAP_WORDS;
+use word::limits::ROOMS;
 
 // A room's part of core: the address of its first word, and how many words it has.
 pub struct Stretch {
@@ -15,16 +18,16 @@ pub struct Stretch {
 }
 
 // The map that a list start, length, start, length and so on tells.
-pub fn read_map(numbers: &[u64]) -> [Stretch; 8]
+pub fn read_map(numbers: &[u64]) -> [Stretch; ROOMS]
     ensures { λ m. ⌜ m ≡ mapOf (now (numbers .entry)) ⌝ }
 {
     let none = Stretch {
         start: Absolute(0),
         len: 0,
     };
-    let mut m = [none; 8];
+    let mut m = [none; ROOMS];
     let mut r: usize = 0;
-    while r < 8 {
+    while r < ROOMS {
         let s = stretch_of(numbers, r);
         m[r] = s;
         r += 1;
@@ -37,7 +40,7 @@ pub fn read_map(numbers: &[u64]) -> [Stretch; 8]
 pub fn map_fits(core: u64, numbers: &[u64]) -> bool
     ensures { λ b. ⌜ b ≡ mapObeys core (mapOf (now (numbers .entry))) ⌝ }
 {
-    if numbers.len() != 16 {
+    if numbers.len() != MAP_WORDS {
         return pairs_fit(core, numbers);
     }
     if in_order(core, read_map(numbers)) {
@@ -47,7 +50,7 @@ pub fn map_fits(core: u64, numbers: &[u64]) -> bool
 }
 
 // Whether each stretch lies inside the core and no two share a word, whatever the numbers are.
-pub fn map_obeys(core: u64, m: [Stretch; 8]) -> bool
+pub fn map_obeys(core: u64, m: [Stretch; ROOMS]) -> bool
     ensures { λ b. ⌜ b ≡ mapObeys core m ⌝ }
 {
     if all_in_core(core, m) {
@@ -65,12 +68,12 @@ fn pairs_fit(core: u64, numbers: &[u64]) -> bool
 
 // Whether each stretch lies inside the core and starts at or behind the end of those before it; an empty one may start anywhere.
 // What is left of the core behind them tells it: a stretch that starts past the core has a difference that wraps, and so is over it.
-fn in_order(core: u64, m: [Stretch; 8]) -> bool
+fn in_order(core: u64, m: [Stretch; ROOMS]) -> bool
     ensures { λ b. ⌜ b ≡ inOrder core 0 m ⌝ }
 {
     let mut left = core;
     let mut r: usize = 0;
-    while r < 8 {
+    while r < ROOMS {
         let s = m[r];
         let x = std::num::wrapping_sub_u64(core, s.start.0);
         r += 1;
@@ -93,7 +96,7 @@ fn in_order(core: u64, m: [Stretch; 8]) -> bool
 
 // Room r's pair of a list that has it.
 pub fn stretch_at(numbers: &[u64], r: usize) -> Stretch
-    requires { ⌜ (r < 8) × (length (now numbers) ≡ 16) ⌝ }
+    requires { ⌜ (r < roomCount) × (length (now numbers) ≡ mapWords) ⌝ }
     ensures { λ s. ⌜ s ≡ stretchOf (now (numbers .entry)) r ⌝ }
 {
     Stretch {
@@ -104,7 +107,7 @@ pub fn stretch_at(numbers: &[u64], r: usize) -> Stretch
 
 // Room r's pair of the list.
 fn stretch_of(numbers: &[u64], r: usize) -> Stretch
-    requires { ⌜ r < 8 ⌝ }
+    requires { ⌜ r < roomCount ⌝ }
     ensures { λ s. ⌜ s ≡ stretchOf (now (numbers .entry)) r ⌝ }
 {
     let start = word::word_at(numbers, 2 * r);
@@ -115,11 +118,11 @@ fn stretch_of(numbers: &[u64], r: usize) -> Stretch
     }
 }
 
-fn all_in_core(core: u64, m: [Stretch; 8]) -> bool
+fn all_in_core(core: u64, m: [Stretch; ROOMS]) -> bool
     ensures { λ b. ⌜ b ≡ every (inCore core) m ⌝ }
 {
     let mut r: usize = 0;
-    while r < 8 {
+    while r < ROOMS {
         let s = m[r];
         if !word::run_within(s.start.0, s.len, 0, core) {
             return false;
@@ -130,11 +133,11 @@ fn all_in_core(core: u64, m: [Stretch; 8]) -> bool
 }
 
 // Whether each two share no word: each with those after it.
-fn all_apart(m: [Stretch; 8]) -> bool
+fn all_apart(m: [Stretch; ROOMS]) -> bool
     ensures { λ b. ⌜ b ≡ everyTwo stretchesApart m ⌝ }
 {
     let mut r: usize = 0;
-    while r < 8 {
+    while r < ROOMS {
         if !apart_from_later(m, r) {
             return false;
         }
@@ -144,13 +147,13 @@ fn all_apart(m: [Stretch; 8]) -> bool
 }
 
 // Whether room r's stretch shares no word with those of the rooms after it.
-fn apart_from_later(m: [Stretch; 8], r: usize) -> bool
-    requires { ⌜ r < 8 ⌝ }
+fn apart_from_later(m: [Stretch; ROOMS], r: usize) -> bool
+    requires { ⌜ r < roomCount ⌝ }
     ensures { λ b. ⌜ b ≡ every (stretchesApart (getD m r none)) (drop (r + 1) m) ⌝ }
 {
     let s = m[r];
     let mut q = r + 1;
-    while q < 8 {
+    while q < ROOMS {
         let t = m[q];
         if !word::runs_apart(s.start.0, s.len, t.start.0, t.len) {
             return false;

@@ -10,7 +10,8 @@ use borrow.Author.Tests.{eq-eqb, ne-eqb}
 use Rattle.word.proofs.Cases.{by-eq}
 use Rattle.word.specs.Lists.{tab}
 use Rattle.word.proofs.Lists.{length-tab, getD-tab}
-use Rattle.rooms.specs.Rooms.{roomCount, hit, count, held, heldEach, lowestFree}
+use Rattle.word.specs.Limits.{roomCount}
+use Rattle.rooms.specs.Rooms.{hit, count, held, heldEach, lowestFree}
 
 -- ---- one number
 pub hit-yes : (a x : ℕ) → a ≡ x → hit a x ≡ 1

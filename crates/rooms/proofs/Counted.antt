@@ -11,7 +11,8 @@ use lib.Dec.{leb}
 use Rattle.word.specs.Lists.{tab}
 use Rattle.word.proofs.Cases.{by-test, by-eq}
 use borrow.Author.Tests.{leb-true, leb-false}
-use Rattle.rooms.specs.Rooms.{roomCount, mostHeld, hit, count, free, held, heldEach, idle, fair}
+use Rattle.word.specs.Limits.{roomCount}
+use Rattle.rooms.specs.Rooms.{mostHeld, hit, count, free, held, heldEach, idle, fair}
 use Rattle.rooms.proofs.Count.{hit-yes, hit-no, count-take, count-take-below, tab-set, tab-same, each-at}
 use Rattle.rooms.proofs.Rooms.{fair-parts, idle-set}
 
@@ -64,7 +65,7 @@ module _ (l n : List ℕ) (i seconds : ℕ) (c : Counted l i n seconds) where
   unfolding heldEach
   set-each r room others more = rw (← more, c .counts) (sym (tab-set (λ q. held q (take i l)) (λ q. held q (take (suc i) l)) roomCount r room others))
 
-  pub counted-held : (r : ℕ) → i < length l → r < 8 → getD l i 0 ≡ r + 1 → getD n r 0 ≤ 1 → Counted l (i + 1) (set n r (getD n r 0 + 1)) (seconds + getD n r 0)
+  pub counted-held : (r : ℕ) → i < length l → r < 8 → getD l i 0 ≡ r + 1 → getD n r 0 < mostHeld → Counted l (i + 1) (set n r (getD n r 0 + 1)) (seconds + getD n r 0)
   counted-held r h room e one =
       let k = counted-at r room in
       let more : held r (take (suc i) l) ≡ getD n r 0 + 1 = omega (arith, held-next r h, hit-yes (getD l i 0) (r + 1) e) in
@@ -88,7 +89,7 @@ module _ (l n : List ℕ) (i seconds : ℕ) (c : Counted l i n seconds) where
   pub counted-stranger : i < length l → 8 < getD l i 0 → false ≡ fair l
   counted-stranger h k = by-test (fair l) (λ t. absurd (omega (arith, fair-parts l .fact t .0 i h))) sym
 
-  pub counted-third : (r : ℕ) → i < length l → r < 8 → getD l i 0 ≡ r + 1 → 1 < getD n r 0 → false ≡ fair l
+  pub counted-third : (r : ℕ) → i < length l → r < 8 → getD l i 0 ≡ r + 1 → mostHeld ≤ getD n r 0 → false ≡ fair l
   unfolding held
   counted-third r h room e k =
       by-test (fair l)

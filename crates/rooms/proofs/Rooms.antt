@@ -11,7 +11,8 @@ use Rattle.word.specs.Lists.{every, tab}
 use Rattle.word.specs.Runs.{Says}
 use Rattle.word.proofs.Cases.{by-test, by-eq, by-lt}
 use Rattle.word.proofs.Says.{says-le, says-and, says-as, says-every}
-use Rattle.rooms.specs.Rooms.{roomCount, placeCount, mostHeld, hit, count, free, held, heldEach, idle, atMost, fair, Fair, fresh, lowestFree, placeRefusal}
+use Rattle.word.specs.Limits.{roomCount, placeCount}
+use Rattle.rooms.specs.Rooms.{mostHeld, hit, count, free, held, heldEach, idle, atMost, fair, Fair, fresh, lowestFree, placeRefusal}
 use Rattle.rooms.proofs.Count.{hit-yes, hit-no, hit-most, count-set, count-some, count-three, tab-set, each-length, each-at, lowest-inside, lowest-is-free}
 
 -- ---- the test and the facts

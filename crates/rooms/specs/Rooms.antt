@@ -7,13 +7,7 @@ use mathlib.Core.List.{List, [], _∷_}
 use lib.ListN.{length, getD, replicate}
 use lib.Dec.{leb, eqb}
 use Rattle.word.specs.Lists.{every, tab}
-
--- "Eight rooms, 0 to 7; twelve places, 0 to 11."
-abbrev pub roomCount : ℕ
-roomCount = 8
-
-abbrev pub placeCount : ℕ
-placeCount = 12
+use Rattle.word.specs.Limits.{roomCount, placeCount}
 
 -- "no room holds over two"
 abbrev pub mostHeld : ℕ

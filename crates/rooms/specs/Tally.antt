@@ -5,7 +5,8 @@ use mathlib.Core.Bool.{cond}
 use mathlib.Core.List.{List, map}
 use lib.Dec.{leb}
 use Rattle.word.specs.Lists.{tab}
-use Rattle.rooms.specs.Rooms.{roomCount, count}
+use Rattle.word.specs.Limits.{roomCount}
+use Rattle.rooms.specs.Rooms.{count}
 
 -- where a holder is counted: 0 the free places, 1 to 8 the rooms, 9 what is no room's
 unfoldable pub slotOf : ℕ → ℕ

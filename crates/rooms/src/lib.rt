@@ -4,8 +4,18 @@ ghost use mathlib.Core.Path.{_≡_};
 ghost use Prim.Native.Nat.{_≤_, _<_};
 ghost use lib.ListN.{length};
 ghost use Rattle.word.specs.Lists.{splice};
+ghost use Rattle.word.specs.Limits.{roomCount};
 ghost use Rattle.rooms.specs.Tally.{slotOf, tallied};
-ghost use Rattle.rooms.specs.Rooms.{roomCount, hit, count, free, held, idle, fair, heldPlaces, lowestFree, placeRefusal};
+ghost use Rattle.rooms.specs.Rooms.{hit, count, free, held, idle, fair, heldPlaces, lowestFree, placeRefusal};
+use word::limits::ROOMS;
+
+// "no room holds over two"
+const MOST_HELD: u64 = 2;
+
+// Where holders are counted: slot 0 the free places, slots 1 to 8 the rooms, the last what is no room's.
+const STRANGER: usize = ROOMS + 1;
+
+const SLOTS: usize = ROOMS + 2;
 
 // F: how many places are free.
 pub fn free_places(holders: &[u64]) -> u64
@@ -27,7 +37,7 @@ pub fn idle_rooms(holders: &[u64]) -> u64
     ensures { λ n. ⌜ n ≡ idle (now (holders .entry)) ⌝ }
 {
     let counts = tally(holders);
-    how_many(&counts[1..9], 0)
+    how_many(&counts[1..STRANGER], 0)
 }
 
 // Whether each holder is a room's or none, no room holds over two, and F is at least H: where no room holds over two, F places and
@@ -35,26 +45,26 @@ pub fn idle_rooms(holders: &[u64]) -> u64
 pub fn fair(holders: &[u64]) -> bool
     ensures { λ b. ⌜ b ≡ fair (now (holders .entry)) ⌝ }
 {
-    let mut n = [0u64; 8];
+    let mut n = [0u64; ROOMS];
     let mut seconds: u64 = 0;
     let mut i: usize = 0;
     while i < holders.len() {
         let h = holders[i];
         i += 1;
         if h != 0 {
-            if 8 < h {
+            if (ROOMS as u64) < h {
                 return false;
             }
             let r = (h - 1) as usize;
             let k = n[r];
-            if 1 < k {
+            if MOST_HELD <= k {
                 return false;
             }
             seconds += k;
             n[r] = k + 1;
         }
     }
-    seconds + 8 <= holders.len() as u64
+    seconds + ROOMS as u64 <= holders.len() as u64
 }
 
 // The places that are held, lowest first, at the start of out. Says how many they are.
@@ -95,7 +105,7 @@ pub fn place_refusal(holders: &[u64], room: u64) -> u64
     ensures { λ n. ⌜ n ≡ placeRefusal room (now (holders .entry)) ⌝ }
 {
     let n = held_by(holders, room);
-    if 2 <= n {
+    if MOST_HELD <= n {
         return 5;
     }
     if n == 1 {
@@ -108,10 +118,10 @@ pub fn place_refusal(holders: &[u64], room: u64) -> u64
 }
 
 // One pass over the holders: how many places are free, how many each room holds, and how many holders are no room's.
-fn tally(holders: &[u64]) -> [u64; 10]
+fn tally(holders: &[u64]) -> [u64; SLOTS]
     ensures { λ n. ⌜ n ≡ tallied (now (holders .entry)) ⌝ }
 {
-    let mut n = [0u64; 10];
+    let mut n = [0u64; SLOTS];
     let mut i: usize = 0;
     while i < holders.len() {
         let k = slot(holders[i]);
@@ -125,7 +135,11 @@ fn tally(holders: &[u64]) -> [u64; 10]
 fn slot(h: u64) -> usize
     ensures { λ k. ⌜ k ≡ slotOf h ⌝ }
 {
-    if h <= 8 { h as usize } else { 9 }
+    if h <= ROOMS as u64 {
+        h as usize
+    } else {
+        STRANGER
+    }
 }
 
 // How often x stands among the numbers.
