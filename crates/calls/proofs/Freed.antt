@@ -16,7 +16,7 @@ use Rattle.layout.specs.Layout.{deskWords, base, coreLength, mapNumbers, placeI
 use Rattle.layout.proofs.Places.{holder-at, place-kept, map-kept, core-kept, holders-written}
 use Rattle.desk.specs.Sound.{sound, Sound}
 use Rattle.desk.proofs.Facts.{sound-says, free-fits, free-first, free-second}
-use Rattle.answer.specs.Answer.{Small}
+use Rattle.calls.specs.Answer.{Small}
 use Rattle.calls.specs.Outcome.{Outcome}
 use Rattle.calls.specs.Release.{holds, releaseOf}
 

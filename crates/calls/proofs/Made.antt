@@ -19,8 +19,8 @@ use Rattle.rooms.proofs.Rooms.{fresh-fair}
 use Rattle.layout.specs.Layout.{deskWords, base, coreLength, mapNumbers, placeIn, holderIn, holderOf, holders}
 use Rattle.layout.proofs.Places.{holder-at, length-holders, getD-holders}
 use Rattle.desk.specs.Sound.{coreFits, sound, Sound}
-use Rattle.answer.specs.Answer.{codeOf, Small}
-use Rattle.answer.specs.declared.Answer.the-variants.{Made}
+use Rattle.calls.specs.Answer.{codeOf, Small}
+use Rattle.calls.specs.declared.Answer.the-variants.{Made}
 use Rattle.calls.specs.Make.{freed, freshDesk, makeOf}
 use Rattle.calls.specs.Outcome.{Outcome}
 use Rattle.desk.proofs.Facts.{sound-says, free-fits, free-first}

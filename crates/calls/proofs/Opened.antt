@@ -38,8 +38,8 @@ use Rattle.desk.specs.Sound.{areaIn, countsFit, loadFits, heldFits, placeFits, 
 use Rattle.desk.proofs.Facts.{sound-says, sound-long, free-first, core-small, sound-map, sound-fair, stretch-in-core}
 use Rattle.desk.proofs.Replaced.{Replaced, replaced-none, replaced-more, areas-by, replaced-sound, holders-replaced}
 use Rattle.desk.proofs.Tested.{load-is, places-length, places-at}
-use Rattle.answer.specs.Answer.{Small}
-use Rattle.answer.specs.declared.Answer.the-variants.{Refused, Opened}
+use Rattle.calls.specs.Answer.{Small}
+use Rattle.calls.specs.declared.Answer.the-variants.{Refused, Opened}
 use Rattle.calls.specs.Outcome.{Outcome, Meets}
 use Rattle.calls.specs.Open.{besideOwn, areaFits, openedOwn, openedDesk, opened, grantOf, openOf}
 

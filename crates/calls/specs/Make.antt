@@ -9,7 +9,7 @@ use Rattle.word.specs.Lists.{splice}
 use Rattle.map.specs.Map.{mapOf, mapObeys}
 use Rattle.layout.specs.Layout.{deskWords, base}
 use Rattle.desk.specs.Sound.{coreFits}
-use Rattle.answer.specs.declared.Answer.the-variants.{Made}
+use Rattle.calls.specs.declared.Answer.the-variants.{Made}
 use Rattle.calls.specs.Outcome.{Outcome, refused}
 
 -- the first n places free

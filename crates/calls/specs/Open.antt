@@ -16,7 +16,7 @@ use Rattle.stage.specs.Stage.{numbersOf}
 use Rattle.stage.specs.declared.Stage.the-variants.{Label}
 use Rattle.layout.specs.Layout.{coreLength, mapNumbers, base, places, holderOf, ownOf, holders}
 use Rattle.desk.specs.Sound.{areaIn, sound}
-use Rattle.answer.specs.declared.Answer.the-variants.{Opened}
+use Rattle.calls.specs.declared.Answer.the-variants.{Opened}
 use Rattle.calls.specs.Outcome.{Outcome, refused}
 
 -- the area shares no word with one that the room holds

@@ -6,7 +6,7 @@ use lib.ListN.{set}
 use lib.Dec.{eqb, leb, ltb}
 use Rattle.layout.specs.Layout.{coreLength, base, holderIn}
 use Rattle.desk.specs.Sound.{sound}
-use Rattle.answer.specs.declared.Answer.the-variants.{Released}
+use Rattle.calls.specs.declared.Answer.the-variants.{Released}
 use Rattle.calls.specs.Outcome.{Outcome, refused}
 
 -- room r holds place p: where it does not, the refusal is 9, "place over 11, free, or another room's"

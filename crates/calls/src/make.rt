@@ -5,7 +5,7 @@ ghost use lib.ListN.{length};
 ghost use Rattle.layout.specs.Layout.{deskWords};
 ghost use Rattle.calls.specs.Make.{freed, freshDesk, makeOf};
 ghost use Rattle.calls.specs.Outcome.{Meets};
-use answer::Answer;
+use crate::Answer;
 use word::Fault;
 
 // The core length, the map's sixteen numbers and twelve free places, in a desk that held whatever it held.

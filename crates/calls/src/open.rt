@@ -11,7 +11,7 @@ ghost use Rattle.layout.specs.Layout.{deskWords, coreLength, places};
 ghost use Rattle.desk.specs.Sound.{sound};
 ghost use Rattle.calls.specs.Outcome.{Meets};
 ghost use Rattle.calls.specs.Open.{besideOwn, areaFits, openedDesk, grantOf, openOf};
-use answer::Answer;
+use crate::Answer;
 use lists::Taken;
 use word::Area;
 use word::Fault;

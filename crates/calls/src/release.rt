@@ -6,7 +6,7 @@ ghost use lib.ListN.{length};
 ghost use Rattle.layout.specs.Layout.{deskWords};
 ghost use Rattle.calls.specs.Outcome.{Meets};
 ghost use Rattle.calls.specs.Release.{holds, releaseOf};
-use answer::Answer;
+use crate::Answer;
 use word::Fault;
 
 // Room and place, on a desk of a core of that many words: the place is freed, and its area serves again.

@@ -2,7 +2,7 @@
 use Prim.Native.Nat.{ℕ}
 use mathlib.Core.Path.{_≡_}
 use mathlib.Core.List.{List}
-use Rattle.answer.specs.Answer.{packed}
+use Rattle.calls.specs.Answer.{packed}
 use Rattle.calls.specs.Outcome.{Outcome}
 
 pub record Told (o : Outcome) (r : ℕ) (desk core : List ℕ) : Type 0 where

@@ -23,7 +23,7 @@ pub extern "C" fn clamp_desk_words() -> u64
 pub extern "C" fn clamp_make(desk: &mut [u64], core: u64, numbers: &[u64]) -> u64
     ensures { λ r. ⌜ Told (makeOf (now (desk .entry)) core (now (numbers .entry))) r (now (desk .exit)) [] ⌝ }
 {
-    answer::pack(calls::make::make_desk(desk, core, numbers))
+    calls::pack(calls::make::make_desk(desk, core, numbers))
 }
 
 // A place for a load: its room, its area, its two lists.
@@ -43,7 +43,7 @@ pub extern "C" fn clamp_open(
         at: Absolute(area),
         size,
     };
-    answer::pack(calls::open::open_load(desk, core, room, a, io, tables))
+    calls::pack(calls::open::open_load(desk, core, room, a, io, tables))
 }
 
 // A place given back.
@@ -51,7 +51,7 @@ pub extern "C" fn clamp_open(
 pub extern "C" fn clamp_release(desk: &mut [u64], core: u64, room: u64, place: u64) -> u64
     ensures { λ r. ⌜ Told (releaseOf (now (desk .entry)) core room place) r (now (desk .exit)) [] ⌝ }
 {
-    answer::pack(calls::release::release_place(desk, core, room, place))
+    calls::pack(calls::release::release_place(desk, core, room, place))
 }
 
 // A block for a load.
@@ -65,5 +65,5 @@ pub extern "C" fn clamp_feed(
 ) -> u64
     ensures { λ r. ⌜ Told (feedOf (now (desk .entry)) (now (core .entry)) room place (now (block .entry))) r (now (desk .exit)) (now (core .exit)) ⌝ }
 {
-    answer::pack(feed::feed_block(desk, core, room, place, block))
+    calls::pack(feed::feed_block(desk, core, room, place, block))
 }

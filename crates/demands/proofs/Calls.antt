@@ -17,7 +17,7 @@ use Rattle.layout.specs.Layout.{base, coreLength, placeIn, holderOf, holders}
 use Rattle.layout.proofs.Places.{holder-at}
 use Rattle.desk.specs.Sound.{sound}
 use Rattle.desk.proofs.Facts.{sound-long}
-use Rattle.answer.specs.declared.Answer.the-variants.{Released}
+use Rattle.calls.specs.declared.Answer.the-variants.{Released}
 use Rattle.calls.specs.Outcome.{Outcome}
 use Rattle.calls.specs.Open.{openedDesk, opened}
 use Rattle.calls.specs.Release.{holds, releaseOf}

@@ -17,8 +17,8 @@ use Rattle.word.proofs.Lists.{getD-range}
 use Rattle.layout.specs.Layout.{base, coreLength, placeIn, ownOf}
 use Rattle.layout.specs.declared.Place.{Place}
 use Rattle.desk.specs.Sound.{sound}
-use Rattle.answer.specs.declared.Answer.{Answer}
-use Rattle.answer.specs.declared.Answer.the-variants.{Refused}
+use Rattle.calls.specs.declared.Answer.{Answer}
+use Rattle.calls.specs.declared.Answer.the-variants.{Refused}
 use Rattle.calls.specs.Outcome.{Outcome}
 use Rattle.calls.specs.Release.{holds}
 use Rattle.feed.specs.Feed.{feedOf}

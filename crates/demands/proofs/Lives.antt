@@ -25,9 +25,9 @@ use Rattle.sections.specs.Load.{Load}
 use Rattle.layout.specs.declared.Place.{Place}
 use Rattle.layout.specs.Layout.{placeIn, holderOf, ownOf, stageIn, holders}
 use Rattle.rooms.specs.Rooms.{lowestFree}
-use Rattle.answer.specs.Answer.{valueOf}
-use Rattle.answer.specs.declared.Answer.{Answer}
-use Rattle.answer.specs.declared.Answer.the-variants.{Refused, Made, Opened, More, Done, Released}
+use Rattle.calls.specs.Answer.{valueOf}
+use Rattle.calls.specs.declared.Answer.{Answer}
+use Rattle.calls.specs.declared.Answer.the-variants.{Refused, Made, Opened, More, Done, Released}
 use Rattle.calls.specs.Outcome.{Outcome}
 use Rattle.calls.specs.Open.{openOf, opened}
 use Rattle.feed.specs.Block.{blockStep}

@@ -26,7 +26,7 @@ use Rattle.layout.specs.Layout.{coreLength, placeIn, holderOf, ownOf, stageIn, 
 use Rattle.layout.proofs.Places.{place-length}
 use Rattle.desk.specs.Sound.{sound}
 use Rattle.desk.proofs.Facts.{sound-long}
-use Rattle.answer.specs.declared.Answer.the-variants.{Refused}
+use Rattle.calls.specs.declared.Answer.the-variants.{Refused}
 use Rattle.calls.specs.Outcome.{Outcome}
 use Rattle.calls.specs.Open.{areaFits, openedOwn, openedDesk, opened, grantOf, openOf}
 use Rattle.calls.proofs.Opened.{area-small, long-2, long-3, filled-words, holder-opened, own-opened, stage-opened, in-desk, own-length, numbers-few, words-most, ranks-most, opened-replaced, own-is}

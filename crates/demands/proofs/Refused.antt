@@ -21,10 +21,10 @@ use Rattle.lists.specs.Obey.{listsObey}
 use Rattle.layout.specs.Layout.{deskWords, coreLength, base, placeIn, ownOf, stageIn, holders}
 use Rattle.desk.specs.Sound.{coreFits, sound}
 use Rattle.desk.proofs.Facts.{sound-long}
-use Rattle.answer.specs.Answer.{codeOf, valueOf, packed, Small}
-use Rattle.answer.specs.declared.Answer.{Answer}
-use Rattle.answer.specs.declared.Answer.the-variants.{Refused, Made, Opened, More, Done, Released}
-use Rattle.answer.proofs.Packed.{packed-apart}
+use Rattle.calls.specs.Answer.{codeOf, valueOf, packed, Small}
+use Rattle.calls.specs.declared.Answer.{Answer}
+use Rattle.calls.specs.declared.Answer.the-variants.{Refused, Made, Opened, More, Done, Released}
+use Rattle.calls.proofs.Packed.{packed-apart}
 use Rattle.calls.specs.Outcome.{Outcome}
 use Rattle.calls.specs.Make.{makeOf}
 use Rattle.calls.specs.Open.{areaFits, opened, grantOf, openOf}

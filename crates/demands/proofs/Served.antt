@@ -17,8 +17,8 @@ use Rattle.rooms.proofs.Rooms.{none-denied}
 use Rattle.lists.specs.Obey.{listsObey}
 use Rattle.layout.specs.Layout.{coreLength, holders}
 use Rattle.desk.specs.Sound.{sound}
-use Rattle.answer.specs.Answer.{codeOf}
-use Rattle.answer.specs.declared.Answer.the-variants.{Refused, Made}
+use Rattle.calls.specs.Answer.{codeOf}
+use Rattle.calls.specs.declared.Answer.the-variants.{Refused, Made}
 use Rattle.calls.specs.Outcome.{Outcome}
 use Rattle.calls.specs.Make.{makeOf}
 use Rattle.calls.specs.Open.{areaFits, opened, grantOf, openOf}

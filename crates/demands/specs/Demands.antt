@@ -14,9 +14,9 @@ use Rattle.lists.specs.Obey.{tablesOf}
 use Rattle.stage.specs.declared.Stage.the-variants.{Broken}
 use Rattle.layout.specs.Layout.{coreLength, base, placeIn, ownOf, stageIn}
 use Rattle.desk.specs.Sound.{sound}
-use Rattle.answer.specs.Answer.{packed, Small}
-use Rattle.answer.specs.declared.Answer.{Answer}
-use Rattle.answer.specs.declared.Answer.the-variants.{Refused, Made, Opened, More, Done}
+use Rattle.calls.specs.Answer.{packed, Small}
+use Rattle.calls.specs.declared.Answer.{Answer}
+use Rattle.calls.specs.declared.Answer.the-variants.{Refused, Made, Opened, More, Done}
 use Rattle.calls.specs.Outcome.{Outcome}
 use Rattle.calls.specs.Make.{makeOf}
 use Rattle.clamp.specs.Told.{Told as ToldC}

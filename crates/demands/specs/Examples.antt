@@ -3,7 +3,7 @@ use Prim.Native.Nat.{ℕ}
 use mathlib.Core.List.{List, [], _∷_}
 use lib.ListN.{replicate}
 use Rattle.word.specs.declared.Area.{Area}
-use Rattle.answer.specs.declared.Answer.{Answer}
+use Rattle.calls.specs.declared.Answer.{Answer}
 use Rattle.hand_deck.specs.Blocks.{deckLabel, deckProgram, deckTermination}
 use Rattle.demands.specs.HandDeck.{deckGiven}
 use Rattle.demands.specs.History.{State, fresh, Call, Told}

@@ -35,8 +35,8 @@ use Rattle.layout.specs.Layout.{coreLength, holderIn, placeIn, stageIn, iosIn}
 use Rattle.desk.specs.Sound.{sound, ownIn}
 use Rattle.desk.proofs.Facts.{core-small}
 use Rattle.desk.proofs.Replaced.{stage-written-sound}
-use Rattle.answer.specs.declared.Answer.the-variants.{Refused, More, Done}
-use Rattle.answer.specs.Answer.{Small}
+use Rattle.calls.specs.declared.Answer.the-variants.{Refused, More, Done}
+use Rattle.calls.specs.Answer.{Small}
 use Rattle.calls.specs.Outcome.{Outcome, refused}
 use Rattle.calls.specs.Release.{holds}
 use Rattle.feed.specs.Block.{blockStep}

@@ -21,7 +21,7 @@ use Rattle.sections.specs.Load.{Load, loadOf}
 use Rattle.layout.specs.declared.Place.{Place}
 use Rattle.layout.specs.Layout.{coreLength, base, placeIn, ownOf, stageIn, iosIn, wordsIn, ranksIn}
 use Rattle.desk.specs.Sound.{sound}
-use Rattle.answer.specs.declared.Answer.the-variants.{Refused, More, Done}
+use Rattle.calls.specs.declared.Answer.the-variants.{Refused, More, Done}
 use Rattle.calls.specs.Outcome.{Outcome, refused}
 use Rattle.calls.specs.Release.{holds}
 use Rattle.feed.specs.Block.{blockStep}

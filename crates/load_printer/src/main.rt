@@ -4,7 +4,7 @@ mod lines;
 
 ghost use mathlib.Core.Path.{_≡_};
 ghost use lib.ListN.{length};
-use answer::Answer;
+use calls::Answer;
 use libc::STDIN_FILENO;
 use libc::STDOUT_FILENO;
 use word::Absolute;

@@ -35,7 +35,7 @@ use Rattle.map.specs.Map.{stretchOf, mapOf, inCore, stretchesApart, mapObeys}
 use Rattle.rooms.specs.Rooms.{hit, count, free, held, heldEach, idle, atMost, fair, placeRefusal, lowestFree}
 use Rattle.layout.specs.Layout.{mapNumbers, holders, places, placeIn, ownOf, stageIn, iosIn, wordsIn, ranksIn}
 use Rattle.desk.specs.Sound.{areaIn, countsFit, loadFits, heldFits, placeFits, areasApart, sound}
-use Rattle.answer.specs.declared.Answer.the-variants.{Refused, Made, Opened, More, Done}
+use Rattle.calls.specs.declared.Answer.the-variants.{Refused, Made, Opened, More, Done}
 use Rattle.calls.specs.Make.{freed, freshDesk, makeOf}
 use Rattle.calls.specs.Open.{besideOwn, areaFits, openedOwn, openedDesk, opened, grantOf, openOf}
 use Rattle.calls.specs.Release.{holds}

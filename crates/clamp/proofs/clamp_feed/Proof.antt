@@ -1,6 +1,6 @@
 -- `clamp::clamp_feed` meets its contract: each return by the tests that led to it. Assumes nothing.
 use mathlib.Core.Path.{ap, _∙_}
-use Rattle.answer.specs.Answer.{packed}
+use Rattle.calls.specs.Answer.{packed}
 use Rattle.feed.proofs.Fed.{feed-small}
 use borrow.Author.Needs.{needs}
 use Rattle.clamp.proofs.clamp_feed.Statement.{statement}

@@ -1,7 +1,7 @@
 -- `clamp::clamp_make` meets its contract: each return by the tests that led to it. Assumes nothing.
 use denote.Ref.{now}
 use mathlib.Core.Path.{ap, _∙_}
-use Rattle.answer.specs.Answer.{packed}
+use Rattle.calls.specs.Answer.{packed}
 use Rattle.calls.proofs.Made.{make-small}
 use borrow.Author.Needs.{needs}
 use Rattle.clamp.proofs.clamp_make.Statement.{statement}

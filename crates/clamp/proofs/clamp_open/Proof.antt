@@ -1,7 +1,7 @@
 -- `clamp::clamp_open` meets its contract: each return by the tests that led to it. Assumes nothing.
 use mathlib.Core.Path.{ap, _∙_}
 use denote.Ref.{now}
-use Rattle.answer.specs.Answer.{packed}
+use Rattle.calls.specs.Answer.{packed}
 use Rattle.calls.proofs.Opened.{open-small}
 use borrow.Author.Needs.{needs}
 use Rattle.clamp.proofs.clamp_open.Statement.{statement}

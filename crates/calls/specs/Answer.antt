@@ -2,8 +2,8 @@
 -- making answers made, open opened with the place, release released; made, released and more have the value 0. .. the termination
 -- block answers done with the absolute start"), and how an answer is put into one 64-bit number for C (docs/ANSWERS.md).
 use Prim.Native.Nat.{ℕ, _+_, _*_, _^_, _<_}
-use Rattle.answer.specs.declared.Answer.{Answer}
-use Rattle.answer.specs.declared.Answer.the-variants.{Refused, Made, Opened, More, Done, Released}
+use Rattle.calls.specs.declared.Answer.{Answer}
+use Rattle.calls.specs.declared.Answer.the-variants.{Refused, Made, Opened, More, Done, Released}
 
 abbrev pub codeOf : Answer → ℕ
 codeOf (Refused f) = f .number

@@ -2,9 +2,9 @@
 use Prim.Native.Nat.{_/_, _%_, _^_}
 use mathlib.Core.Path.{_≡_}
 use native.Mathlib.Omega.{arith}
-use Rattle.answer.specs.Answer.{codeOf, valueOf, packed, Small}
-use Rattle.answer.specs.declared.Answer.{Answer}
-use Rattle.answer.specs.declared.Answer.the-variants.{Refused, Made, Opened, More, Done, Released}
+use Rattle.calls.specs.Answer.{codeOf, valueOf, packed, Small}
+use Rattle.calls.specs.declared.Answer.{Answer}
+use Rattle.calls.specs.declared.Answer.the-variants.{Refused, Made, Opened, More, Done, Released}
 
 pub packed-apart : (a : Answer) → Small a → (packed a / 2 ^ 32 ≡ codeOf a) × (packed a % 2 ^ 32 ≡ valueOf a)
 packed-apart (Refused f) h = (omega arith, omega arith)

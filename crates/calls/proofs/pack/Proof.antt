@@ -1,8 +1,8 @@
--- `answer::pack` meets its contract: each return by the tests that led to it. Assumes nothing.
+-- `calls::pack` meets its contract: each return by the tests that led to it. Assumes nothing.
 use native.Mathlib.Omega.{arith}
 use borrow.Author.Needs.{needs}
-use Rattle.answer.proofs.pack.Statement.{statement}
-use Rattle.answer.proofs.pack.Tie as tie
+use Rattle.calls.proofs.pack.Statement.{statement}
+use Rattle.calls.proofs.pack.Tie as tie
 
 enum-known-a : tie.Need-enum-known-a
 enum-known-a c = search needs
