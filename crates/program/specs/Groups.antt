@@ -4,7 +4,7 @@
 use Prim.Native.Nat.{ℕ}
 use mathlib.Core.Bool.{cond}
 use lib.Dec.{eqb}
-use Rattle.word.specs.Word.{part, bit, isSet}
+use Rattle.word.specs.Word.{bits, bit, isSet}
 use Rattle.word.specs.Fault.{fault}
 use Rattle.program.specs.declared.Group.{Group}
 use Rattle.program.specs.declared.GroupRead.{GroupRead}
@@ -12,15 +12,15 @@ use Rattle.program.specs.declared.GroupRead.the-variants.{Good, Bad}
 
 abbrev pub groupIn : ℕ → Group
 groupIn w = record {
-  words = part 26 8 w;
-  program = part 18 8 w;
+  words = bits 33 26 w;
+  program = bits 25 18 w;
   last = isSet 17 w;
   ibank = eqb (bit 16 w) 0;
-  at = record { 0 = part 0 16 w };
+  at = record { 0 = bits 15 0 w };
 }
 
 unfoldable pub groupOf : ℕ → GroupRead
 groupOf w =
-    cond (eqb (part 34 2 w) 2)
-    (cond (eqb (part 18 8 w) 0) (Bad (fault 18)) (Good (groupIn w)))
+    cond (eqb (bits 35 34 w) 2)
+    (cond (eqb (bits 25 18 w) 0) (Bad (fault 18)) (Good (groupIn w)))
     (Bad (fault 18))

@@ -2,7 +2,7 @@
 use Prim.Native.Nat.{ℕ}
 use mathlib.Core.Bool.{cond}
 use lib.Dec.{eqb}
-use Rattle.word.specs.Word.{part}
+use Rattle.word.specs.Word.{bits}
 use Rattle.word.specs.Fault.{fault}
 use Rattle.program.specs.declared.Bank.{Bank}
 use Rattle.program.specs.declared.BankRead.{BankRead}
@@ -15,9 +15,9 @@ use Rattle.program.specs.declared.TableSectionRead.the-variants.{Good as
 -- "In a bank word bits 35, 34, 17, 16 are zero, bits 33-18 the word count, bits 15-0 the relative address."
 unfoldable pub bankOf : ℕ → BankRead
 bankOf w =
-    cond (eqb (part 34 2 w) 0)
-    (cond (eqb (part 16 2 w) 0)
-    (bank (record { at = record { 0 = part 0 16 w }; count = part 18 16 w }))
+    cond (eqb (bits 35 34 w) 0)
+    (cond (eqb (bits 17 16 w) 0)
+    (bank (record { at = record { 0 = bits 15 0 w }; count = bits 33 18 w }))
     (no-bank (fault 17)))
     (no-bank (fault 17))
 
@@ -36,10 +36,10 @@ segmentOf first second = withIbank (bankOf first) (bankOf second)
 -- "Table section, one word: bits 35-34 are 01, bits 33-18 a count from 1 .., bits 17-8 zero, bits 7-0 the table's number"
 unfoldable pub tableSectionOf : ℕ → TableSectionRead
 tableSectionOf w =
-    cond (eqb (part 34 2 w) 1)
-    (cond (eqb (part 8 10 w) 0)
-    (cond (eqb (part 18 16 w) 0)
+    cond (eqb (bits 35 34 w) 1)
+    (cond (eqb (bits 17 8 w) 0)
+    (cond (eqb (bits 33 18 w) 0)
     (no-table-section (fault 17))
-    (table-section (record { number = record { 0 = part 0 8 w }; count = part 18 16 w })))
+    (table-section (record { number = record { 0 = bits 7 0 w }; count = bits 33 18 w })))
     (no-table-section (fault 17)))
     (no-table-section (fault 17))

@@ -4,12 +4,12 @@ use mathlib.Core.Bool.{Bool, false, cond}
 use mathlib.Core.List.{List}
 use lib.ListN.{getD}
 use lib.Dec.{ltb}
-use Rattle.word.specs.Word.{part}
+use Rattle.word.specs.Word.{bits}
 use Rattle.word.specs.declared.Relative.{Relative}
 use Rattle.program.specs.declared.Bank.{Bank}
 
 abbrev pub startOf : List ℕ → Relative
-startOf block = record { 0 = part 0 16 (getD block 1 0) }
+startOf block = record { 0 = bits 15 0 (getD block 1 0) }
 
 -- the address r is that of a word of the bank
 unfoldable pub inBank : Bank → Relative → Bool

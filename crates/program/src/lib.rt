@@ -59,15 +59,15 @@ pub enum GroupRead {
 pub fn read_bank(w: u64) -> BankRead
     ensures { λ r. ⌜ r ≡ bankOf w ⌝ }
 {
-    if w / 17179869184 % 4 != 0 {
+    if word::bits(w, 35, 34) != 0 {
         return BankRead::Bad(Fault { number: 17 });
     }
-    if w / 65536 % 4 != 0 {
+    if word::bits(w, 17, 16) != 0 {
         return BankRead::Bad(Fault { number: 17 });
     }
     BankRead::Good(Bank {
-        at: Relative(w % 65536),
-        count: w / 262144 % 65536,
+        at: Relative(word::bits(w, 15, 0)),
+        count: word::bits(w, 33, 18),
     })
 }
 
@@ -93,18 +93,18 @@ pub fn read_segment(first: u64, second: u64) -> SegmentRead
 pub fn read_table_section(w: u64) -> TableSectionRead
     ensures { λ r. ⌜ r ≡ tableSectionOf w ⌝ }
 {
-    if w / 17179869184 % 4 != 1 {
+    if word::bits(w, 35, 34) != 1 {
         return TableSectionRead::Bad(Fault { number: 17 });
     }
-    if w / 256 % 1024 != 0 {
+    if word::bits(w, 17, 8) != 0 {
         return TableSectionRead::Bad(Fault { number: 17 });
     }
-    let count = w / 262144 % 65536;
+    let count = word::bits(w, 33, 18);
     if count == 0 {
         return TableSectionRead::Bad(Fault { number: 17 });
     }
     TableSectionRead::Good(TableSection {
-        number: Reference(w % 256),
+        number: Reference(word::bits(w, 7, 0)),
         count,
     })
 }
@@ -113,19 +113,19 @@ pub fn read_table_section(w: u64) -> TableSectionRead
 pub fn read_group(w: u64) -> GroupRead
     ensures { λ r. ⌜ r ≡ groupOf w ⌝ }
 {
-    if w / 17179869184 % 4 != 2 {
+    if word::bits(w, 35, 34) != 2 {
         return GroupRead::Bad(Fault { number: 18 });
     }
-    let program = w / 262144 % 256;
+    let program = word::bits(w, 25, 18);
     if program == 0 {
         return GroupRead::Bad(Fault { number: 18 });
     }
     GroupRead::Good(Group {
-        words: w / 67108864 % 256,
+        words: word::bits(w, 33, 26),
         program,
-        last: w / 131072 % 2 == 1,
-        ibank: w / 65536 % 2 == 0,
-        at: Relative(w % 65536),
+        last: word::is_set(w, 17),
+        ibank: word::bits(w, 16, 16) == 0,
+        at: Relative(word::bits(w, 15, 0)),
     })
 }
 
@@ -133,7 +133,7 @@ pub fn read_group(w: u64) -> GroupRead
 pub fn read_start(block: &[u64]) -> Relative
     ensures { λ r. ⌜ r ≡ startOf (now (block .entry)) ⌝ }
 {
-    Relative(word::word_at(block, 1) % 65536)
+    Relative(word::bits(word::word_at(block, 1), 15, 0))
 }
 
 // Whether an address lies in a bank: a start that does not lie in the IBANK is 22.

@@ -1,7 +1,7 @@
 -- A core word: 36 bits, bit 35 leftmost, held as a number below 2^36. A field of n bits whose lowest is bit k is read by
 -- `part k n` and stored by `put k n`; both are over any k and n, so that what is proved of them is proved once for the left
 -- half, the right half, bits 25-22 and any field that is still to come.
-use Prim.Native.Nat.{ℕ, _+_, _*_, _/_, _%_, _^_}
+use Prim.Native.Nat.{ℕ, _+_, _-_, _*_, _/_, _%_, _^_}
 use mathlib.Core.Bool.{Bool}
 use lib.Dec.{eqb, ltb}
 use Rattle.word.specs.declared.Half.{Half}
@@ -14,6 +14,10 @@ isWord w = ltb w (2 ^ 36)
 -- the n bits from bit k up, as a number
 abbrev pub part : ℕ → ℕ → ℕ → ℕ
 part k n w = w / 2 ^ k % 2 ^ n
+
+-- the bits from `high` down to `low`, counted as 01 counts them: `bits 33 18` is 01's "bits 33-18"
+abbrev pub bits : ℕ → ℕ → ℕ → ℕ
+bits high low w = part low (high + 1 - low) w
 
 -- the word w with v in the n bits from bit k up: what stands above the field, then v, then what stands below
 abbrev pub put : ℕ → ℕ → ℕ → ℕ → ℕ

@@ -3,9 +3,9 @@ pub mod limits;
 pub mod slices;
 
 ghost use mathlib.Core.Path.{_≡_};
-ghost use Prim.Native.Nat.{_+_, _<_, _^_};
+ghost use Prim.Native.Nat.{_+_, _<_, _≤_, _^_};
 ghost use lib.ListN.{getD};
-ghost use Rattle.word.specs.Word.{fieldOf, fieldStored, aField, aStored};
+ghost use Rattle.word.specs.Word.{bits, isSet, fieldOf, fieldStored, aField, aStored};
 ghost use Rattle.word.specs.Runs.{within, apart};
 ghost use Rattle.word.specs.Sorts.{absoluteOf};
 
@@ -77,6 +77,23 @@ pub fn runs_apart(a: u64, n: u64, b: u64, m: u64) -> bool
         return n <= b - a;
     }
     m <= a - b
+}
+
+// The bits from `high` down to `low`, as 01 counts them: bits(w, 33, 18) is 01's "bits 33-18". With numbers for both it compiles to a
+// shift and a mask.
+pub fn bits(w: u64, high: u64, low: u64) -> u64
+    requires { ⌜ (low ≤ high) × (high + 1 < 64 + low) × (low < 64) ⌝ }
+    ensures { λ r. ⌜ r ≡ bits high low w ⌝ }
+{
+    (w >> low) % (1 << (high + 1 - low))
+}
+
+// Whether bit j is set.
+pub fn is_set(w: u64, j: u64) -> bool
+    requires { ⌜ j < 64 ⌝ }
+    ensures { λ r. ⌜ r ≡ isSet j w ⌝ }
+{
+    (w >> j) % 2 == 1
 }
 
 // The field of a half.

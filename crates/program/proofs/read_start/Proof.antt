@@ -1,5 +1,4 @@
--- `program::read_start` meets its contract: each return by the tests that led to it. Assumes nothing.
-use native.Mathlib.Nat.{div-one}
+-- `program::read_start` meets its contract: the bits read, of the word read. Assumes nothing.
 use borrow.Author.Needs.{needs}
 use Rattle.program.proofs.read_start.Statement.{statement}
 use Rattle.program.proofs.read_start.Tie as tie
@@ -7,8 +6,11 @@ use Rattle.program.proofs.read_start.Tie as tie
 word-at-requires : tie.Need-word-at-requires
 word-at-requires c κs = search needs
 
+bits-requires : tie.Need-bits-requires
+bits-requires c κs = search needs
+
 returns : tie.Need-returns
-returns c = rw (c .word-at .ensures, div-one)
+returns c = rw (c .bits .ensures, c .before .word-at .ensures)
 
 pub read-start-spec : {M : Type 1} → statement M
-read-start-spec = tie.close (tie.spec word-at-requires returns)
+read-start-spec = tie.close (tie.spec word-at-requires bits-requires returns)
