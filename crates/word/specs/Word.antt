@@ -8,8 +8,11 @@ use Rattle.word.specs.declared.Half.{Half}
 use Rattle.word.specs.declared.Half.the-variants.{Left, Right}
 
 -- "A core word is 36 bits"
+abbrev pub wordLimit : ℕ
+wordLimit = 2 ^ 36
+
 abbrev pub isWord : ℕ → Bool
-isWord w = ltb w (2 ^ 36)
+isWord w = ltb w wordLimit
 
 -- the n bits from bit k up, as a number
 abbrev pub part : ℕ → ℕ → ℕ → ℕ
@@ -44,7 +47,7 @@ fieldStored h w v = put (lowest h) 16 w v
 
 -- bits 25-22, which 001 calls the a-field
 abbrev pub aField : ℕ → ℕ
-aField w = part 22 4 w
+aField w = bits 25 22 w
 
 abbrev pub aStored : ℕ → ℕ → ℕ
 aStored w v = put 22 4 w v

@@ -9,6 +9,14 @@ ghost use Rattle.word.specs.Word.{bits, isSet, fieldOf, fieldStored, aFi
 ghost use Rattle.word.specs.Runs.{within, apart};
 ghost use Rattle.word.specs.Sorts.{absoluteOf};
 
+// What a word is below: 2^36.
+pub const WORD_LIMIT: u64 = 1 << 36;
+
+// What a bit counts: the lowest bit of a left field, and of bits 25-22.
+const BIT_18: u64 = 1 << 18;
+
+const BIT_22: u64 = 1 << 22;
+
 // A half of a program word. Its field is bits 33-18 of the left half, bits 15-0 of the right one.
 pub enum Half {
     Left,
@@ -101,8 +109,8 @@ pub fn field(w: u64, h: Half) -> u64
     ensures { λ r. ⌜ r ≡ fieldOf h w ⌝ }
 {
     match h {
-        Half::Left => w / 262144 % 65536,
-        Half::Right => w % 65536,
+        Half::Left => bits(w, 33, 18),
+        Half::Right => bits(w, 15, 0),
     }
 }
 
@@ -112,8 +120,8 @@ pub fn store_field(w: u64, h: Half, v: u64) -> u64
     ensures { λ r. ⌜ r ≡ fieldStored h w v ⌝ }
 {
     match h {
-        Half::Left => w - w / 262144 % 65536 * 262144 + v * 262144,
-        Half::Right => w - w % 65536 + v,
+        Half::Left => w - bits(w, 33, 18) * BIT_18 + v * BIT_18,
+        Half::Right => w - bits(w, 15, 0) + v,
     }
 }
 
@@ -121,7 +129,7 @@ pub fn store_field(w: u64, h: Half, v: u64) -> u64
 pub fn a_field(w: u64) -> u64
     ensures { λ r. ⌜ r ≡ aField w ⌝ }
 {
-    w / 4194304 % 16
+    bits(w, 25, 22)
 }
 
 // The word with v for bits 25-22.
@@ -129,5 +137,5 @@ pub fn store_a(w: u64, v: u64) -> u64
     requires { ⌜ (w < 2 ^ 36) × (v < 2 ^ 4) ⌝ }
     ensures { λ r. ⌜ r ≡ aStored w v ⌝ }
 {
-    w / 67108864 * 67108864 + v * 4194304 + w % 4194304
+    w - bits(w, 25, 22) * BIT_22 + v * BIT_22
 }
