@@ -79,10 +79,10 @@ module _ (block : List ℕ) (end n : ℕ) where
         let t = sym (same-number c (13 + d) (at + 1) 3 s (omega arith)) ∙ sym (number-low block end m at 1 3) ∙ ap (λ (x : ℕ). x % 8) (sym (number-high block end m at 4 60)) in
         let x = sym (same-number c (13 + d) (at + 4) 9 s (omega arith)) ∙ sym (number-low block end m at 4 9) ∙ ap (λ (x : ℕ). x % 512) (sym (number-high block end m at 13 51)) in
         rw (t, x, s .seen)
-        (by-lt (N block end m at 64) 9223372036854775808
-        (λ l. rw (lt-ltb (N block end m at 64) 9223372036854775808 l, eq-eqb (getD (bitsBefore block end n) at 0) 0 (omega (arith, b))))
+        (by-lt (N block end m at 64) (2 ^ 63)
+        (λ l. rw (lt-ltb (N block end m at 64) (2 ^ 63) l, eq-eqb (getD (bitsBefore block end n) at 0) 0 (omega (arith, b))))
         (λ g.
-        rw (le-ltb (N block end m at 64) 9223372036854775808 g, ne-eqb (getD (bitsBefore block end n) at 0) 0 (λ e. omega (arith, b)))))
+        rw (le-ltb (N block end m at 64) (2 ^ 63) g, ne-eqb (getD (bitsBefore block end n) at 0) 0 (λ e. omega (arith, b)))))
 
     pub field-past : (c : Cursor) (d f : ℕ) → Sees block end n c (13 + d) → pastField c f .at ≡ afterField (bitsBefore block end n) (c .at) f
     unfolding pastField pastOf afterField

@@ -7,7 +7,7 @@ use mathlib.Core.List.{List}
 use lib.ListN.{getD}
 use lib.Dec.{ltb, leb, eqb}
 use Rattle.word.specs.declared.Half.the-variants.{Left, Right}
-use Rattle.word.specs.Word.{part, isSet, fieldOf}
+use Rattle.word.specs.Word.{wordLimit, bits, isSet, fieldOf}
 use Rattle.indicator.specs.declared.Indicator.{Indicator}
 use Rattle.indicator.specs.declared.Indicator.the-variants.{Same, Change, Long}
 use Rattle.indicator.specs.Indicator.{bitsBefore, numberAt, widthOf}
@@ -16,7 +16,7 @@ use Rattle.cursor.specs.declared.Turn.{Turn}
 
 -- a place that no bits of a group reach
 abbrev pub never : ℕ
-never = 4294967296
+never = 2 ^ 32
 
 -- how far the bits of m of n words reach; where all are taken, further than any place that is asked for
 unfoldable pub edgeOf : ℕ → ℕ → ℕ
@@ -39,8 +39,8 @@ startOf n = record { at = 0; ahead = 0; words = 0; edge = edgeOf n 0 }
 unfoldable pub lookOf : ℕ → ℕ → Indicator
 lookOf ahead f =
     cond (ltb ahead (2 ^ 63)) Same
-    (cond (eqb (part 60 3 ahead) 2 && isSet 15 f) (Long (part 51 9 ahead))
-    (Change (part 60 3 ahead)))
+    (cond (eqb (bits 62 60 ahead) 2 && isSet 15 f) (Long (bits 59 51 ahead))
+    (Change (bits 62 60 ahead)))
 
 -- past an indicator; past that of a field that holds f; past a word's two
 unfoldable pub pastOf : Cursor → Indicator → Cursor
@@ -58,7 +58,7 @@ refilled block end n c =
     cond (ltb (c .at + 28) (c .edge)) c
     (record {
       at = c .at;
-      ahead = c .ahead + getD block (end - 1 - c .words) 0 % 2 ^ 36 * 2 ^ (c .at + 28 - 36 * c .words) % 2 ^ 64;
+      ahead = c .ahead + getD block (end - 1 - c .words) 0 % wordLimit * 2 ^ (c .at + 28 - 36 * c .words) % 2 ^ 64;
       words = c .words + 1;
       edge = edgeOf n (c .words + 1);
     })

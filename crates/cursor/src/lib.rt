@@ -8,6 +8,17 @@ ghost use Rattle.indicator.specs.Indicator.{InBlock, bitsBefore, afterAll, just
 ghost use Rattle.cursor.specs.Cursor.{never, Sees, edgeOf, startOf, lookOf, pastOf, pastField, pastWord, refilled, plainWords, pastPlain, turnOf};
 use indicator::Indicator;
 use word::Half;
+use word::WORD_BITS;
+use word::WORD_LIMIT;
+
+// The next bit, first of the 64 at hand.
+const NEXT_BIT: u64 = 1 << 63;
+
+// A place past every group's bits.
+const NEVER: usize = 1 << 32;
+
+// How many bits at hand leave room for a word behind them: 64 less 36.
+const BEFORE_WORD: usize = 28;
 
 // The place of the next bit; the 64 bits from there on, the first one leftmost, as far as the indicator words taken so far have
 // them; how many words these are; and the edge up to which their bits reach, or a place past every group's bits where no word is
@@ -44,24 +55,24 @@ fn edge_of(n: usize, m: usize) -> usize
     ensures { λ r. ⌜ r ≡ edgeOf n m ⌝ }
 {
     if n <= m {
-        return 4294967296;
+        return NEVER;
     }
-    36 * m
+    WORD_BITS * m
 }
 
 // The indicator that comes next, of a field that holds f.
 pub fn look(ahead: u64, f: u64) -> Indicator
     ensures { λ r. ⌜ r ≡ lookOf ahead f ⌝ }
 {
-    if ahead < 9223372036854775808 {
+    if ahead < NEXT_BIT {
         return Indicator::Same;
     }
-    let t = ahead / 1152921504606846976 % 8;
+    let t = word::bits(ahead, 62, 60);
     if t != 2 {
         return Indicator::Change(t);
     }
-    if f / 32768 % 2 == 1 {
-        Indicator::Long(ahead / 2251799813685248 % 512)
+    if word::is_set(f, 15) {
+        Indicator::Long(word::bits(ahead, 59, 51))
     } else {
         Indicator::Change(t)
     }
@@ -105,13 +116,13 @@ pub fn refill(block: &[u64], end: usize, n: usize, c: Cursor) -> Cursor
 {
     let at = c.at;
     let words = c.words;
-    if at + 28 < c.edge {
+    if at + BEFORE_WORD < c.edge {
         return c;
     }
-    let w = block[end - 1 - words] % 68719476736;
+    let w = block[end - 1 - words] % WORD_LIMIT;
     Cursor {
         at,
-        ahead: c.ahead + (w << (at + 28 - 36 * words)),
+        ahead: c.ahead + (w << (at + BEFORE_WORD - WORD_BITS * words)),
         words: words + 1,
         edge: edge_of(n, words + 1),
     }
@@ -125,7 +136,7 @@ pub fn unchanged(c: Cursor, left: usize) -> usize
     if c.ahead != 0 {
         return 0;
     }
-    let got = 36 * c.words;
+    let got = WORD_BITS * c.words;
     if got < c.at {
         return 0;
     }
@@ -180,8 +191,8 @@ pub fn count_fits(block: &[u64], first: usize, last: usize, end: usize, n: usize
         c = t.cursor;
         i = t.i;
     }
-    if c.at <= 36 * n {
-        36 * n < c.at + 36
+    if c.at <= WORD_BITS * n {
+        WORD_BITS * n < c.at + WORD_BITS
     } else {
         false
     }
