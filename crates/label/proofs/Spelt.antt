@@ -9,7 +9,7 @@ use lib.Dec.{eqb}
 use Rattle.word.specs.Lists.{every}
 use Rattle.block.specs.Fieldata.{hyphen, characters}
 use Rattle.label.specs.Name.{isName, isRest, isSpace, letterOrDigit}
-use Rattle.label.specs.Spelling.{nextSpelling, spelled}
+use Rattle.label.specs.HowSpelling.{nextSpelling, spelled}
 use Rattle.label.specs.declared.Spelling.{Spelling}
 use Rattle.label.specs.declared.Spelling.the-variants.{First, Inside, Spaces, Wrong}
 

@@ -1,115 +1,208 @@
--- Every tally is within the limits, and every table word raises the least type: a turn of the loop over the table words.
+-- The tables of a label taken one after another tell what the definition tells of them all, and a turn of each loop over them.
 -- Assumes nothing.
-use Prim.Native.Nat.{ℕ, _+_, _≤_, _<_}
-use mathlib.Core.Path.{_≡_, sym, _∙_}
+use Prim.Native.Nat.{ℕ, _+_, _*_, _≤_, _<_}
+use mathlib.Core.Path.{_≡_, refl, sym, ap, _∙_}
+use mathlib.Core.Bool.{Bool, true, false, false≢true, _&&_}
 use mathlib.Core.List.{List, [], _∷_}
 use native.Mathlib.Omega.{arith}
 use native.Mathlib.Numerals.{add-one}
 use lib.ListN.{length, getD, drop, drop-of-length-le}
 use lib.Seq.{drop-cons}
-use lib.Dec.{eqb, ltb}
-use borrow.Author.Tests.{ltb-false, eqb-true}
-use Rattle.word.specs.Word.{part}
-use Rattle.word.specs.declared.Fault.{Fault}
-use Rattle.word.specs.Lists.{range}
-use Rattle.word.proofs.Cases.{when}
-use Rattle.word.proofs.Lists.{length-range-min, getD-range}
-use Rattle.label.specs.Tally.{noTables, addedSwitches, addedChannels, addedUnits, addedTables, addedTable, byType, andThen, tallied, tableTally, Limited}
-use Rattle.label.specs.declared.Tally.{Tally}
-use Rattle.label.specs.declared.TallyRead.{TallyRead}
-use Rattle.label.specs.declared.TallyRead.the-variants.{Good, Bad}
+use lib.Dec.{eqb, leb}
+use borrow.Author.Tests.{ltb-true, lt-ltb, leb-true, le-leb, ne-eqb}
+use Rattle.word.specs.Word.{bits}
+use Rattle.word.specs.Lists.{every, everyTwo}
+use Rattle.word.proofs.Cases.{by-lt, both, and-left, and-right, and-both}
+use Rattle.word.proofs.Every.{every-then, every-by}
+use Rattle.word.proofs.Lists.{length-tab, getD-tab}
+use Rattle.label.specs.Tables.{TableWord, tableWord, tableWordsIn, tableWords, isCarried, carries, rises, hasEntries, tablesInOrder, entriesIf, entriesOf, countsOf}
+use Rattle.label.specs.HowTables.{mayFollow, allFollow, FewEntries}
 
-pub none-limited : Limited noTables
-none-limited = record { types = omega arith; near = omega arith; io = omega arith; core = omega arith }
+-- ---- one after another is all in order
+abbrev atLeast : ℕ → TableWord → Bool
+atLeast k x = leb k (x .type)
 
--- what a table word of type t leaves: the limits, and a least type above t
-abbrev pub Raised : ℕ → TallyRead → Type 0
-Raised t (Good c) = Limited c × (t < c .least)
-Raised t (Bad f) = Unit {0}
+record Ordered (k : ℕ) (ts : List TableWord) : Type 0 where
+  least : every (atLeast k) ts ≡ true
+  carried : every carries ts ≡ true
+  rising : everyTwo rises ts ≡ true
+  some : every hasEntries ts ≡ true
 
-switches-raised : (n t : ℕ) → t ≡ 0 → Raised t (addedSwitches n)
-unfolding addedSwitches
-switches-raised n t e = when (Raised t) (ltb 16 n) (λ _. tt) (λ q.
-    let h = ltb-false 16 n q in
-    (record { types = omega arith; near = omega arith; io = omega arith; core = omega arith }, omega arith))
+-- what may follow, clause by clause
+module _ (k : ℕ) (x : TableWord) (q : mayFollow k x ≡ true) where
+  pub above : k ≤ x .type
+  unfolding mayFollow
+  above = leb-true k (x .type) (and-left (atLeast k x) (hasEntries x && carries x) q)
 
-module _ (c : Tally) (l : Limited c) (n t : ℕ) where
-  channels-raised : t ≡ 2 → Raised t (addedChannels c n)
-  unfolding addedChannels
-  channels-raised e = when (Raised t) (ltb 16 (c .switches + n)) (λ _. tt) (λ q.
-      let h = ltb-false 16 (c .switches + n) q in
-      (record { types = omega arith; near = omega arith; io = omega arith; core = omega arith }, omega arith))
+  entered : hasEntries x ≡ true
+  unfolding mayFollow
+  entered = and-left (hasEntries x) (carries x) (and-right (atLeast k x) (hasEntries x && carries x) q)
 
-  units-raised : t ≡ 3 → Raised t (addedUnits c n)
-  unfolding addedUnits
-  units-raised e = when (Raised t) (ltb 128 (c .switches + c .channels + n)) (λ _. tt) (λ q.
-      let h = ltb-false 128 (c .switches + c .channels + n) q in
-      (record { types = omega arith; near = l .near; io = omega arith; core = omega arith }, omega arith))
+  pub of-type : carries x ≡ true
+  unfolding mayFollow
+  of-type = and-right (hasEntries x) (carries x) (and-right (atLeast k x) (hasEntries x && carries x) q)
 
-  tables-raised : t ≡ 12 → Raised t (addedTables c n)
-  unfolding addedTables
-  tables-raised e = when (Raised t) (ltb 128 n) (λ _. tt) (λ q.
-      let h = ltb-false 128 n q in
-      (record { types = omega arith; near = l .near; io = l .io; core = omega arith }, omega arith))
+ordered : (k : ℕ) (ts : List TableWord) → allFollow k ts ≡ true → Ordered k ts
+unfolding allFollow every everyTwo
+ordered k [] q = record { least = refl; carried = refl; rising = refl; some = refl }
+ordered k (x ∷ xs) q =
+    let a = and-left (mayFollow k x) (allFollow (x .type + 1) xs) q in
+    let l = above k x a in
+    let o = ordered (x .type + 1) xs (and-right (mayFollow k x) (allFollow (x .type + 1) xs) q) in
+    record {
+      least = and-both (atLeast k x) (every (atLeast k) xs) (le-leb k (x .type) l)
+          (every-then (atLeast (x .type + 1)) (atLeast k) (λ y h. le-leb k (y .type) (let m = leb-true (x .type + 1) (y .type) h in omega arith)) xs (o .least));
+      carried = and-both (carries x) (every carries xs) (of-type k x a) (o .carried);
+      rising = and-both (every (rises x) xs) (everyTwo rises xs)
+          (every-then (atLeast (x .type + 1)) (rises x) (λ y h. lt-ltb (x .type) (y .type) (let m = leb-true (x .type + 1) (y .type) h in omega arith)) xs (o .least))
+          (o .rising);
+      some = and-both (hasEntries x) (every hasEntries xs) (entered k x a) (o .some);
+    }
 
-  type-raised : Raised t (byType c t n)
-  type-raised =
-      when (Raised t) (eqb t 0) (λ q. switches-raised n t (eqb-true t 0 q)) (λ _.
-      when (Raised t) (eqb t 2) (λ q. channels-raised (eqb-true t 2 q)) (λ _.
-      when (Raised t) (eqb t 3) (λ q. units-raised (eqb-true t 3 q)) (λ _.
-      when (Raised t) (eqb t 12) (λ q. tables-raised (eqb-true t 12 q)) (λ _. tt))))
+follows : (k : ℕ) (ts : List TableWord) → Ordered k ts → allFollow k ts ≡ true
+unfolding allFollow every everyTwo mayFollow
+follows k [] o = refl
+follows k (x ∷ xs) o =
+    and-both (mayFollow k x) (allFollow (x .type + 1) xs)
+    (and-both (atLeast k x) (hasEntries x && carries x) (and-left (atLeast k x) (every (atLeast k) xs) (o .least))
+    (and-both (hasEntries x) (carries x) (and-left (hasEntries x) (every hasEntries xs) (o .some))
+    (and-left (carries x) (every carries xs) (o .carried))))
+    (follows (x .type + 1) xs (record {
+      least = every-then (rises x) (atLeast (x .type + 1)) (λ y h. le-leb (x .type + 1) (y .type) (let m = ltb-true (x .type) (y .type) h in omega arith)) xs
+          (and-left (every (rises x) xs) (everyTwo rises xs) (o .rising));
+      carried = and-right (carries x) (every carries xs) (o .carried);
+      rising = and-right (every (rises x) xs) (everyTwo rises xs) (o .rising);
+      some = and-right (hasEntries x) (every hasEntries xs) (o .some);
+    }))
 
--- so a table word raises the least type
-further : (k t : ℕ) (r : TallyRead) → k ≤ t → Raised t r → Raised k r
-further k t (Good c) h w = (w .0, let x = w .1 in omega arith)
-further k t (Bad f) h w = tt
+same-test : (a b : Bool) → (a ≡ true → b ≡ true) → (b ≡ true → a ≡ true) → a ≡ b
+same-test true b f g = sym (f refl)
+same-test false true f g = g refl
+same-test false false f g = refl
 
-pub table-raised : (c : Tally) (w : ℕ) → Limited c → Raised (c .least) (addedTable c w)
-unfolding addedTable
-table-raised c w l =
-    when (Raised (c .least)) (ltb (part 32 4 w) (c .least)) (λ _. tt) (λ q.
-    when (Raised (c .least)) (eqb (part 0 9 w) 0) (λ _. tt) (λ _.
-    further (c .least) (part 32 4 w) (byType c (part 32 4 w) (part 0 9 w)) (ltb-false (part 32 4 w) (c .least) q)
-    (type-raised c l (part 0 9 w) (part 32 4 w))))
+pub order-follows : (ts : List TableWord) → tablesInOrder ts ≡ allFollow 0 ts
+unfolding tablesInOrder
+order-follows ts = same-test (tablesInOrder ts) (allFollow 0 ts)
+    (λ q.
+    let a = and-left (every carries ts) (everyTwo rises ts && every hasEntries ts) q in
+    let r = and-right (every carries ts) (everyTwo rises ts && every hasEntries ts) q in
+    follows 0 ts (record {
+      least = every-then carries (atLeast 0) (λ y h. le-leb 0 (y .type) (omega arith)) ts a;
+      carried = a;
+      rising = and-left (everyTwo rises ts) (every hasEntries ts) r;
+      some = and-right (everyTwo rises ts) (every hasEntries ts) r;
+    }))
+    (λ q.
+    let o = ordered 0 ts q in
+    and-both (every carries ts) (everyTwo rises ts && every hasEntries ts) (o .carried)
+    (and-both (everyTwo rises ts) (every hasEntries ts) (o .rising) (o .some)))
 
-pub good-raised : (c d : Tally) (w : ℕ) → Limited c → addedTable c w ≡ Good d → Limited d × (c .least < d .least)
-good-raised c d w l e = rw e at (table-raised c w l)
+-- ---- so there are few: no type above 12 is carried
+pub carried-most : (t : ℕ) → isCarried t ≡ true → t ≤ 12
+unfolding isCarried
+carried-most t q = by-lt 12 t
+    (λ l.
+    let z = rw (ne-eqb t 0 (λ e. omega arith), ne-eqb t 2 (λ e. omega arith), ne-eqb t 3 (λ e. omega arith), ne-eqb t 12 (λ e. omega arith)) at q in
+    absurd (false≢true z))
+    (λ h. h)
 
--- a turn of the loop over the n words from word 4 on: the next word goes; at a fault, and at the end
-module _ (block : List ℕ) (n : ℕ) (c : Tally) (i : ℕ) (r : TallyRead) where
-  here : i < n → 4 + i < length block → i < length (range block 4 n)
-  here h k = omega (arith, length-range-min block 4 n)
+few-from : (k : ℕ) (ts : List TableWord) → allFollow k ts ≡ true → k ≤ 13 → k + length ts ≤ 13
+unfolding allFollow
+few-from k [] q h = omega arith
+few-from k (x ∷ xs) q h =
+    let a = and-left (mayFollow k x) (allFollow (x .type + 1) xs) q in
+    let l = above k x a in
+    let m = carried-most (x .type) (of-type k x a) in
+    let f = few-from (x .type + 1) xs (and-right (mayFollow k x) (allFollow (x .type + 1) xs) q) (omega arith) in
+    omega arith
 
-  pub tallied-more : (d : Tally) → i < n → 4 + i < length block → addedTable c (getD block (4 + i) 0) ≡ Good d
-      → r ≡ tallied c (drop i (range block 4 n)) → r ≡ tallied d (drop (i + 1) (range block 4 n))
-  unfolding tallied
-  tallied-more d h k e q = q ∙ rw (drop-cons (range block 4 n) i 0 (here h k), getD-range block 4 n i h, e, add-one)
+-- ---- the loops over the first n table words
+none : TableWord
+none = tableWord 0
 
-  pub tallied-stop : (f : Fault) → i < n → 4 + i < length block → addedTable c (getD block (4 + i) 0) ≡ Bad f
-      → r ≡ tallied c (drop i (range block 4 n)) → Bad f ≡ r
-  unfolding tallied
-  tallied-stop f h k e q = sym (q ∙ rw (drop-cons (range block 4 n) i 0 (here h k), getD-range block 4 n i h, e))
+module _ (block : List ℕ) (n : ℕ) where
+  pub tables-length : length (tableWordsIn block n) ≡ n
+  unfolding tableWordsIn
+  tables-length = length-tab (λ i. tableWord (getD block (4 + i) 0)) n
 
-  pub tallied-end : n ≤ i → r ≡ tallied c (drop i (range block 4 n)) → Good c ≡ r
-  unfolding tallied
-  tallied-end h q =
-      let e : length (range block 4 n) ≤ i = omega (arith, length-range-min block 4 n) in
-      sym (q ∙ rw (drop-of-length-le (range block 4 n) e))
+  table-at : (i : ℕ) → i < n → getD (tableWordsIn block n) i none ≡ tableWord (getD block (4 + i) 0)
+  unfolding tableWordsIn
+  table-at i h = getD-tab (λ j. tableWord (getD block (4 + j) 0)) n i none h
 
--- what the table words come to is within the limits
-abbrev InLimits : TallyRead → Type 0
-InLimits (Good c) = Limited c
-InLimits (Bad f) = Unit {0}
+  table-first : (i : ℕ) → i < n → drop i (tableWordsIn block n) ≡ tableWord (getD block (4 + i) 0) ∷ drop (i + 1) (tableWordsIn block n)
+  table-first i h =
+      let e = tables-length in
+      drop-cons (tableWordsIn block n) i none (omega arith) ∙ rw (table-at i h, add-one)
 
-then-limits : (k : ℕ) (r : TallyRead) (f : Tally → TallyRead) → Raised k r → ((d : Tally) → Limited d → InLimits (f d)) → InLimits (andThen r f)
-then-limits k (Good d) f w g = g d (w .0)
-then-limits k (Bad x) f w g = tt
+  tables-end : (i : ℕ) → n ≤ i → drop i (tableWordsIn block n) ≡ []
+  tables-end i h =
+      let l : length (tableWordsIn block n) ≤ i = omega (arith, tables-length) in
+      drop-of-length-le (tableWordsIn block n) l
 
-tallied-limits : (c : Tally) (ws : List ℕ) → Limited c → InLimits (tallied c ws)
-unfolding tallied
-tallied-limits c [] l = l
-tallied-limits c (w ∷ ws) l = then-limits (c .least) (addedTable c w) (λ d. tallied d ws) (table-raised c w l) (λ d m. tallied-limits d ws m)
+  module _ (least i : ℕ) (b : Bool) where
+    pub follow-more : i < n → mayFollow least (tableWord (getD block (4 + i) 0)) ≡ true → b ≡ allFollow least (drop i (tableWordsIn block n))
+        → b ≡ allFollow (bits 35 32 (getD block (4 + i) 0) + 1) (drop (i + 1) (tableWordsIn block n))
+    unfolding allFollow
+    follow-more h t q = q ∙ rw (table-first i h, t)
 
-pub tally-limited : (block : List ℕ) (c : Tally) → tableTally block ≡ Good c → Limited c
-unfolding tableTally
-tally-limited block c e = rw e at (tallied-limits noTables (range block 4 (part 18 11 (getD block 3 0))) none-limited)
+    pub follow-fails : i < n → mayFollow least (tableWord (getD block (4 + i) 0)) ≡ false → b ≡ allFollow least (drop i (tableWordsIn block n)) → false ≡ b
+    unfolding allFollow
+    follow-fails h t q = sym (q ∙ rw (table-first i h, t))
+
+    pub follow-ends : n ≤ i → b ≡ allFollow least (drop i (tableWordsIn block n)) → true ≡ b
+    unfolding allFollow
+    follow-ends h q = sym (q ∙ rw (tables-end i h))
+
+  module _ (t i s r : ℕ) where
+    pub entries-more : i < n → s + entriesOf t (drop i (tableWordsIn block n)) ≡ r
+        → s + entriesIf t (tableWord (getD block (4 + i) 0)) + entriesOf t (drop (i + 1) (tableWordsIn block n)) ≡ r
+    unfolding entriesOf
+    entries-more h q = let e = ap (entriesOf t) (table-first i h) in omega (arith, e, q)
+
+    pub entries-end : n ≤ i → s + entriesOf t (drop i (tableWordsIn block n)) ≡ r → s ≡ r
+    unfolding entriesOf
+    entries-end h q = let e = ap (entriesOf t) (tables-end i h) in omega (arith, e, q)
+
+-- ---- and the entries of each type are few
+pub counted-most : (t w : ℕ) → entriesIf t (tableWord w) ≤ 511
+counted-most t w = both (λ (x : ℕ). x ≤ 511) (eqb (bits 35 32 w) t) (omega arith) (omega arith)
+
+abbrev short : TableWord → Bool
+short x = leb (x .entries) 511
+
+entries-most : (t : ℕ) (ts : List TableWord) → every short ts ≡ true → entriesOf t ts ≤ 511 * length ts
+unfolding entriesOf every
+entries-most t [] q = omega arith
+entries-most t (x ∷ xs) q =
+    let h = leb-true (x .entries) 511 (and-left (short x) (every short xs) q) in
+    let m = entries-most t xs (and-right (short x) (every short xs) q) in
+    let c : entriesIf t x ≤ 511 = both (λ (y : ℕ). y ≤ 511) (eqb (x .type) t) h (omega arith) in
+    omega arith
+
+module _ (block : List ℕ) (q : tablesInOrder (tableWords block) ≡ true) where
+  pub few : bits 28 18 (getD block 3 0) ≤ 13
+  unfolding tableWords
+  few =
+      let f = few-from 0 (tableWords block) (sym (order-follows (tableWords block)) ∙ q) (omega arith) in
+      omega (arith, f, tables-length block (bits 28 18 (getD block 3 0)))
+
+  all-short : every short (tableWords block) ≡ true
+  unfolding tableWords
+  all-short =
+      let n = bits 28 18 (getD block 3 0) in
+      every-by none short (tableWordsIn block n)
+      (λ i h. rw (table-at block n i (omega (arith, tables-length block n))) (le-leb (bits 8 0 (getD block (4 + i) 0)) 511 (omega arith)))
+
+  each-few : (t : ℕ) → entriesOf t (tableWords block) ≤ 6643
+  each-few t =
+      let f = few-from 0 (tableWords block) (sym (order-follows (tableWords block)) ∙ q) (omega arith) in
+      omega (arith, entries-most t (tableWords block) all-short)
+
+  pub counts-small : FewEntries (countsOf (tableWords block))
+  unfolding countsOf
+  counts-small = record {
+    switches = omega (arith, each-few 0);
+    channels = omega (arith, each-few 2);
+    units = omega (arith, each-few 3);
+    tables = omega (arith, each-few 12);
+  }

@@ -1,4 +1,5 @@
 pub mod Name
-pub mod Spelling
-pub mod Tally
+pub mod HowSpelling
+pub mod Tables
+pub mod HowTables
 pub mod Label

@@ -3,8 +3,24 @@ ghost use mathlib.Core.Path.{_≡_};
 ghost use mathlib.Core.List.{_++_};
 ghost use Rattle.block.specs.Fieldata.{characters};
 ghost use Rattle.label.specs.Name.{isName, letterOrDigit};
-ghost use Rattle.label.specs.Spelling.{nextSpelling, spelled};
+ghost use Rattle.label.specs.HowSpelling.{nextSpelling, spelled};
 use crate::Spelling;
+
+// "12 Fieldata characters": six a word, of six bits each.
+const IN_WORD: u64 = 6;
+
+// "A to Z are octal 06 to 37, 0 to 9 are 60 to 71, hyphen 41, space 05."
+const LETTER_A: u64 = 0o06;
+
+const LETTER_Z: u64 = 0o37;
+
+const DIGIT_0: u64 = 0o60;
+
+const DIGIT_9: u64 = 0o71;
+
+const HYPHEN: u64 = 0o41;
+
+const SPACE: u64 = 0o05;
 
 // Whether two words spell a name.
 pub fn is_name(first: u64, second: u64) -> bool
@@ -23,7 +39,7 @@ fn spell_word(start: Spelling, w: u64) -> Spelling
     ensures { λ r. ⌜ r ≡ spelled start (characters 6 w) ⌝ }
 {
     let mut s = start;
-    let mut n: u64 = 6;
+    let mut n: u64 = IN_WORD;
     while 0 < n {
         n -= 1;
         s = spell(s, (w >> (6 * n)) % 64);
@@ -55,13 +71,13 @@ fn spell_first(c: u64) -> Spelling
 fn spell_inside(c: u64) -> Spelling
     ensures { λ r. ⌜ r ≡ nextSpelling Spelling.Inside c ⌝ }
 {
-    if c == 0o05 {
+    if c == SPACE {
         return Spelling::Spaces;
     }
     if letter_or_digit(c) {
         return Spelling::Inside;
     }
-    if c == 0o41 {
+    if c == HYPHEN {
         return Spelling::Inside;
     }
     Spelling::Wrong
@@ -70,24 +86,23 @@ fn spell_inside(c: u64) -> Spelling
 fn spell_space(c: u64) -> Spelling
     ensures { λ r. ⌜ r ≡ nextSpelling Spelling.Spaces c ⌝ }
 {
-    if c == 0o05 {
+    if c == SPACE {
         return Spelling::Spaces;
     }
     Spelling::Wrong
 }
 
-// A to Z are octal 06 to 37, 0 to 9 are 60 to 71.
 fn letter_or_digit(c: u64) -> bool
     ensures { λ r. ⌜ r ≡ letterOrDigit c ⌝ }
 {
-    if c < 0o06 {
+    if c < LETTER_A {
         return false;
     }
-    if c <= 0o37 {
+    if c <= LETTER_Z {
         return true;
     }
-    if c < 0o60 {
+    if c < DIGIT_0 {
         return false;
     }
-    c <= 0o71
+    c <= DIGIT_9
 }

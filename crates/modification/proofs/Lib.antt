@@ -1,2 +1,2 @@
 pub mod Spots
-pub mod Near
+pub mod Channels

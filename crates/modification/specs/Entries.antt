@@ -4,13 +4,13 @@
 use Prim.Native.Nat.{ℕ, _+_, _-_, _*_, _/_, _%_}
 use mathlib.Core.Bool.{Bool, cond}
 use lib.Dec.{eqb, leb}
-use Rattle.word.specs.Word.{part}
+use Rattle.word.specs.Word.{bits}
 use Rattle.word.specs.declared.Reference.{Reference}
 use Rattle.modification.specs.declared.Spot.{Spot}
 
 -- the entry words of a modification block: words 1 to 254
-abbrev pub wordsInBlock : ℕ
-wordsInBlock = 254
+abbrev pub entryWordsInBlock : ℕ
+entryWordsInBlock = 254
 
 -- how many words the entries of io I/O references and as many core tables take
 abbrev pub entryWords : ℕ → ℕ → ℕ
@@ -18,7 +18,7 @@ entryWords io tables = 2 * io + 3 * tables
 
 -- how many blocks hold them: none where there is no entry
 abbrev pub entryBlocks : ℕ → ℕ → ℕ
-entryBlocks io tables = (entryWords io tables + (wordsInBlock - 1)) / wordsInBlock
+entryBlocks io tables = (entryWords io tables + (entryWordsInBlock - 1)) / entryWordsInBlock
 
 -- the third word of table t's entry, counted from 0 through all entry words
 abbrev pub lengthWord : ℕ → Reference → ℕ
@@ -26,12 +26,12 @@ lengthWord io t = 2 * io + 3 * t .0 + 2
 
 -- the block, and the word of the block, at which it stands
 abbrev pub lengthSpot : ℕ → Reference → Spot
-lengthSpot io t = record { block = lengthWord io t / wordsInBlock; word = lengthWord io t % wordsInBlock + 1 }
+lengthSpot io t = record { block = lengthWord io t / entryWordsInBlock; word = lengthWord io t % entryWordsInBlock + 1 }
 
 -- "only the third word's bits 15-0 matter, the minimum length"
 abbrev pub minimum : ℕ → ℕ
-minimum w = part 0 16 w
+minimum w = bits 15 0 w
 
 -- "The assigned length must be at least this, and equal to it when the label's bit 35 is set (16)."
 abbrev pub lengthFits : Bool → ℕ → ℕ → Bool
-lengthFits strict least len = cond strict (eqb len least) (leb least len)
+lengthFits noLongerTables least len = cond noLongerTables (eqb len least) (leb least len)

@@ -1,14 +1,20 @@
 // Whether the assignments fit the file (16): the two lists against the label, and each table's length against the modification
 // record, with how many words and blocks its entries take and where each minimum length stands.
 ghost use mathlib.Core.Path.{_≡_};
-ghost use Prim.Native.Nat.{_<_, _≤_};
+ghost use Prim.Native.Nat.{_≤_, _^_};
 ghost use Rattle.word.specs.Lists.{every};
 ghost use Rattle.lists.specs.Kept.{numbersIn};
 ghost use Rattle.label.specs.Label.{Carried};
 ghost use Rattle.modification.specs.Entries.{entryWords, entryBlocks, lengthSpot, minimum, lengthFits};
-ghost use Rattle.modification.specs.Assignments.{isNear, assignmentsFit};
+ghost use Rattle.modification.specs.Assignments.{isChannel, assignmentsFit};
 use label::Label;
 use word::Reference;
+
+// "Words 1 to 254 hold entries": how many words of a modification block do.
+const ENTRY_WORDS: u64 = 254;
+
+// What a jump switch or a channel may be assigned at most.
+const CHANNEL_MOST: u64 = 15;
 
 // A word of the modification record: the block, counted from 0 among the modification blocks, and the word in it.
 pub struct Spot {
@@ -27,16 +33,16 @@ pub fn assignments_fit(l: Label, ios: &[u64], n: u64, tables: u64) -> bool
     if tables != l.tables {
         return false;
     }
-    near_fit(ios, l.switches + l.channels)
+    channels_fit(ios, l.switches + l.channels)
 }
 
 // Whether each of the first m I/O numbers is one for a jump switch or a channel.
-fn near_fit(ios: &[u64], m: u64) -> bool
-    ensures { λ r. ⌜ r ≡ every isNear (numbersIn (now (ios .entry)) m) ⌝ }
+fn channels_fit(ios: &[u64], m: u64) -> bool
+    ensures { λ r. ⌜ r ≡ every isChannel (numbersIn (now (ios .entry)) m) ⌝ }
 {
     let mut k: u64 = 0;
     while k < m {
-        if 15 < lists::io_number(ios, Reference(k)) {
+        if CHANNEL_MOST < lists::io_number(ios, Reference(k)) {
             return false;
         }
         k += 1;
@@ -46,7 +52,7 @@ fn near_fit(ios: &[u64], m: u64) -> bool
 
 // How many words the entries of io I/O references and as many core tables take.
 pub fn entry_words(io: u64, tables: u64) -> u64
-    requires { ⌜ (io ≤ 65536) × (tables ≤ 65536) ⌝ }
+    requires { ⌜ (io ≤ 2 ^ 16) × (tables ≤ 2 ^ 16) ⌝ }
     ensures { λ r. ⌜ r ≡ entryWords io tables ⌝ }
 {
     2 * io + 3 * tables
@@ -54,21 +60,21 @@ pub fn entry_words(io: u64, tables: u64) -> u64
 
 // How many modification blocks hold them.
 pub fn entry_blocks(io: u64, tables: u64) -> u64
-    requires { ⌜ (io ≤ 65536) × (tables ≤ 65536) ⌝ }
+    requires { ⌜ (io ≤ 2 ^ 16) × (tables ≤ 2 ^ 16) ⌝ }
     ensures { λ r. ⌜ r ≡ entryBlocks io tables ⌝ }
 {
-    (entry_words(io, tables) + 253) / 254
+    (entry_words(io, tables) + (ENTRY_WORDS - 1)) / ENTRY_WORDS
 }
 
 // Where the third word of table t's entry stands.
 pub fn length_spot(io: u64, t: Reference) -> Spot
-    requires { ⌜ (io ≤ 65536) × (t .0 ≤ 65536) ⌝ }
+    requires { ⌜ (io ≤ 2 ^ 16) × (t .0 ≤ 2 ^ 16) ⌝ }
     ensures { λ r. ⌜ r ≡ lengthSpot io t ⌝ }
 {
     let k = 2 * io + 3 * t.0 + 2;
     Spot {
-        block: k / 254,
-        word: k % 254 + 1,
+        block: k / ENTRY_WORDS,
+        word: k % ENTRY_WORDS + 1,
     }
 }
 
@@ -76,14 +82,14 @@ pub fn length_spot(io: u64, t: Reference) -> Spot
 pub fn minimum_length(w: u64) -> u64
     ensures { λ r. ⌜ r ≡ minimum w ⌝ }
 {
-    w % 65536
+    word::bits(w, 15, 0)
 }
 
 // Whether an assigned length agrees with the minimum: where it does not, the refusal is 16.
-pub fn length_fits(strict: bool, least: u64, len: u64) -> bool
-    ensures { λ r. ⌜ r ≡ lengthFits strict least len ⌝ }
+pub fn length_fits(no_longer_tables: bool, least: u64, len: u64) -> bool
+    ensures { λ r. ⌜ r ≡ lengthFits «no_longer_tables» least len ⌝ }
 {
-    if strict {
+    if no_longer_tables {
         return len == least;
     }
     least <= len

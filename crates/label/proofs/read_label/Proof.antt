@@ -1,8 +1,9 @@
--- `label::read_label` meets its contract: each return by the tests that led to it. Assumes nothing.
+-- `label::read_label` meets its contract: each return by the tests that led to it, which speak of the bits read. Assumes nothing.
 use mathlib.Core.Path.{sym, _∙_}
-use borrow.Author.Tests.{eq-eqb, ne-eqb, not-true, not-false}
+use borrow.Author.Tests.{eq-eqb, not-true, not-false}
+use Rattle.word.proofs.Tests.{tests}
 use Rattle.label.specs.Label.{labelOf}
-use Rattle.label.proofs.Tables.{tally-limited}
+use Rattle.label.proofs.Tables.{counts-small}
 use borrow.Author.Needs.{needs}
 use Rattle.label.proofs.read_label.Statement.{statement}
 use Rattle.label.proofs.read_label.Tie as tie
@@ -18,40 +19,58 @@ is-name-requires c κs = search needs
 
 returns : tie.Need-returns
 unfolding labelOf
-returns c = rw (sym (c .before .is-name .ensures) ∙ not-true _ (c .if1 .taken))
+returns c =
+    search (
+      tests,
+      sym (c .before .is-name .ensures) ∙ not-true _ (c .if1 .taken),
+    )
 
-shared-slice-read-if2 : tie.Need-shared-slice-read-if2
-shared-slice-read-if2 c = search needs
+shared-slice-read-bits : tie.Need-shared-slice-read-bits
+shared-slice-read-bits c = search needs
+
+bits-requires : tie.Need-bits-requires
+bits-requires c κs = search needs
 
 returns-2 : tie.Need-returns-2
 unfolding labelOf
-returns-2 c = rw (sym (c .before .before .before .is-name .ensures) ∙ not-false _ (c .before .before .if1 .left), ne-eqb _ _ (c .if2 .taken))
+returns-2 c =
+    search (
+      tests,
+      sym (c .before .before .before .before .is-name .ensures) ∙ not-false _ (c .before .before .before .if1 .left),
+      ← c .before .bits .ensures,
+    )
 
-read-tables-requires : tie.Need-read-tables-requires
-read-tables-requires c κs = search needs
-
-enum-known-c : tie.Need-enum-known-c
-enum-known-c c = search needs
-
-finish-requires : tie.Need-finish-requires
-finish-requires c κs = (search needs, tally-limited _ _ (sym (c .before .before .before .read-tables .ensures) ∙ c .before .c .given .1))
-
-enum-known-f : tie.Need-enum-known-f
-enum-known-f c = search needs
+tables-in-order-requires : tie.Need-tables-in-order-requires
+tables-in-order-requires c κs = search needs
 
 returns-3 : tie.Need-returns-3
 unfolding labelOf
 returns-3 c =
-    let d = c .before .before .before .before in
-    let n = d .before .before .before in
-    rw (sym (n .before .is-name .ensures) ∙ not-false _ (n .if1 .left), eq-eqb _ _ (d .before .if2 .left), sym (d .read-tables .ensures) ∙ c .before .before .c .given .1) (c .finish .ensures)
+    search (
+      tests,
+      sym (c .before .before .before .before .before .before .is-name .ensures) ∙ not-false _ (c .before .before .before .before .before .if1 .left),
+      ← c .before .before .before .bits .ensures,
+      sym (c .before .tables-in-order .ensures) ∙ not-true _ (c .if3 .taken),
+    )
+
+count-entries-requires : tie.Need-count-entries-requires
+count-entries-requires c κs = (search needs, sym (c .before .tables-in-order .ensures) ∙ not-false _ (c .if3 .left))
+
+finish-requires : tie.Need-finish-requires
+finish-requires c κs =
+    (search needs, rw (c .count-entries .ensures) (counts-small _ (sym (c .before .before .tables-in-order .ensures) ∙ not-false _ (c .before .if3 .left))))
 
 returns-4 : tie.Need-returns-4
 unfolding labelOf
 returns-4 c =
-    let d = c .before .before .before in
-    let n = d .before .before .before in
-    rw (sym (n .before .is-name .ensures) ∙ not-false _ (n .if1 .left), eq-eqb _ _ (d .before .if2 .left), sym (d .read-tables .ensures) ∙ c .before .f .given .1)
+    rw (
+      sym (c .before .before .before .before .before .before .before .before .is-name .ensures) ∙ not-false _ (c .before .before .before .before .before .before .before .if1 .left),
+      ← c .before .before .before .before .before .bits .ensures,
+      eq-eqb _ _ (c .before .before .before .before .if2 .left),
+      sym (c .before .before .before .tables-in-order .ensures) ∙ not-false _ (c .before .before .if3 .left),
+      ← c .before .count-entries .ensures,
+    )
+    (c .finish .ensures)
 
 pub read-label-spec : {M : Type 1} → statement M
 read-label-spec =
@@ -61,11 +80,11 @@ read-label-spec =
     shared-slice-read-is-name-2
     is-name-requires
     returns
-    shared-slice-read-if2
+    shared-slice-read-bits
+    bits-requires
     returns-2
-    read-tables-requires
-    enum-known-c
-    finish-requires
-    enum-known-f
+    tables-in-order-requires
     returns-3
+    count-entries-requires
+    finish-requires
     returns-4)

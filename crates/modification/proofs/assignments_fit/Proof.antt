@@ -5,7 +5,7 @@ use borrow.Author.Tests.{eq-eqb}
 use Rattle.word.proofs.Tests.{tests}
 use Rattle.lists.proofs.Kept.{numbers-length}
 use Rattle.modification.specs.Assignments.{assignmentsFit}
-use Rattle.modification.proofs.Near.{take-numbers}
+use Rattle.modification.proofs.Channels.{take-numbers}
 use Prim.Native.Nat.{_+_}
 use borrow.Author.Needs.{needs}
 use Rattle.modification.proofs.assignments_fit.Statement.{statement}
@@ -25,19 +25,19 @@ returns-2 : tie.Need-returns-2
 unfolding assignmentsFit
 returns-2 c = search (tests, numbers-length)
 
-add-near-fit : tie.Need-add-near-fit
-add-near-fit c = search needs
+add-channels-fit : tie.Need-add-channels-fit
+add-channels-fit c = search needs
 
-near-fit-requires : tie.Need-near-fit-requires
-near-fit-requires c κs = search needs
+channels-fit-requires : tie.Need-channels-fit-requires
+channels-fit-requires c κs = search needs
 
 returns-3 : tie.Need-returns-3
 unfolding assignmentsFit
 returns-3 c =
     let a = c .before .before .before .before .before .before .before .before .args in
-    rw (numbers-length (now (a .ios)) (a .n), eq-eqb _ _ (c .before .before .before .before .if1 .left), eq-eqb _ _ (c .before .before .if2 .left), take-numbers (now (a .ios)) (a .l .switches + a .l .channels) (a .n) (omega arith)) (c .near-fit .ensures)
+    rw (numbers-length (now (a .ios)) (a .n), eq-eqb _ _ (c .before .before .before .before .if1 .left), eq-eqb _ _ (c .before .before .if2 .left), take-numbers (now (a .ios)) (a .l .switches + a .l .channels) (a .n) (omega arith)) (c .channels-fit .ensures)
 
 pub assignments-fit-spec : {M : Type 1} → statement M
 assignments-fit-spec =
     tie.close
-    (tie.spec add-if1 add-if1-2 returns returns-2 add-near-fit near-fit-requires returns-3)
+    (tie.spec add-if1 add-if1-2 returns returns-2 add-channels-fit channels-fit-requires returns-3)

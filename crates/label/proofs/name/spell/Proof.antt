@@ -1,5 +1,5 @@
 -- `label::name::spell` meets its contract: each return by the tests that led to it. Assumes nothing.
-use Rattle.label.specs.Spelling.{nextSpelling}
+use Rattle.label.specs.HowSpelling.{nextSpelling}
 use borrow.Author.Needs.{needs}
 use Rattle.label.proofs.name.spell.Statement.{statement}
 use Rattle.label.proofs.name.spell.Tie as tie

@@ -1,6 +1,6 @@
 -- `label::name::spell_first` meets its contract: each return by the tests that led to it. Assumes nothing.
 use mathlib.Core.Path.{sym, _∙_}
-use Rattle.label.specs.Spelling.{nextSpelling}
+use Rattle.label.specs.HowSpelling.{nextSpelling}
 use borrow.Author.Needs.{needs}
 use Rattle.label.proofs.name.spell_first.Statement.{statement}
 use Rattle.label.proofs.name.spell_first.Tie as tie

@@ -1,7 +1,7 @@
 -- `label::name::spell_inside` meets its contract: each return by the tests that led to it. Assumes nothing.
 use mathlib.Core.Path.{sym, _∙_}
 use Rattle.word.proofs.Tests.{tests}
-use Rattle.label.specs.Spelling.{nextSpelling}
+use Rattle.label.specs.HowSpelling.{nextSpelling}
 use borrow.Author.Needs.{needs}
 use Rattle.label.proofs.name.spell_inside.Statement.{statement}
 use Rattle.label.proofs.name.spell_inside.Tie as tie

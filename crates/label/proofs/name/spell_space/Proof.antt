@@ -1,6 +1,6 @@
 -- `label::name::spell_space` meets its contract: each return by the tests that led to it. Assumes nothing.
 use Rattle.word.proofs.Tests.{tests}
-use Rattle.label.specs.Spelling.{nextSpelling}
+use Rattle.label.specs.HowSpelling.{nextSpelling}
 use Rattle.label.proofs.name.spell_space.Statement.{statement}
 use Rattle.label.proofs.name.spell_space.Tie as tie
 

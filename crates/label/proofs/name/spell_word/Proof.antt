@@ -4,7 +4,7 @@ use mathlib.Core.Path.{_≡_, refl}
 use native.Mathlib.Omega.{arith}
 use borrow.Author.Needs.{needs}
 use Rattle.block.specs.Fieldata.{characters}
-use Rattle.label.specs.Spelling.{spelled}
+use Rattle.label.specs.HowSpelling.{spelled}
 use Rattle.label.proofs.Spelt.{spelled-more, spelled-end}
 use Rattle.label.proofs.name.spell_word.Statement.{statement}
 use Rattle.label.proofs.name.spell_word.Tie as tie

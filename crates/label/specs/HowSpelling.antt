@@ -1,4 +1,5 @@
--- How the code reads a name, a character at a time. That this tells what `isName` tells is `name-spelled` in proofs/Spelt.antt.
+-- how the code goes, not a rule of 01
+-- A name read a character at a time. That this tells what `isName` tells is `name-spelled` in proofs/Spelt.antt.
 use Prim.Native.Nat.{ℕ}
 use mathlib.Core.Bool.{cond}
 use mathlib.Core.List.{List, [], _∷_}

@@ -10,20 +10,20 @@ use Rattle.word.specs.Lists.{every}
 use Rattle.word.proofs.Lists.{take-tab, every-more, every-fails, every-ends}
 use Rattle.lists.specs.Kept.{numberIn, numbersIn}
 use Rattle.lists.proofs.Kept.{numbers-length, numbers-at}
-use Rattle.modification.specs.Assignments.{isNear}
+use Rattle.modification.specs.Assignments.{channelMost, isChannel}
 
 module _ (ws : List ℕ) (m k : ℕ) (b : Bool) where
   long : k < m → k < length (numbersIn ws m)
   long h = omega (arith, numbers-length ws m)
 
-  pub near-more : (r : ℕ) → k < m → r ≡ numberIn ws k → r ≤ 15 → b ≡ every isNear (drop k (numbersIn ws m)) → b ≡ every isNear (drop (k + 1) (numbersIn ws m))
-  near-more r h e l = every-more isNear 0 (numbersIn ws m) k b (long h) (rw (numbers-at ws m k h, ← e) (le-leb r 15 l))
+  pub channels-more : (r : ℕ) → k < m → r ≡ numberIn ws k → r ≤ channelMost → b ≡ every isChannel (drop k (numbersIn ws m)) → b ≡ every isChannel (drop (k + 1) (numbersIn ws m))
+  channels-more r h e l = every-more isChannel 0 (numbersIn ws m) k b (long h) (rw (numbers-at ws m k h, ← e) (le-leb r channelMost l))
 
-  pub near-fails : (r : ℕ) → k < m → r ≡ numberIn ws k → 15 < r → b ≡ every isNear (drop k (numbersIn ws m)) → false ≡ b
-  near-fails r h e l = every-fails isNear 0 (numbersIn ws m) k b (long h) (rw (numbers-at ws m k h, ← e) (lt-leb r 15 l))
+  pub channels-fails : (r : ℕ) → k < m → r ≡ numberIn ws k → channelMost < r → b ≡ every isChannel (drop k (numbersIn ws m)) → false ≡ b
+  channels-fails r h e l = every-fails isChannel 0 (numbersIn ws m) k b (long h) (rw (numbers-at ws m k h, ← e) (lt-leb r channelMost l))
 
-  pub near-ends : m ≤ k → b ≡ every isNear (drop k (numbersIn ws m)) → true ≡ b
-  near-ends h = every-ends isNear 0 (numbersIn ws m) k b (omega (arith, numbers-length ws m))
+  pub channels-ends : m ≤ k → b ≡ every isChannel (drop k (numbersIn ws m)) → true ≡ b
+  channels-ends h = every-ends isChannel 0 (numbersIn ws m) k b (omega (arith, numbers-length ws m))
 
 pub take-numbers : (ws : List ℕ) (m n : ℕ) → m ≤ n → take m (numbersIn ws n) ≡ numbersIn ws m
 unfolding numbersIn

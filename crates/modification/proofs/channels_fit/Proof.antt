@@ -1,4 +1,4 @@
--- `modification::near_fit` meets its contract: by the loop's invariant. Assumes nothing.
+-- `modification::channels_fit` meets its contract: by the loop's invariant. Assumes nothing.
 use Prim.Native.Nat.{_≤_, _-_}
 use mathlib.Core.Path.{_≡_, refl}
 use native.Mathlib.Omega.{arith}
@@ -6,13 +6,13 @@ use borrow.Author.Needs.{needs}
 use lib.ListN.{drop}
 use Rattle.word.specs.Lists.{every}
 use Rattle.lists.specs.Kept.{numbersIn}
-use Rattle.modification.specs.Assignments.{isNear}
-use Rattle.modification.proofs.Near.{near-more, near-fails, near-ends}
-use Rattle.modification.proofs.near_fit.Statement.{statement}
-use Rattle.modification.proofs.near_fit.Tie as tie
+use Rattle.modification.specs.Assignments.{isChannel}
+use Rattle.modification.proofs.Channels.{channels-more, channels-fails, channels-ends}
+use Rattle.modification.proofs.channels_fit.Statement.{statement}
+use Rattle.modification.proofs.channels_fit.Tie as tie
 
 abbrev Inv-loop : tie.InvT-loop
-Inv-loop ios m k₀ k = (k ≤ m) × (every isNear (numbersIn ios m) ≡ every isNear (drop k (numbersIn ios m)))
+Inv-loop ios m k₀ k = (k ≤ m) × (every isChannel (numbersIn ios m) ≡ every isChannel (drop k (numbersIn ios m)))
 
 abbrev μ-loop : tie.MeasureT-loop
 μ-loop ios m k₀ k = m - k
@@ -26,7 +26,7 @@ io-number-requires c κs = search needs
 returns : tie.Need-returns Inv-loop μ-loop
 returns c =
     let l = c .before .before .before .loop in
-    near-fails _ _ (l .k) _ _ (omega arith) (c .before .io-number .ensures) (c .if1 .taken) (l .inv .1)
+    channels-fails _ _ (l .k) _ _ (omega arith) (c .before .io-number .ensures) (c .if1 .taken) (l .inv .1)
 
 add-k : tie.Need-add-k Inv-loop μ-loop
 add-k c = omega arith
@@ -37,15 +37,15 @@ loop-less c = omega arith
 loop-again : tie.Need-loop-again Inv-loop μ-loop
 loop-again c =
     let l = c .before .before .before .loop in
-    (omega arith, near-more _ _ (l .k) _ _ (omega arith) (c .before .io-number .ensures) (c .if1 .left) (l .inv .1))
+    (omega arith, channels-more _ _ (l .k) _ _ (omega arith) (c .before .io-number .ensures) (c .if1 .left) (l .inv .1))
 
 returns-2 : tie.Need-returns-2 Inv-loop μ-loop
 returns-2 c =
     let l = c .before .loop in
-    near-ends _ _ (l .k) _ (omega arith) (l .inv .1)
+    channels-ends _ _ (l .k) _ (omega arith) (l .inv .1)
 
-pub near-fit-spec : {M : Type 1} → statement M
-near-fit-spec =
+pub channels-fit-spec : {M : Type 1} → statement M
+channels-fit-spec =
     tie.close
     (tie.spec
     Inv-loop
