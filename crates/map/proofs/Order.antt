@@ -13,7 +13,7 @@ use Rattle.word.specs.Lists.{every, everyTwo}
 use Rattle.word.proofs.Cases.{by-test, by-lt, and-left, and-right, and-both}
 use Rattle.map.specs.declared.Stretch.{Stretch}
 use Rattle.map.specs.Map.{inCore, stretchesApart, mapObeys, none}
-use Rattle.map.specs.Order.{inOrder}
+use Rattle.map.specs.HowOrder.{inOrder}
 use Rattle.map.proofs.Map.{in-core-says, stretches-apart-says}
 
 -- ---- what the order says

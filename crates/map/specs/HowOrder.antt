@@ -1,3 +1,4 @@
+-- how the code goes, not a rule of 01
 -- A map whose stretches stand in the order of their rooms, as the code looks at it first.
 use Prim.Native.Nat.{ℕ, _+_}
 use mathlib.Core.Bool.{Bool, true, cond, _&&_}

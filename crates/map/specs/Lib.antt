@@ -1,2 +1,2 @@
 pub mod Map
-pub mod Order
+pub mod HowOrder

@@ -6,7 +6,7 @@ ghost use lib.ListN.{length, getD, drop};
 ghost use Rattle.word.specs.Lists.{every, everyTwo};
 ghost use Rattle.word.specs.Limits.{roomCount, mapWords};
 ghost use Rattle.map.specs.Map.{none, stretchOf, mapOf, inCore, stretchesApart, mapObeys};
-ghost use Rattle.map.specs.Order.{inOrder};
+ghost use Rattle.map.specs.HowOrder.{inOrder};
 use word::Absolute;
 use word::limits::MAP_WORDS;
 use word::limits::ROOMS;

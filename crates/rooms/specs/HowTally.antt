@@ -1,3 +1,4 @@
+-- how the code goes, not a rule of 01
 -- All counts of the holders at once, as the code makes them in one pass: how many places are free, how many each room holds, and
 -- how many holders are no room's.
 use Prim.Native.Nat.{ℕ, _+_}

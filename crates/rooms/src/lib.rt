@@ -5,7 +5,7 @@ ghost use Prim.Native.Nat.{_≤_, _<_};
 ghost use lib.ListN.{length};
 ghost use Rattle.word.specs.Lists.{splice};
 ghost use Rattle.word.specs.Limits.{roomCount};
-ghost use Rattle.rooms.specs.Tally.{slotOf, tallied};
+ghost use Rattle.rooms.specs.HowTally.{slotOf, tallied};
 ghost use Rattle.rooms.specs.Rooms.{hit, count, free, held, idle, fair, heldPlaces, lowestFree, placeRefusal};
 use word::limits::ROOMS;
 

@@ -4,7 +4,7 @@ use mathlib.Core.Path.{_≡_}
 use native.Mathlib.Omega.{arith}
 use borrow.Author.Needs.{needs}
 use lib.ListN.{drop}
-use Rattle.map.specs.Order.{inOrder}
+use Rattle.map.specs.HowOrder.{inOrder}
 use Rattle.map.proofs.Order.{order-past, order-away, order-skip, order-long, order-next, order-starts, order-fails, order-more, order-ends}
 use Rattle.map.proofs.in_order.Statement.{statement}
 use Rattle.map.proofs.in_order.Tie as tie

@@ -1,6 +1,6 @@
 -- `rooms::slot` meets its contract, by its test. Assumes nothing.
 use Rattle.word.proofs.Tests.{tests}
-use Rattle.rooms.specs.Tally.{slotOf}
+use Rattle.rooms.specs.HowTally.{slotOf}
 use Rattle.rooms.proofs.slot.Statement.{statement}
 use Rattle.rooms.proofs.slot.Tie as tie
 
