@@ -21,9 +21,10 @@ use Rattle.demands.specs.HandDeck.{deckGiven}
 use Rattle.block.specs.Records.{modification, program, termination}
 use Rattle.modification.specs.Assignments.{assignmentsFit}
 use Rattle.program.specs.Start.{inBank}
-use Rattle.stage.specs.declared.Stage.the-variants.{Label, Segment, Complete}
+use Rattle.stage.specs.declared.Due.the-variants.{Segment}
+use Rattle.stage.specs.declared.Stage.the-variants.{Label, Program, Complete}
 use Rattle.stage.specs.Ranges.{bankFits}
-use Rattle.step.specs.Due.{recordDue, isOver}
+use Rattle.stage.specs.Record.{recordDue, isOver}
 use Rattle.step.specs.Label.{afterLabel, withLabel, labelStep}
 use Rattle.step.specs.Termination.{terminationStep}
 use Rattle.sections.specs.Heads.{banksFit, withSegment, segmentStep}
@@ -50,7 +51,7 @@ abbrev core : List ℕ
 core = replicate 576 0
 
 abbrev afterwards : List ℕ
-afterwards = blockStep deckGiven (Segment (record { near = 0; sections = 0 })) deckProgram core .core
+afterwards = blockStep deckGiven (Program (record { near = 0; sections = 0 }) Segment) deckProgram core .core
 
 pub deck-taken : Takes deckGiven Label core deckFile Complete afterwards
 unfolding deckLabel deckProgram deckTermination withWords blank labelOf isName isRest letterOrDigit every characters tableTally tallied

@@ -13,7 +13,7 @@ use Rattle.word.specs.declared.Absolute.{Absolute}
 use Rattle.word.proofs.Cases.{by-eq, when}
 use Rattle.block.specs.declared.Verdict.{Verdict}
 use Rattle.block.specs.declared.Verdict.the-variants.{Pass, Refused as refused-block}
-use Rattle.step.specs.Due.{isOver}
+use Rattle.stage.specs.Record.{isOver}
 use Rattle.layout.specs.Layout.{coreLength, placeIn, holderOf, stageIn}
 use Rattle.desk.specs.Sound.{sound}
 use Rattle.calls.specs.Outcome.{Outcome}

@@ -15,11 +15,12 @@ use Rattle.block.specs.declared.Verdict.{Verdict}
 use Rattle.block.specs.declared.Verdict.the-variants.{Pass, Refused as refused-block}
 use Rattle.block.specs.Block.{verdict}
 use Rattle.stage.specs.declared.Stage.{Stage}
-use Rattle.stage.specs.declared.Stage.the-variants.{Label, Entry, Segment, SegmentGroup, Table, TableGroup, Termination, Complete, Broken}
+use Rattle.stage.specs.declared.Stage.the-variants.{Complete, Broken}
 use Rattle.stage.specs.Stage.{numbersOf}
-use Rattle.step.specs.declared.Step.{Step}
-use Rattle.step.specs.declared.Step.the-variants.{More as step-more, Done as step-done, Refused as step-refused}
-use Rattle.step.specs.Due.{recordDue, isOver}
+use Rattle.stage.proofs.Back.{stage-length}
+use Rattle.stage.specs.declared.Step.{Step}
+use Rattle.stage.specs.declared.Step.the-variants.{More as step-more, Done as step-done, Refused as step-refused}
+use Rattle.stage.specs.Record.{recordDue, isOver}
 use Rattle.rooms.specs.Rooms.{hit, held, lowestFree, placeRefusal}
 use Rattle.rooms.proofs.Count.{hit-yes, hit-no, lowest-is-free}
 use Rattle.rooms.proofs.Rooms.{held-set, given-place}
@@ -143,18 +144,6 @@ module _ (d : List ℕ) (s : sound d ≡ true) (n q p : ℕ) where
       refl) refl) refl
 
 -- ---- feed: it writes a stage and nothing else on the desk
-stage-length : (t : Stage) → length (numbersOf t) ≡ 9
-unfolding numbersOf
-stage-length Label = refl
-stage-length (Entry c strict b) = refl
-stage-length (Segment c) = refl
-stage-length (SegmentGroup c g) = refl
-stage-length (Table c t i) = refl
-stage-length (TableGroup c t i) = refl
-stage-length (Termination i) = refl
-stage-length Complete = refl
-stage-length Broken = refl
-
 pub record Same (d e : List ℕ) : Type 0 where
   pub holders-same : holders e ≡ holders d
   pub core-same : coreLength e ≡ coreLength d

@@ -21,11 +21,13 @@ use Rattle.program.specs.Start.{startOf, inBank}
 use Rattle.lists.specs.Obey.{tableInside}
 use Rattle.group.specs.declared.Section.{Section}
 use Rattle.stage.specs.declared.Course.{Course}
+use Rattle.stage.specs.declared.Due.{Due}
+use Rattle.stage.specs.declared.Due.the-variants.{Segment as segment-due}
 use Rattle.stage.specs.declared.Stage.{Stage}
-use Rattle.stage.specs.declared.Stage.the-variants.{Label, Entry, Segment as segment-due, SegmentGroup, Table as table-due, TableGroup, Termination, Complete, Broken}
-use Rattle.step.specs.declared.Step.{Step}
-use Rattle.step.specs.declared.Step.the-variants.{More, Done, Refused}
-use Rattle.step.specs.Due.{recordDue, isOver}
+use Rattle.stage.specs.declared.Stage.the-variants.{Label, Entry, Program, Termination, Complete, Broken}
+use Rattle.stage.specs.declared.Step.{Step}
+use Rattle.stage.specs.declared.Step.the-variants.{More, Done, Refused}
+use Rattle.stage.specs.Record.{recordDue, isOver}
 use Rattle.step.specs.Label.{courseOf, afterLabel, withLabel, labelStep}
 use Rattle.step.specs.Entries.{entriesFit, afterEntries, entryStep}
 use Rattle.step.specs.Termination.{terminationStep}
@@ -58,18 +60,18 @@ module _ (x : Load) (after : List ℕ) where
   module _ (near : ℕ) (tables : every (tableInside (x .area)) (x .tables) ≡ true) where
     module _ (block : List ℕ) (blocks : List (List ℕ)) (core : List ℕ)
         (ih : (s : Stage) (core′ : List ℕ) → Takes x s core′ blocks Complete after → Reads x near after s core′ (pieces blocks)) where
-      program-by : (s : Stage) (r : Step) → programStep x s block core .step ≡ r → GoesOn r
-          → TakesBy r (λ u. Takes x u (programStep x s block core .core) blocks Complete after)
-          → Reads x near after s core (pieces (block ∷ blocks))
+      program-by : (c : Course) (due : Due) (r : Step) → programStep x c due block core .step ≡ r → GoesOn r
+          → TakesBy r (λ u. Takes x u (programStep x c due block core .core) blocks Complete after)
+          → Reads x near after (Program c due) core (pieces (block ∷ blocks))
       unfolding programStep pieces
-      program-by s (More t) e g h =
-          program-leads x near tables block t (pieces blocks) after 254 s 1 core e (ih t _ h)
-      program-by s (Done a) e g h = absurd g
-      program-by s (Refused f) e g h = absurd h
+      program-by c due (More t) e g h =
+          program-leads x near tables block t (pieces blocks) after 254 c due 1 core e (ih t _ h)
+      program-by c due (Done a) e g h = absurd g
+      program-by c due (Refused f) e g h = absurd h
 
-      program-run : (s : Stage) → Then blocks (programStep x s block core) → Reads x near after s core (pieces (block ∷ blocks))
+      program-run : (c : Course) (due : Due) → Then blocks (programStep x c due block core) → Reads x near after (Program c due) core (pieces (block ∷ blocks))
       unfolding programStep
-      program-run s h = program-by s (programStep x s block core .step) refl (program-goes x block 254 s 1 core) h
+      program-run c due h = program-by c due (programStep x c due block core .step) refl (program-goes x block 254 c due 1 core) h
 
       over : (section : Section) (ps : List Piece) → Takes x Complete core blocks Complete after
           → Comes (x .area) core (storesFrom (given x near) 0 section ps) after
@@ -90,10 +92,7 @@ module _ (x : Load) (after : List ℕ) where
       unfolding dueStep
       due-run Label h section st = absurd st
       due-run (Entry c strict b) h section st = absurd st
-      due-run (segment-due c) h section st = program-run (segment-due c) h section st
-      due-run (SegmentGroup c g) h section st = program-run (SegmentGroup c g) h section st
-      due-run (table-due c t b) h section st = program-run (table-due c t b) h section st
-      due-run (TableGroup c t b) h section st = program-run (TableGroup c t b) h section st
+      due-run (Program c due) h section st = program-run c due h section st
       due-run (Termination b) h section st = termination-run b h section st
       due-run Complete h section st = absurd st
       due-run Broken h section st = absurd st
@@ -114,7 +113,7 @@ module _ (x : Load) (after : List ℕ) where
 
     module _ (c : Course) (strict : Bool) where
       abbrev Left : ℕ → List ℕ → List (List ℕ) → Type 0
-      Left n core blocks = Reads x near after (segment-due c) core (pieces (drop n blocks))
+      Left n core blocks = Reads x near after (Program c segment-due) core (pieces (drop n blocks))
 
       entry-run : (b : ℕ) (core : List ℕ) (blocks : List (List ℕ)) → b < many → Takes x (Entry c strict b) core blocks Complete after
           → Left (many - b) core blocks
@@ -126,7 +125,7 @@ module _ (x : Load) (after : List ℕ) where
           (entriesFit (length (x .ios)) (x .tables) strict b block)
           (λ _. when (λ (s : Stage). Takes x s core blocks Complete after → Left (many - b) core (block ∷ blocks)) (ltb (b + 1) many)
           (λ q k. rw (next (ltb-true (b + 1) many q)) (entry-run (b + 1) core blocks (ltb-true (b + 1) many q) k))
-          (λ q k. rw (last (ltb-false (b + 1) many q)) (run (segment-due c) core blocks k)))
+          (λ q k. rw (last (ltb-false (b + 1) many q)) (run (Program c segment-due) core blocks k)))
           (λ _ k. absurd k))
           (λ _ k. absurd k)
           (h .1)
@@ -144,7 +143,7 @@ module _ (x : Load) (after : List ℕ) where
 
     -- the lists have as many entries as the label says
     beyond : (l : LabelWords) → assignmentsFit l (x .ios) (length (x .tables)) ≡ true
-        → Reads x (nearCount l) after (segment-due (courseOf l)) core (pieces (drop (many (nearCount l) tables) blocks)) → Whole (label-read l)
+        → Reads x (nearCount l) after (Program (courseOf l) segment-due) core (pieces (drop (many (nearCount l) tables) blocks)) → Whole (label-read l)
     unfolding assignmentsFit storesBeyond
     beyond l q h =
         let a : length (x .ios) ≡ ioCount l = eqb-true _ _ (and-left (eqb (length (x .ios)) (ioCount l)) _ q) in
@@ -158,7 +157,7 @@ module _ (x : Load) (after : List ℕ) where
     unfolding afterLabel
     label-by l f =
         when (λ (s : Stage). Takes x s core blocks Complete after → Whole (label-read l)) (eqb (many (nearCount l) tables) 0)
-        (λ q k. beyond l f (rw (eqb-true (many (nearCount l) tables) 0 q) (run (nearCount l) tables (segment-due (courseOf l)) core blocks k)))
+        (λ q k. beyond l f (rw (eqb-true (many (nearCount l) tables) 0 q) (run (nearCount l) tables (Program (courseOf l) segment-due) core blocks k)))
         (λ q k. let e : many (nearCount l) tables - 0 ≡ many (nearCount l) tables = omega arith in
         beyond l f (rw e at (entry-run (nearCount l) tables (courseOf l) (l .strict) 0 core blocks (some q) k)))
       where

@@ -18,9 +18,9 @@ use Rattle.lists.specs.Obey.{tablesOf, tableInside}
 use Rattle.lists.proofs.Keep.{lists-obey}
 use Rattle.stage.specs.declared.Stage.{Stage}
 use Rattle.stage.specs.declared.Stage.the-variants.{Label, Complete, Broken}
-use Rattle.step.specs.declared.Step.{Step}
-use Rattle.step.specs.declared.Step.the-variants.{More as step-more, Done as step-done, Refused as step-refused}
-use Rattle.step.specs.Due.{isOver}
+use Rattle.stage.specs.declared.Step.{Step}
+use Rattle.stage.specs.declared.Step.the-variants.{More as step-more, Done as step-done, Refused as step-refused}
+use Rattle.stage.specs.Record.{isOver}
 use Rattle.sections.specs.Load.{Load}
 use Rattle.layout.specs.declared.Place.{Place}
 use Rattle.layout.specs.Layout.{placeIn, holderOf, ownOf, stageIn, holders}

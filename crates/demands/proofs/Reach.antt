@@ -14,9 +14,9 @@ use Rattle.block.specs.declared.Verdict.{Verdict}
 use Rattle.block.specs.declared.Verdict.the-variants.{Pass, Refused as refused-block}
 use Rattle.stage.specs.declared.Stage.{Stage}
 use Rattle.stage.specs.declared.Stage.the-variants.{Complete, Broken}
-use Rattle.step.specs.declared.Step.{Step}
-use Rattle.step.specs.declared.Step.the-variants.{More as step-more, Done as step-done, Refused as step-refused}
-use Rattle.step.specs.Due.{isOver}
+use Rattle.stage.specs.declared.Step.{Step}
+use Rattle.stage.specs.declared.Step.the-variants.{More as step-more, Done as step-done, Refused as step-refused}
+use Rattle.stage.specs.Record.{isOver}
 use Rattle.layout.specs.Layout.{coreLength, placeIn, holderIn, holderOf, ownOf, stageIn}
 use Rattle.layout.proofs.Places.{holder-at}
 use Rattle.desk.specs.Sound.{sound}

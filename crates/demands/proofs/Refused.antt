@@ -15,6 +15,7 @@ use Rattle.word.proofs.Lists.{length-splice}
 use Rattle.word.proofs.Stretch.{length-cleared, getD-cleared-beside, getD-splice-beside}
 use Rattle.stage.specs.declared.Stage.the-variants.{Broken}
 use Rattle.stage.specs.Stage.{numbersOf}
+use Rattle.stage.proofs.Back.{stage-length}
 use Rattle.map.specs.Map.{mapOf, mapObeys}
 use Rattle.rooms.specs.Rooms.{held, free, idle, placeRefusal}
 use Rattle.lists.specs.Obey.{listsObey}
@@ -40,7 +41,7 @@ use Rattle.feed.proofs.Wiped.{getD-cleared-in}
 use Rattle.demands.specs.History.{State, Call, answerTo, call}
 use Rattle.demands.specs.History.Call.{Open, Feed, Release}
 use Rattle.demands.specs.Demands.{BrokenOff, Demand1One, Demand1Number, Demand1Unchanged, Demand1Broken, Demand1Sound}
-use Rattle.demands.proofs.Views.{numbers-nine, outside-beside, staged-stage}
+use Rattle.demands.proofs.Views.{outside-beside, staged-stage}
 use Rattle.demands.proofs.Reach.{leftBy}
 use Rattle.demands.proofs.Calls.{call-ready}
 use Rattle.demands.proofs.Served.{made-ready}
@@ -167,12 +168,12 @@ module _ (s : State) (r p : ℕ) (block : List ℕ) where
     in-core = let k = holds-place (s .desk) r p h in rw e (held-inside (s .desk) ok p (k .0) (k .1))
 
     in-desk : base p + 6 + length (numbersOf Broken) ≤ length (s .desk)
-    in-desk = omega (arith, holds-place (s .desk) r p h .0, sound-long (s .desk) ok, numbers-nine Broken)
+    in-desk = omega (arith, holds-place (s .desk) r p h .0, sound-long (s .desk) ok, stage-length Broken)
 
     broken-off : BrokenOff p area s (record { desk = staged (s .desk) p Broken; core = wiped area (s .core) })
     broken-off =
         let k = holds-place (s .desk) r p h in
-        let n = numbers-nine Broken in record {
+        let n = stage-length Broken in record {
           inside = in-core;
           zeros = λ j a b. getD-cleared-in (s .core) _ _ j in-core a b;
           beside = λ j o. getD-cleared-beside (s .core) _ _ j in-core (outside-beside j _ _ o);

@@ -36,10 +36,12 @@ use Rattle.group.specs.Group.{Outcome, wordsIn, bitsIn, groupStep, InArea}
 use Rattle.group.proofs.Homes.{Lies, home-lies}
 use Rattle.group.proofs.Group.{Housed, Gives, changed-many, group-outcomes}
 use Rattle.stage.specs.declared.Course.{Course}
+use Rattle.stage.specs.declared.Due.{Due}
+use Rattle.stage.specs.declared.Due.the-variants.{Segment as segment-due, SegmentGroup, Section as section-due, SectionGroup}
 use Rattle.stage.specs.declared.Stage.{Stage}
-use Rattle.stage.specs.declared.Stage.the-variants.{Label, Entry, Segment as segment-due, SegmentGroup, Table as table-due, TableGroup, Termination, Complete, Broken}
+use Rattle.stage.specs.declared.Stage.the-variants.{Label, Entry, Program, Termination, Complete, Broken}
 use Rattle.stage.specs.Ranges.{bankFits, countFits}
-use Rattle.step.specs.declared.Step.the-variants.{More, Refused}
+use Rattle.stage.specs.declared.Step.the-variants.{More, Refused}
 use Rattle.sections.specs.declared.Item.{Item}
 use Rattle.sections.specs.declared.Item.the-variants.{Go, Stop}
 use Rattle.sections.specs.Load.{Load, assignments}
@@ -64,10 +66,10 @@ comes-on area core after s later h c = record { last = c .last; inside = (h, c .
 abbrev pub leftIn : Stage → ℕ
 leftIn Label = 0
 leftIn (Entry c strict b) = 0
-leftIn (segment-due c) = suc (c .sections)
-leftIn (SegmentGroup c g) = suc (c .sections)
-leftIn (table-due c t b) = suc (c .sections - 1)
-leftIn (TableGroup c t b) = suc (c .sections)
+leftIn (Program c segment-due) = suc (c .sections)
+leftIn (Program c (SegmentGroup g)) = suc (c .sections)
+leftIn (Program c (section-due t b)) = suc (c .sections - 1)
+leftIn (Program c (SectionGroup t b)) = suc (c .sections)
 leftIn (Termination b) = 0
 leftIn Complete = 0
 leftIn Broken = 0
@@ -84,10 +86,10 @@ pub record Housing (x : Load) (near : ℕ) (c : Course) (own section : Section) 
 abbrev pub Stands : Load → ℕ → Stage → Section → Type 0
 Stands x near Label section = ⊥
 Stands x near (Entry c strict b) section = ⊥
-Stands x near (segment-due c) section = c .near ≡ near
-Stands x near (SegmentGroup c g) section = Housing x near c (InSegment g) section
-Stands x near (table-due c t b) section = c .near ≡ near
-Stands x near (TableGroup c t b) section = Housing x near c (tableSection (x .tables) t) section
+Stands x near (Program c segment-due) section = c .near ≡ near
+Stands x near (Program c (SegmentGroup g)) section = Housing x near c (InSegment g) section
+Stands x near (Program c (section-due t b)) section = c .near ≡ near
+Stands x near (Program c (SectionGroup t b)) section = Housing x near c (tableSection (x .tables) t) section
 Stands x near (Termination b) section = Unit {0}
 Stands x near Complete section = ⊥
 Stands x near Broken section = ⊥
@@ -134,16 +136,17 @@ module _ (x : Load) (near : ℕ) (tables : every (tableInside (x .area)) (x .tab
 
   -- the item at place i, and then n items at most
   module _ (n i : ℕ) (core : List ℕ) (more : closes block i ≡ false)
-      (ih : (s : Stage) (p : ℕ) (core′ : List ℕ) → Leads (programFrom n x s block p core′) (Reads x near after s core′ (piecesFrom n block p ++ rest))) where
+      (ih : (d : Course) (u : Due) (p : ℕ) (core′ : List ℕ)
+      → Leads (programFrom n x d u block p core′) (Reads x near after (Program d u) core′ (piecesFrom n block p ++ rest))) where
     abbrev then : Item → List ℕ → StepOutcome
-    then item core′ = followed item core′ (λ s p core″. programFrom n x s block p core″)
+    then item core′ = followed item core′ (λ d u p core″. programFrom n x d u block p core″)
 
     abbrev ps : List Piece
     ps = piecesFrom (suc n) block i ++ rest
 
     -- ---- a group
-    module _ (same : Stage) (c : Course) (least : ℕ) (ibank : Bank) (section : Section) (q : c .near ≡ near) (room : InArea (x .area) section)
-        (left : leftIn same ≡ suc (c .sections)) (stands : Stands x near same section) where
+    module _ (c : Course) (same : Due) (least : ℕ) (ibank : Bank) (section : Section) (q : c .near ≡ near) (room : InArea (x .area) section)
+        (left : leftIn (Program c same) ≡ suc (c .sections)) (stands : Stands x near (Program c same) section) where
       -- m sections are to end after it
       abbrev Goes : ℕ → List ℕ → ℕ → Item → Type 0
       Goes p core′ m item = Leads (then item core′) (Comes (x .area) core′ (storesFrom a m section (piecesFrom n block p ++ rest)) after)
@@ -154,14 +157,14 @@ module _ (x : Load) (near : ℕ) (tables : every (tableInside (x .area)) (x .tab
           (rw (no-stores a section rest) at (stays (Termination ibank) core′ e k section tt))
 
       goes : (p : ℕ) (core′ : List ℕ) (last : Bool)
-          → Goes p core′ (cond last (c .sections) (suc (c .sections))) (cond last (afterLast c least ibank p) (Go same p))
+          → Goes p core′ (cond last (c .sections) (suc (c .sections))) (cond last (afterLast c least ibank p) (Go c same p))
       unfolding afterLast
       goes p core′ true =
           when (Goes p core′ (c .sections)) (eqb (c .sections) 0)
           (λ z. over p core′ (eqb-true (c .sections) 0 z))
           (λ z e k. let s : suc (c .sections - 1) ≡ c .sections = omega (arith, eqb-false (c .sections) 0 z) in
-          rw s at (ih (table-due c (record { 0 = least }) ibank) p core′ e k section q))
-      goes p core′ false = λ e k. rw left at (ih same p core′ e k section stands)
+          rw s at (ih c (section-due (record { 0 = least }) ibank) p core′ e k section q))
+      goes p core′ false = λ e k. rw left at (ih c same p core′ e k section stands)
 
       module _ (g : Group) (to : Absolute) (vs : List ℕ) (h : Housed (assignments x c) section block i g to) (e : Gives (assignments x c) block i g vs) where
         abbrev store : Store
@@ -177,19 +180,19 @@ module _ (x : Load) (near : ℕ) (tables : every (tableInside (x .area)) (x .tab
             let m = rw e at (changed-many (assignments x c) (bitsIn block i g) 0 (wordsIn block i g)) in
             record { first = l .0; last = omega (arith, m, length-range-most block (i + 1) (g .program)) }
 
-        stored-leads : Leads (then (afterGroup same c least ibank (group-answer (i + 1 + g .words) (g .last))) (splice core (to .0) vs))
+        stored-leads : Leads (then (afterGroup c same least ibank (group-answer (i + 1 + g .words) (g .last))) (splice core (to .0) vs))
             (Comes (x .area) core (storesFrom a (suc (c .sections)) section ps) after)
         unfolding afterGroup
         stored-leads r k =
             rw (stores-group block i a (c .sections) section n rest more g (head-group block i g (h .read)), store-is)
             (comes-on (x .area) core after store _ store-inside (goes (i + 1 + g .words) (splice core (to .0) vs) (g .last) r k))
 
-      group-leads : Leads (then (afterGroup same c least ibank (groupStep (assignments x c) section block i core .answer)) (groupStep (assignments x c) section block i core .core))
+      group-leads : Leads (then (afterGroup c same least ibank (groupStep (assignments x c) section block i core .answer)) (groupStep (assignments x c) section block i core .core))
           (Comes (x .area) core (storesFrom a (suc (c .sections)) section ps) after)
       unfolding afterGroup
       group-leads =
           group-outcomes (assignments x c) section block i core
-          (λ (o : Outcome). Leads (then (afterGroup same c least ibank (o .answer)) (o .core)) (Comes (x .area) core (storesFrom a (suc (c .sections)) section ps) after))
+          (λ (o : Outcome). Leads (then (afterGroup c same least ibank (o .answer)) (o .core)) (Comes (x .area) core (storesFrom a (suc (c .sections)) section ps) after))
           (λ f. refuses _ f _)
           (λ g to f h. refuses _ f _)
           (λ g to vs h e. stored-leads g to vs h e)
@@ -197,7 +200,7 @@ module _ (x : Load) (near : ℕ) (tables : every (tableInside (x .area)) (x .tab
     -- ---- the segment's head
     module _ (c : Course) where
       abbrev Heads : Item → Type 0
-      Heads item = Leads (then item core) (Reads x near after (segment-due c) core ps)
+      Heads item = Leads (then item core) (Reads x near after (Program c segment-due) core ps)
 
       segment-read-leads : (r : SegmentRead) → segmentOf (getD block i 0) (getD block (i + 1) 0) ≡ r → Heads (withSegment (x .area) (x .tables) c (i + 4) r)
       unfolding withSegment
@@ -205,7 +208,7 @@ module _ (x : Load) (near : ℕ) (tables : every (tableInside (x .area)) (x .tab
           when Heads (banksFit (x .area) (x .tables) g)
           (λ f r k section st.
           rw (stores-segment block i a (c .sections) section n rest more g (head-segment block i g e))
-          (ih (SegmentGroup c g) (i + 4) core r k (InSegment g) (record { count = st; same = refl; room = banks-room (x .area) (x .tables) g f })))
+          (ih c (SegmentGroup g) (i + 4) core r k (InSegment g) (record { count = st; same = refl; room = banks-room (x .area) (x .tables) g f })))
           (λ f. refuses _ (fault 17) core)
       segment-read-leads (no-segment f) e = refuses _ f core
 
@@ -219,7 +222,7 @@ module _ (x : Load) (near : ℕ) (tables : every (tableInside (x .area)) (x .tab
     -- ---- a table section's head
     module _ (c : Course) (least : ℕ) (ibank : Bank) where
       abbrev Tables : Item → Type 0
-      Tables item = Leads (then item core) (Reads x near after (table-due c (record { 0 = least }) ibank) core ps)
+      Tables item = Leads (then item core) (Reads x near after (Program c (section-due (record { 0 = least }) ibank)) core ps)
 
       section-read-leads : (r : TableSectionRead) → tableSectionOf (getD block i 0) ≡ r → Tables (withSection (x .tables) c least ibank (i + 1) r)
       unfolding withSection
@@ -228,7 +231,7 @@ module _ (x : Load) (near : ℕ) (tables : every (tableInside (x .area)) (x .tab
           (λ _. when Tables (countFits (x .tables) s)
           (λ f r k section st.
           rw (stores-table block i a (c .sections - 1) section n rest more s (head-table block i s e))
-          (ih (TableGroup (record { near = c .near; sections = c .sections - 1 }) s ibank) (i + 1) core r k (tableSection (x .tables) s)
+          (ih (record { near = c .near; sections = c .sections - 1 }) (SectionGroup s ibank) (i + 1) core r k (tableSection (x .tables) s)
           (record { count = st; same = refl; room = table-room (x .area) (x .tables) s tables f })))
           (λ f. refuses _ (fault 17) core))
           (λ _. refuses _ (fault 17) core)
@@ -239,29 +242,24 @@ module _ (x : Load) (near : ℕ) (tables : every (tableInside (x .area)) (x .tab
       section-leads = section-read-leads (tableSectionOf (getD block i 0)) refl
 
     -- ---- the item, by what is due
-    item-leads : (s : Stage) → Leads (then (itemStep x s block i core .item) (itemStep x s block i core .core)) (Reads x near after s core ps)
+    item-leads : (c : Course) (due : Due) → Leads (then (itemStep x c due block i core .item) (itemStep x c due block i core .core)) (Reads x near after (Program c due) core ps)
     unfolding itemStep
-    item-leads Label r k section st = absurd st
-    item-leads (Entry c strict b) r k section st = absurd st
-    item-leads (segment-due c) r k section st = segment-leads c r k section st
-    item-leads (SegmentGroup c g) r k section st =
+    item-leads c segment-due r k section st = segment-leads c r k section st
+    item-leads c (SegmentGroup g) r k section st =
         rw (st .same)
-        (group-leads (SegmentGroup c g) c 0 (g .ibank) (InSegment g) (st .count) (st .room) refl
+        (group-leads c (SegmentGroup g) 0 (g .ibank) (InSegment g) (st .count) (st .room) refl
         (record { count = st .count; same = refl; room = st .room }) r k)
-    item-leads (table-due c u b) r k section st = section-leads c (u .0) b r k section st
-    item-leads (TableGroup c u b) r k section st =
+    item-leads c (section-due u b) r k section st = section-leads c (u .0) b r k section st
+    item-leads c (SectionGroup u b) r k section st =
         rw (st .same)
-        (group-leads (TableGroup c u b) c (u .number .0 + 1) b (tableSection (x .tables) u) (st .count) (st .room) refl
+        (group-leads c (SectionGroup u b) (u .number .0 + 1) b (tableSection (x .tables) u) (st .count) (st .room) refl
         (record { count = st .count; same = refl; room = st .room }) r k)
-    item-leads (Termination b) r k section st =
-        rw (no-stores a section ps) (rw (no-stores a section rest) at (stays (Termination b) core r k section tt))
-    item-leads Complete r k section st = absurd st
-    item-leads Broken r k section st = absurd st
 
-  pub program-leads : (n : ℕ) (s : Stage) (i : ℕ) (core : List ℕ) → Leads (programFrom n x s block i core) (Reads x near after s core (piecesFrom n block i ++ rest))
+  pub program-leads : (n : ℕ) (c : Course) (due : Due) (i : ℕ) (core : List ℕ)
+      → Leads (programFrom n x c due block i core) (Reads x near after (Program c due) core (piecesFrom n block i ++ rest))
   unfolding programFrom
-  program-leads zero s i core = rw (no-fuel block i) (stays s core)
-  program-leads (suc n) s i core =
-      when (λ (o : StepOutcome). Leads o (Reads x near after s core (piecesFrom (suc n) block i ++ rest))) (closes block i)
-      (λ q. rw (no-pieces block i (suc n) q) (stays s core))
-      (λ q. item-leads n i core q (λ u p core′. program-leads n u p core′) s)
+  program-leads zero c due i core = rw (no-fuel block i) (stays (Program c due) core)
+  program-leads (suc n) c due i core =
+      when (λ (o : StepOutcome). Leads o (Reads x near after (Program c due) core (piecesFrom (suc n) block i ++ rest))) (closes block i)
+      (λ q. rw (no-pieces block i (suc n) q) (stays (Program c due) core))
+      (λ q. item-leads n i core q (λ d u p core′. program-leads n d u p core′) c due)

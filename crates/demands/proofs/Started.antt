@@ -25,12 +25,14 @@ use Rattle.program.specs.Start.{startOf, inBank}
 use Rattle.group.specs.declared.GroupStep.{GroupStep}
 use Rattle.group.specs.declared.GroupStep.the-variants.{Done as group-answer, Refused as group-refused}
 use Rattle.stage.specs.declared.Course.{Course}
+use Rattle.stage.specs.declared.Due.{Due}
+use Rattle.stage.specs.declared.Due.the-variants.{Segment as segment-due, SegmentGroup, Section as section-due, SectionGroup}
 use Rattle.stage.specs.declared.Stage.{Stage}
-use Rattle.stage.specs.declared.Stage.the-variants.{Label, Entry, Segment as segment-due, SegmentGroup, Table as table-due, TableGroup, Termination, Complete, Broken}
+use Rattle.stage.specs.declared.Stage.the-variants.{Label, Entry, Program, Termination, Complete, Broken}
 use Rattle.stage.specs.Ranges.{countFits}
-use Rattle.step.specs.declared.Step.{Step}
-use Rattle.step.specs.declared.Step.the-variants.{More, Done, Refused}
-use Rattle.step.specs.Due.{recordDue}
+use Rattle.stage.specs.declared.Step.{Step}
+use Rattle.stage.specs.declared.Step.the-variants.{More, Done, Refused}
+use Rattle.stage.specs.Record.{recordDue}
 use Rattle.step.specs.Label.{withLabel, labelStep}
 use Rattle.step.specs.Entries.{entriesFit, entryStep}
 use Rattle.step.specs.Termination.{terminationStep}
@@ -50,7 +52,7 @@ GoesOn (Refused f) = Unit {0}
 
 -- ---- no block but the last is answered so
 abbrev Goes : Item → Type 0
-Goes (Go s p) = Unit {0}
+Goes (Go c due p) = Unit {0}
 Goes (Stop s) = GoesOn s
 
 module _ (x : Load) (block : List ℕ) where
@@ -74,35 +76,30 @@ module _ (x : Load) (block : List ℕ) where
     unfolding sectionStep
     section-goes least b i = section-read-goes least b (i + 1) (tableSectionOf (getD block i 0))
 
-    group-goes : (same : Stage) (least : ℕ) (b : Bank) (r : GroupStep) → Goes (afterGroup same c least b r)
+    group-goes : (same : Due) (least : ℕ) (b : Bank) (r : GroupStep) → Goes (afterGroup c same least b r)
     unfolding afterGroup afterLast
     group-goes same least b (group-answer p last) = both Goes last (both Goes (eqb (c .sections) 0) tt tt) tt
     group-goes same least b (group-refused f) = tt
 
-  item-goes : (s : Stage) (i : ℕ) (core : List ℕ) → Goes (itemStep x s block i core .item)
+  item-goes : (c : Course) (due : Due) (i : ℕ) (core : List ℕ) → Goes (itemStep x c due block i core .item)
   unfolding itemStep
-  item-goes Label i core = tt
-  item-goes (Entry c strict b) i core = tt
-  item-goes (segment-due c) i core = segment-goes c i
-  item-goes (SegmentGroup c g) i core = group-goes c (SegmentGroup c g) 0 (g .ibank) _
-  item-goes (table-due c t b) i core = section-goes c (t .0) b i
-  item-goes (TableGroup c t b) i core = group-goes c (TableGroup c t b) (t .number .0 + 1) b _
-  item-goes (Termination b) i core = tt
-  item-goes Complete i core = tt
-  item-goes Broken i core = tt
+  item-goes c segment-due i core = segment-goes c i
+  item-goes c (SegmentGroup g) i core = group-goes c (SegmentGroup g) 0 (g .ibank) _
+  item-goes c (section-due t b) i core = section-goes c (t .0) b i
+  item-goes c (SectionGroup t b) i core = group-goes c (SectionGroup t b) (t .number .0 + 1) b _
 
-  followed-goes : (item : Item) (core : List ℕ) (next : Stage → ℕ → List ℕ → StepOutcome) → Goes item
-      → ((s : Stage) (p : ℕ) (core′ : List ℕ) → GoesOn (next s p core′ .step)) → GoesOn (followed item core next .step)
-  followed-goes (Go s p) core next h k = k s p core
+  followed-goes : (item : Item) (core : List ℕ) (next : Course → Due → ℕ → List ℕ → StepOutcome) → Goes item
+      → ((d : Course) (u : Due) (p : ℕ) (core′ : List ℕ) → GoesOn (next d u p core′ .step)) → GoesOn (followed item core next .step)
+  followed-goes (Go d u p) core next h k = k d u p core
   followed-goes (Stop s) core next h k = h
 
-  pub program-goes : (n : ℕ) (s : Stage) (i : ℕ) (core : List ℕ) → GoesOn (programFrom n x s block i core .step)
+  pub program-goes : (n : ℕ) (c : Course) (due : Due) (i : ℕ) (core : List ℕ) → GoesOn (programFrom n x c due block i core .step)
   unfolding programFrom
-  program-goes zero s i core = tt
-  program-goes (suc n) s i core =
+  program-goes zero c due i core = tt
+  program-goes (suc n) c due i core =
       both (λ (o : StepOutcome). GoesOn (o .step)) (closes block i) tt
-      (followed-goes (itemStep x s block i core .item) (itemStep x s block i core .core) _ (item-goes s i core)
-      (λ u p core′. program-goes n u p core′))
+      (followed-goes (itemStep x c due block i core .item) (itemStep x c due block i core .core) _ (item-goes c due i core)
+      (λ d u p core′. program-goes n d u p core′))
 
   label-read-goes : (r : LabelRead) → GoesOn (withLabel (x .ios) (length (x .tables)) r)
   unfolding withLabel
@@ -131,10 +128,7 @@ module _ (x : Load) (block core : List ℕ) (a : Absolute) where
   due-done Label q = never _ _ (label-read-goes x block (labelOf block)) q
   due-done (Entry c strict b) q =
       never _ _ (both GoesOn (entriesFit (length (x .ios)) (x .tables) strict b block) tt tt) q
-  due-done (segment-due c) q = never _ _ (program-goes x block 254 (segment-due c) 1 core) q
-  due-done (SegmentGroup c g) q = never _ _ (program-goes x block 254 (SegmentGroup c g) 1 core) q
-  due-done (table-due c t b) q = never _ _ (program-goes x block 254 (table-due c t b) 1 core) q
-  due-done (TableGroup c t b) q = never _ _ (program-goes x block 254 (TableGroup c t b) 1 core) q
+  due-done (Program c due) q = never _ _ (program-goes x block 254 c due 1 core) q
   due-done (Termination b) q = termination-done b q
   due-done Complete q = never _ (More Complete) tt q
   due-done Broken q = never _ (More Broken) tt q

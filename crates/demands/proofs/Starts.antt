@@ -25,11 +25,13 @@ use Rattle.group.specs.declared.GroupStep.{GroupStep}
 use Rattle.group.specs.declared.GroupStep.the-variants.{Done as group-done, Refused as group-refused}
 use Rattle.stage.specs.Ranges.{countFits}
 use Rattle.stage.specs.declared.Course.{Course}
+use Rattle.stage.specs.declared.Due.{Due}
+use Rattle.stage.specs.declared.Due.the-variants.{Segment as segment-due, SegmentGroup, Section as section-due, SectionGroup}
 use Rattle.stage.specs.declared.Stage.{Stage}
-use Rattle.stage.specs.declared.Stage.the-variants.{Label, Entry, Segment, SegmentGroup, Table, TableGroup, Termination, Complete, Broken}
-use Rattle.step.specs.declared.Step.{Step}
-use Rattle.step.specs.declared.Step.the-variants.{More, Done, Refused}
-use Rattle.step.specs.Due.{recordDue}
+use Rattle.stage.specs.declared.Stage.the-variants.{Label, Entry, Program, Termination, Complete, Broken}
+use Rattle.stage.specs.declared.Step.{Step}
+use Rattle.stage.specs.declared.Step.the-variants.{More, Done, Refused}
+use Rattle.stage.specs.Record.{recordDue}
 use Rattle.step.specs.Label.{withLabel, labelStep}
 use Rattle.step.specs.Entries.{entriesFit, entryStep}
 use Rattle.step.specs.Termination.{terminationStep}
@@ -50,7 +52,7 @@ abbrev Goes : Step → Type 0
 Goes s = isDone s ≡ false
 
 abbrev GoesOn : Item → Type 0
-GoesOn (Go s p) = Unit {0}
+GoesOn (Go c due p) = Unit {0}
 GoesOn (Stop s) = Goes s
 
 segment-goes : (area : Area) (ts : List CoreTable) (c : Course) (p : ℕ) (r : SegmentRead) → GoesOn (withSegment area ts c p r)
@@ -63,37 +65,32 @@ unfolding withSection
 section-goes ts c least i p (section-read t) = both GoesOn (leb least (t .number .0)) (both GoesOn (countFits ts t) tt refl) refl
 section-goes ts c least i p (no-section f) = refl
 
-group-goes : (same : Stage) (c : Course) (least : ℕ) (i : Bank) (g : GroupStep) → GoesOn (afterGroup same c least i g)
+group-goes : (c : Course) (same : Due) (least : ℕ) (i : Bank) (g : GroupStep) → GoesOn (afterGroup c same least i g)
 unfolding afterGroup afterLast
-group-goes same c least i (group-done p last) = both GoesOn last (both GoesOn (eqb (c .sections) 0) refl tt) tt
-group-goes same c least i (group-refused f) = refl
+group-goes c same least i (group-done p last) = both GoesOn last (both GoesOn (eqb (c .sections) 0) refl tt) tt
+group-goes c same least i (group-refused f) = refl
 
-item-goes : (x : Load) (s : Stage) (block : List ℕ) (i : ℕ) (core : List ℕ) → GoesOn (itemStep x s block i core .item)
+item-goes : (x : Load) (c : Course) (due : Due) (block : List ℕ) (i : ℕ) (core : List ℕ) → GoesOn (itemStep x c due block i core .item)
 unfolding itemStep segmentStep sectionStep
-item-goes x (Segment c) block i core = both GoesOn (leb (i + 3) 254) (segment-goes (x .area) (x .tables) c _ _) refl
-item-goes x (SegmentGroup c g) block i core = group-goes _ _ _ _ _
-item-goes x (Table c t b) block i core = section-goes (x .tables) c _ b _ _
-item-goes x (TableGroup c t b) block i core = group-goes _ _ _ _ _
-item-goes x Label block i core = refl
-item-goes x (Entry c strict b) block i core = refl
-item-goes x (Termination b) block i core = refl
-item-goes x Complete block i core = refl
-item-goes x Broken block i core = refl
+item-goes x c segment-due block i core = both GoesOn (leb (i + 3) 254) (segment-goes (x .area) (x .tables) c _ _) refl
+item-goes x c (SegmentGroup g) block i core = group-goes _ _ _ _ _
+item-goes x c (section-due t b) block i core = section-goes (x .tables) c _ b _ _
+item-goes x c (SectionGroup t b) block i core = group-goes _ _ _ _ _
 
 abbrev OutcomeGoes : StepOutcome → Type 0
 OutcomeGoes o = Goes (o .step)
 
-followed-goes : (it : Item) (core : List ℕ) (next : Stage → ℕ → List ℕ → StepOutcome) → GoesOn it
-    → ((s : Stage) (p : ℕ) (after : List ℕ) → OutcomeGoes (next s p after)) → OutcomeGoes (followed it core next)
-followed-goes (Go s p) core next g h = h s p core
+followed-goes : (it : Item) (core : List ℕ) (next : Course → Due → ℕ → List ℕ → StepOutcome) → GoesOn it
+    → ((d : Course) (u : Due) (p : ℕ) (after : List ℕ) → OutcomeGoes (next d u p after)) → OutcomeGoes (followed it core next)
+followed-goes (Go d u p) core next g h = h d u p core
 followed-goes (Stop s) core next g h = g
 
-program-goes : (n : ℕ) (x : Load) (s : Stage) (block : List ℕ) (i : ℕ) (core : List ℕ) → OutcomeGoes (programFrom n x s block i core)
+program-goes : (n : ℕ) (x : Load) (c : Course) (due : Due) (block : List ℕ) (i : ℕ) (core : List ℕ) → OutcomeGoes (programFrom n x c due block i core)
 unfolding programFrom
-program-goes zero x s block i core = refl
-program-goes (suc n) x s block i core =
+program-goes zero x c due block i core = refl
+program-goes (suc n) x c due block i core =
     both OutcomeGoes (closes block i) refl
-    (followed-goes (itemStep x s block i core .item) _ _ (item-goes x s block i core) (λ t p after. program-goes n x t block p after))
+    (followed-goes (itemStep x c due block i core .item) _ _ (item-goes x c due block i core) (λ d u p after. program-goes n x d u block p after))
 
 label-goes : (ios : List ℕ) (n : ℕ) (r : LabelRead) → Goes (withLabel ios n r)
 unfolding withLabel
@@ -123,10 +120,7 @@ module _ (x : Load) (block : List ℕ) where
   unfolding dueStep programStep labelStep entryStep terminationStep
   due-tells Label core = goes-tells _ (label-goes (x .ios) (length (x .tables)) (labelOf block))
   due-tells (Entry c strict b) core = both Tells (entriesFit (length (x .ios)) (x .tables) strict b block) (goes-tells _ refl) (goes-tells _ refl)
-  due-tells (Segment c) core = goes-tells _ (program-goes 254 x (Segment c) block 1 core)
-  due-tells (SegmentGroup c g) core = goes-tells _ (program-goes 254 x (SegmentGroup c g) block 1 core)
-  due-tells (Table c t i) core = goes-tells _ (program-goes 254 x (Table c t i) block 1 core)
-  due-tells (TableGroup c t i) core = goes-tells _ (program-goes 254 x (TableGroup c t i) block 1 core)
+  due-tells (Program c due) core = goes-tells _ (program-goes 254 x c due block 1 core)
   due-tells (Termination i) core = both Tells (inBank i (startOf block)) (λ a e. sym (ap (startIn a) e)) (goes-tells _ refl)
   due-tells Complete core = goes-tells _ refl
   due-tells Broken core = goes-tells _ refl

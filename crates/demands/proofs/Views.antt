@@ -15,8 +15,8 @@ use Rattle.word.proofs.Cases.{by-eq, by-lt}
 use Rattle.word.proofs.Lists.{length-range, length-range-min, length-range-most, getD-range, getD-splice-out, range-splice-before, range-splice-after, range-splice-same}
 use Rattle.word.proofs.Stretch.{Beside}
 use Rattle.stage.specs.declared.Stage.{Stage}
-use Rattle.stage.specs.declared.Stage.the-variants.{Label, Entry, Segment as segment-due, SegmentGroup, Table, TableGroup, Termination, Complete, Broken}
 use Rattle.stage.specs.Stage.{numbersOf}
+use Rattle.stage.proofs.Back.{stage-length}
 use Rattle.stage.proofs.Back.{stage-back}
 use Rattle.layout.specs.declared.Place.{Place}
 use Rattle.layout.specs.Layout.{base, placeIn, holderOf, ownOf, stageIn, iosIn, wordsIn, ranksIn}
@@ -148,22 +148,10 @@ module _ (p : ℕ) (s t : State) (ok : sound (s .desk) ≡ true) (c : Confined p
   view-kept = view-by s t q (c .others q n) (c .core) untouched
 
 -- ---- a place whose stage alone is written
-pub numbers-nine : (t : Stage) → length (numbersOf t) ≡ 9
-unfolding numbersOf
-numbers-nine Label = refl
-numbers-nine (Entry c strict b) = refl
-numbers-nine (segment-due c) = refl
-numbers-nine (SegmentGroup c g) = refl
-numbers-nine (Table c t i) = refl
-numbers-nine (TableGroup c t i) = refl
-numbers-nine (Termination i) = refl
-numbers-nine Complete = refl
-numbers-nine Broken = refl
-
 own-staged : (l : List ℕ) (t : Stage) → length l ≡ 303 → ownOf (splice l 6 (numbersOf t)) ≡ ownOf l
 unfolding ownOf
 own-staged l t h =
-    let e = numbers-nine t in
+    let e = stage-length t in
     let at : (i : ℕ) → i < 6 → getD (splice l 6 (numbersOf t)) i 0 ≡ getD l i 0 =
     λ i g. getD-splice-out l 6 (numbersOf t) i (omega arith) (λ x y. omega arith) in
     rw (at 0 (omega arith), at 1 (omega arith), at 2 (omega arith), at 3 (omega arith), at 4 (omega arith), at 5 (omega arith))
@@ -172,7 +160,7 @@ own-staged l t h =
 load-staged : (l : List ℕ) (t : Stage) → length l ≡ 303 → loadIn (splice l 6 (numbersOf t)) ≡ loadIn l
 unfolding loadIn wordsIn ranksIn iosIn
 load-staged l t h =
-    let n = numbers-nine t in
+    let n = stage-length t in
     let at : (i m : ℕ) → 15 ≤ i → range (splice l 6 (numbersOf t)) i m ≡ range l i m =
     λ i m g. range-splice-after l 6 (numbersOf t) i m (omega arith) (omega arith) in
     ap (λ (o : Place). loadBy o (splice l 6 (numbersOf t))) (own-staged l t h)
@@ -180,7 +168,7 @@ load-staged l t h =
 
 module _ (d : List ℕ) (ok : sound d ≡ true) (p : ℕ) (h : p < 12) (t : Stage) where
   few : 6 + length (numbersOf t) ≤ 303
-  few = omega (arith, numbers-nine t)
+  few = omega (arith, stage-length t)
 
   pub staged-place : placeIn (staged d p t) p ≡ splice (placeIn d p) 6 (numbersOf t)
   unfolding staged
@@ -192,7 +180,7 @@ module _ (d : List ℕ) (ok : sound d ≡ true) (p : ℕ) (h : p < 12) (t : Stag
   pub staged-stage : stageIn (placeIn (staged d p t) p) ≡ t
   unfolding stageIn
   staged-stage =
-      let n = numbers-nine t in
+      let n = stage-length t in
       let e = place-length d (sound-long d ok) p h in
       rw (staged-place, rw n at (range-splice-same (placeIn d p) 6 (numbersOf t) (omega arith))) (stage-back t)
 

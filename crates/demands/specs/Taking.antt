@@ -5,9 +5,9 @@ use mathlib.Core.Bool.{false}
 use mathlib.Core.List.{List, [], _∷_}
 use Rattle.stage.specs.declared.Stage.{Stage}
 use Rattle.stage.specs.declared.Stage.the-variants.{Complete}
-use Rattle.step.specs.declared.Step.{Step}
-use Rattle.step.specs.declared.Step.the-variants.{More, Done, Refused}
-use Rattle.step.specs.Due.{isOver}
+use Rattle.stage.specs.declared.Step.{Step}
+use Rattle.stage.specs.declared.Step.the-variants.{More, Done, Refused}
+use Rattle.stage.specs.Record.{isOver}
 use Rattle.sections.specs.Load.{Load}
 use Rattle.feed.specs.Block.{blockStep}
 

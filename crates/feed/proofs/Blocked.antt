@@ -13,12 +13,14 @@ use Rattle.word.proofs.Cases.{when}
 use Rattle.block.specs.Records.{ofRecord}
 use Rattle.program.specs.declared.Bank.{Bank}
 use Rattle.program.specs.Start.{startOf, inBank}
+use Rattle.stage.specs.declared.Course.{Course}
+use Rattle.stage.specs.declared.Due.{Due}
 use Rattle.stage.specs.declared.Stage.{Stage}
-use Rattle.stage.specs.declared.Stage.the-variants.{Label, Entry, Segment, SegmentGroup, Table, TableGroup, Termination, Complete, Broken}
+use Rattle.stage.specs.declared.Stage.the-variants.{Label, Entry, Program, Termination, Complete, Broken}
 use Rattle.stage.specs.Ranges.{stageFits}
-use Rattle.step.specs.declared.Step.{Step}
-use Rattle.step.specs.declared.Step.the-variants.{More, Done, Refused}
-use Rattle.step.specs.Due.{recordDue}
+use Rattle.stage.specs.declared.Step.{Step}
+use Rattle.stage.specs.declared.Step.the-variants.{More, Done, Refused}
+use Rattle.stage.specs.Record.{recordDue}
 use Rattle.step.specs.Termination.{terminationStep}
 use Rattle.step.proofs.Fits.{label-fits, entry-fits, label-not-done, entry-not-done, label-fault, entry-fault, termination-fault, termination-not-more}
 use Rattle.sections.specs.Load.{Load}
@@ -30,19 +32,16 @@ use Rattle.feed.proofs.Laws.{Fit, Holds, Alike, BlockLaws}
 
 -- a record whose block is read whole stores nothing; a program block is read word by word. P speaks of the outcome as a function of the core.
 module _ (x : Load) (block : List ℕ) (P : (List ℕ → StepOutcome) → Type 0) (none : (r : Step) → P (only r)) where
-  due-cases : (s : Stage) → P (programStep x s block) → P (dueStep x s block)
+  due-cases : (s : Stage) → ((c : Course) (due : Due) → s ≡ Program c due → P (programStep x c due block)) → P (dueStep x s block)
   unfolding dueStep
   due-cases Label k = none _
   due-cases (Entry c strict b) k = none _
-  due-cases (Segment c) k = k
-  due-cases (SegmentGroup c g) k = k
-  due-cases (Table c t i) k = k
-  due-cases (TableGroup c t i) k = k
+  due-cases (Program c due) k = k c due refl
   due-cases (Termination i) k = none _
   due-cases Complete k = none _
   due-cases Broken k = none _
 
-  block-cases : (s : Stage) → P (programStep x s block) → P (blockStep x s block)
+  block-cases : (s : Stage) → ((c : Course) (due : Due) → s ≡ Program c due → P (programStep x c due block)) → P (blockStep x s block)
   unfolding blockStep
   block-cases s k = by-record (ofRecord (recordDue s) block) (due-cases s k)
     where
@@ -65,10 +64,7 @@ module _ (x : Load) (block core : List ℕ) where
   unfolding dueStep
   due-fits Label t f q = label-fits (x .area) (x .tables) (x .ios) block t q
   due-fits (Entry c strict b) t f q = entry-fits (x .area) (x .tables) (length (x .ios)) c strict b block t (f .stage) q
-  due-fits (Segment c) t f q = program-fits x block (Segment c) core t (f .stage) q
-  due-fits (SegmentGroup c g) t f q = program-fits x block (SegmentGroup c g) core t (f .stage) q
-  due-fits (Table c n i) t f q = program-fits x block (Table c n i) core t (f .stage) q
-  due-fits (TableGroup c n i) t f q = program-fits x block (TableGroup c n i) core t (f .stage) q
+  due-fits (Program c due) t f q = program-fits x block c due core t (f .stage) q
   due-fits (Termination i) t f q = absurd (termination-not-more (x .area) i block t q)
   due-fits Complete t f q = let e : Complete ≡ t = cc in rw (← e) (f .stage)
   due-fits Broken t f q = let e : Broken ≡ t = cc in rw (← e) (f .stage)
@@ -77,10 +73,7 @@ module _ (x : Load) (block core : List ℕ) where
   unfolding dueStep
   due-faults Label f q = label-fault (x .ios) (length (x .tables)) block f q
   due-faults (Entry c strict b) f q = entry-fault (length (x .ios)) (x .tables) c strict b block f q
-  due-faults (Segment c) f q = let k = program-faults x block (Segment c) core f q in (omega arith, omega arith)
-  due-faults (SegmentGroup c g) f q = let k = program-faults x block (SegmentGroup c g) core f q in (omega arith, omega arith)
-  due-faults (Table c n i) f q = let k = program-faults x block (Table c n i) core f q in (omega arith, omega arith)
-  due-faults (TableGroup c n i) f q = let k = program-faults x block (TableGroup c n i) core f q in (omega arith, omega arith)
+  due-faults (Program c due) f q = let k = program-faults x block c due core f q in (omega arith, omega arith)
   due-faults (Termination i) f q = termination-fault (x .area) i block f q
   due-faults Complete f q = let z : _≡_ {A = ℕ} 0 1 = cc in absurd (omega arith)
   due-faults Broken f q = let z : _≡_ {A = ℕ} 0 1 = cc in absurd (omega arith)
@@ -95,16 +88,13 @@ module _ (x : Load) (block core : List ℕ) where
   unfolding dueStep
   due-starts Label a q = absurd (label-not-done (x .ios) (length (x .tables)) block a q)
   due-starts (Entry c strict b) a q = absurd (entry-not-done (length (x .ios)) (x .tables) c strict b block a q)
-  due-starts (Segment c) a q = absurd (program-not-done x block (Segment c) core a q)
-  due-starts (SegmentGroup c g) a q = absurd (program-not-done x block (SegmentGroup c g) core a q)
-  due-starts (Table c n i) a q = absurd (program-not-done x block (Table c n i) core a q)
-  due-starts (TableGroup c n i) a q = absurd (program-not-done x block (TableGroup c n i) core a q)
+  due-starts (Program c due) a q = absurd (program-not-done x block c due core a q)
   due-starts (Termination i) a q = termination-value i a q
   due-starts Complete a q = let z : _≡_ {A = ℕ} 0 1 = cc in absurd (omega arith)
   due-starts Broken a q = let z : _≡_ {A = ℕ} 0 1 = cc in absurd (omega arith)
 
-standing : (x : Load) (s : Stage) (core : List ℕ) → Fit x s → Holds x core → Stands x s core
-standing x s core f h = record { inside = h; tables = f .tables; stage = f .stage }
+standing : (x : Load) (s : Stage) (c : Course) (due : Due) (core : List ℕ) → s ≡ Program c due → Fit x s → Holds x core → Stands x (Program c due) core
+standing x s c due core e f h = record { inside = h; tables = f .tables; stage = rw e at (f .stage) }
 
 pub block-laws : BlockLaws
 block-laws = record {
@@ -113,13 +103,13 @@ block-laws = record {
   faults = λ x s block core f. due-or-13 x block core s (λ (r : Step). r ≡ Refused f → (13 ≤ f .number) × (f .number ≤ 22))
       (λ q. let e : fault 13 ≡ f = cc in rw (← e) (omega arith, omega arith)) (due-faults x block core s f);
   long = λ x s block core f h. block-cases x block (λ (g : List ℕ → StepOutcome). length (g core .core) ≡ length core) (λ r. refl) s
-      (program-length x block s core (standing x s core f h));
+      (λ c due e. program-length x block c due core (standing x s c due core e f h));
   beside = λ x s block core f h j b. block-cases x block (λ (g : List ℕ → StepOutcome). getD (g core .core) j 0 ≡ getD core j 0) (λ r. refl) s
-      (program-area x block j b s core (standing x s core f h));
+      (λ c due e. program-area x block j b c due core (standing x s c due core e f h));
   same-step = λ x s block core other f h k. block-cases x block (λ (g : List ℕ → StepOutcome). g core .step ≡ g other .step) (λ r. refl) s
-      (program-same x block s core other (standing x s core f h) (standing x s other f k));
+      (λ c due e. program-same x block c due core other (standing x s c due core e f h) (standing x s c due other e f k));
   same-words = λ x s block core other f h k a. block-cases x block (λ (g : List ℕ → StepOutcome). Alike x (g core .core) (g other .core)) (λ r. a) s
-      (program-alike x block s core other (standing x s core f h) (standing x s other f k) a);
+      (λ c due e. program-alike x block c due core other (standing x s c due core e f h) (standing x s c due other e f k) a);
   starts = λ x s block core a. due-or-13 x block core s (λ (r : Step). r ≡ Done a → a ≡ absoluteOf (x .area) (startOf block))
       (λ q. let z : _≡_ {A = ℕ} 0 1 = cc in absurd (omega arith)) (due-starts x block core s a);
 }

@@ -28,9 +28,9 @@ use Rattle.stage.specs.declared.Stage.{Stage}
 use Rattle.stage.specs.declared.Stage.the-variants.{Complete, Broken}
 use Rattle.stage.specs.Ranges.{stageFits}
 use Rattle.program.specs.Start.{startOf}
-use Rattle.step.specs.declared.Step.{Step}
-use Rattle.step.specs.declared.Step.the-variants.{More as step-more, Done as step-done, Refused as step-refused}
-use Rattle.step.specs.Due.{recordDue, isOver}
+use Rattle.stage.specs.declared.Step.{Step}
+use Rattle.stage.specs.declared.Step.the-variants.{More as step-more, Done as step-done, Refused as step-refused}
+use Rattle.stage.specs.Record.{recordDue, isOver}
 use Rattle.layout.specs.Layout.{coreLength, holderIn, placeIn, stageIn, iosIn}
 use Rattle.desk.specs.Sound.{sound, ownIn}
 use Rattle.desk.proofs.Facts.{core-small}

@@ -13,7 +13,7 @@ use Rattle.program.specs.Start.{startOf}
 use Rattle.lists.specs.Obey.{tableInside}
 use Rattle.stage.specs.declared.Stage.{Stage}
 use Rattle.stage.specs.Ranges.{stageFits}
-use Rattle.step.specs.declared.Step.the-variants.{More, Done, Refused}
+use Rattle.stage.specs.declared.Step.the-variants.{More, Done, Refused}
 use Rattle.sections.specs.Load.{Load}
 use Rattle.feed.specs.Block.{blockStep}
 

@@ -2,7 +2,7 @@
 use Prim.Native.Nat.{ℕ, _+_, _≤_, _<_}
 use mathlib.Core.Path.{_≡_, refl}
 use mathlib.Core.Bool.{Bool}
-use mathlib.Core.List.{List, [], _∷_}
+use mathlib.Core.List.{List}
 use native.Mathlib.Omega.{arith}
 use lib.ListN.{length}
 use borrow.Author.Tests.{ltb-true}
@@ -11,17 +11,14 @@ use Rattle.word.proofs.Cases.{and-right}
 use Rattle.lists.proofs.Kept.{tables-length}
 use Rattle.stage.specs.declared.Course.{Course}
 use Rattle.stage.specs.declared.Stage.{Stage}
-use Rattle.stage.specs.declared.Stage.the-variants.{Label, Entry, Segment, SegmentGroup, Table, TableGroup, Termination, Complete, Broken}
-use Rattle.stage.proofs.Stage.{the-type}
-use denote.Enum.Declared.{tagOf}
-use types.Run.{OneOf, miss}
+use Rattle.stage.specs.declared.Stage.the-variants.{Label, Entry}
 use Rattle.stage.specs.Ranges.{courseFits, stageFits}
-use Rattle.step.specs.declared.Step.{Step}
+use Rattle.stage.specs.declared.Step.{Step}
 use Rattle.step.specs.Label.{labelStep}
 use Rattle.step.specs.Entries.{entryStep}
 use Rattle.lists.specs.Kept.{numbersIn, tablesIn}
 use Rattle.sections.specs.Load.{Load, loadOf, Waits}
-use Rattle.sections.specs.Program.{StepMeets, programStep}
+use Rattle.sections.specs.Program.{StepMeets}
 use Rattle.feed.specs.Block.{dueStep}
 use Rattle.feed.proofs.Held.{length-numbers}
 
@@ -52,16 +49,3 @@ module _ (area : Area) (io : ℕ) (words ranks ios block core : List ℕ) (r : S
       → StepMeets (dueStep (loadOf area io words ranks ios) (Entry c strict b) block core) r core
   unfolding dueStep
   entry-met c strict b e = record { told = rw (length-numbers ios io) e; left = refl }
-
--- where none of the other records is due, by the stage's tag, a program block is
-pub program-due : (x : Load) (block core : List ℕ) (s : Stage) → OneOf (2 ∷ 3 ∷ 4 ∷ 5 ∷ []) (tagOf the-type s) → dueStep x s block core ≡ programStep x s block core
-unfolding dueStep
-program-due x block core Label o = absurd (miss (2 ∷ 3 ∷ 4 ∷ 5 ∷ []) _ tt o)
-program-due x block core (Entry c strict b) o = absurd (miss (2 ∷ 3 ∷ 4 ∷ 5 ∷ []) _ tt o)
-program-due x block core (Segment c) o = refl
-program-due x block core (SegmentGroup c g) o = refl
-program-due x block core (Table c t i) o = refl
-program-due x block core (TableGroup c t i) o = refl
-program-due x block core (Termination i) o = absurd (miss (2 ∷ 3 ∷ 4 ∷ 5 ∷ []) _ tt o)
-program-due x block core Complete o = absurd (miss (2 ∷ 3 ∷ 4 ∷ 5 ∷ []) _ tt o)
-program-due x block core Broken o = absurd (miss (2 ∷ 3 ∷ 4 ∷ 5 ∷ []) _ tt o)

@@ -8,8 +8,8 @@ use lib.ListN.{length, getD, replicate, length-replicate, getD-replicate}
 use lib.Seq.{ext-getD}
 use Rattle.word.specs.Lists.{cleared}
 use Rattle.word.specs.declared.Area.{Area}
-use Rattle.step.specs.declared.Step.{Step}
-use Rattle.step.specs.declared.Step.the-variants.{More, Done, Refused}
+use Rattle.stage.specs.declared.Step.{Step}
+use Rattle.stage.specs.declared.Step.the-variants.{More, Done, Refused}
 use Rattle.feed.specs.Feed.{settledOf}
 use Rattle.word.proofs.Cases.{by-lt}
 use Rattle.word.proofs.Lists.{getD-splice-in}

@@ -7,10 +7,10 @@ use lib.ListN.{length}
 use Rattle.word.specs.Fault.{fault}
 use Rattle.block.specs.Records.{ofRecord}
 use Rattle.stage.specs.declared.Stage.{Stage}
-use Rattle.stage.specs.declared.Stage.the-variants.{Label, Entry, Segment, SegmentGroup, Table, TableGroup, Termination, Complete, Broken}
-use Rattle.step.specs.declared.Step.{Step}
-use Rattle.step.specs.declared.Step.the-variants.{More, Refused}
-use Rattle.step.specs.Due.{recordDue}
+use Rattle.stage.specs.declared.Stage.the-variants.{Label, Entry, Program, Termination, Complete, Broken}
+use Rattle.stage.specs.declared.Step.{Step}
+use Rattle.stage.specs.declared.Step.the-variants.{More, Refused}
+use Rattle.stage.specs.Record.{recordDue}
 use Rattle.step.specs.Label.{labelStep}
 use Rattle.step.specs.Entries.{entryStep}
 use Rattle.step.specs.Termination.{terminationStep}
@@ -25,10 +25,7 @@ only s core = record { step = s; core = core }
 unfoldable pub dueStep : Load → Stage → List ℕ → List ℕ → StepOutcome
 dueStep x Label block core = only (labelStep (x .ios) (length (x .tables)) block) core
 dueStep x (Entry c strict b) block core = only (entryStep (length (x .ios)) (x .tables) c strict b block) core
-dueStep x (Segment c) block core = programStep x (Segment c) block core
-dueStep x (SegmentGroup c g) block core = programStep x (SegmentGroup c g) block core
-dueStep x (Table c t i) block core = programStep x (Table c t i) block core
-dueStep x (TableGroup c t i) block core = programStep x (TableGroup c t i) block core
+dueStep x (Program c due) block core = programStep x c due block core
 dueStep x (Termination i) block core = only (terminationStep (x .area) i block) core
 dueStep x Complete block core = only (More Complete) core
 dueStep x Broken block core = only (More Broken) core

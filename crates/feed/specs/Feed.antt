@@ -14,9 +14,9 @@ use Rattle.block.specs.Block.{verdict}
 use Rattle.stage.specs.declared.Stage.{Stage}
 use Rattle.stage.specs.declared.Stage.the-variants.{Complete, Broken}
 use Rattle.stage.specs.Stage.{numbersOf}
-use Rattle.step.specs.declared.Step.{Step}
-use Rattle.step.specs.declared.Step.the-variants.{More as step-more, Done as step-done, Refused as step-refused}
-use Rattle.step.specs.Due.{recordDue, isOver}
+use Rattle.stage.specs.declared.Step.{Step}
+use Rattle.stage.specs.declared.Step.the-variants.{More as step-more, Done as step-done, Refused as step-refused}
+use Rattle.stage.specs.Record.{recordDue, isOver}
 use Rattle.sections.specs.Load.{Load, loadOf}
 use Rattle.layout.specs.declared.Place.{Place}
 use Rattle.layout.specs.Layout.{coreLength, base, placeIn, ownOf, stageIn, iosIn, wordsIn, ranksIn}

@@ -16,7 +16,7 @@ ghost use Rattle.feed.specs.Feed.{loadIn, staged, settledOf, takenOf, he
 use block::Verdict;
 use calls::Answer;
 use stage::Stage;
-use step::Step;
+use stage::Step;
 use word::Area;
 use word::Fault;
 
@@ -51,10 +51,10 @@ fn feed_held(desk: &mut [u64], core: &mut [u64], p: usize, block: &[u64]) -> Ans
     ensures { λ a. ⌜ Meets (heldOf (now (desk .entry)) (now (core .entry)) p (now (block .entry))) a (now (desk .exit)) (now (core .exit)) ⌝ }
 {
     let s = layout::stage_of(layout::place_at(desk, p));
-    if step::is_over(s) {
+    if stage::is_over(s) {
         return Answer::Refused(Fault { number: 10 });
     }
-    match block::check_block(block, step::record_due(s)) {
+    match block::check_block(block, stage::record_due(s)) {
         Verdict::Pass => take_block(desk, core, p, block),
         Verdict::Refused(f) => Answer::Refused(f),
     }
@@ -77,7 +77,7 @@ fn load_step(place: &[u64], block: &[u64], core: &mut [u64]) -> Step
 {
     let o = layout::own_of(place);
     let s = layout::stage_of(place);
-    if !block::of_record(block, step::record_due(s)) {
+    if !block::of_record(block, stage::record_due(s)) {
         return Step::Refused(Fault { number: 13 });
     }
     let words = layout::words_of(place, o.kept as usize);
@@ -111,10 +111,12 @@ fn due_step(
     match s {
         Stage::Label => step::label_step(ios, io, ranks.len() as u64, block),
         Stage::Entry(c, strict, b) => step::entry_step(area, words, ranks, io, c, strict, b, block),
+        Stage::Program(c, due) => {
+            sections::items::program_step(area, io, words, ranks, ios, c, due, block, core)
+        }
         Stage::Termination(i) => step::termination_step(area, i, block),
         Stage::Complete => Step::More(Stage::Complete),
         Stage::Broken => Step::More(Stage::Broken),
-        _ => sections::items::program_step(area, io, words, ranks, ios, s, block, core),
     }
 }
 

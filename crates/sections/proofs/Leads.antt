@@ -20,26 +20,27 @@ use Rattle.program.specs.declared.SegmentRead.the-variants.{Good as segment-rea
 use Rattle.program.specs.declared.TableSectionRead.{TableSectionRead}
 use Rattle.program.specs.declared.TableSectionRead.the-variants.{Good as section-read, Bad as no-section}
 use Rattle.program.specs.Sections.{bankOf, withDbank, withIbank, segmentOf, tableSectionOf}
-use Rattle.lists.specs.Obey.{noTable}
 use Rattle.group.specs.declared.GroupStep.{GroupStep}
 use Rattle.group.specs.declared.GroupStep.the-variants.{Done as group-done, Refused as group-refused}
 use Rattle.group.specs.declared.Section.{Section}
-use Rattle.group.specs.declared.Section.the-variants.{Segment as in-segment, Table as in-table}
+use Rattle.group.specs.declared.Section.the-variants.{Segment as in-segment}
 use Rattle.group.specs.Group.{groupStep}
 use Rattle.group.proofs.Faults.{Among, ofGroup, group-faults}
 use Rattle.group.proofs.Group as groups
 use Rattle.stage.specs.declared.Course.{Course}
+use Rattle.stage.specs.declared.Due.{Due}
+use Rattle.stage.specs.declared.Due.the-variants.{Segment as segment-due, SegmentGroup, Section as section-due, SectionGroup}
 use Rattle.stage.specs.declared.Stage.{Stage}
-use Rattle.stage.specs.declared.Stage.the-variants.{Label, Entry, Segment as segment-due, SegmentGroup, Table as table-due, TableGroup, Termination, Complete, Broken}
+use Rattle.stage.specs.declared.Stage.the-variants.{Program}
 use Rattle.stage.specs.Ranges.{courseFits, bankFits, countFits, stageFits}
-use Rattle.step.specs.declared.Step.{Step}
-use Rattle.step.specs.declared.Step.the-variants.{More, Done, Refused}
+use Rattle.stage.specs.declared.Step.{Step}
+use Rattle.stage.specs.declared.Step.the-variants.{More, Done, Refused}
 use Rattle.sections.specs.declared.Item.{Item}
 use Rattle.sections.specs.declared.Item.the-variants.{Go, Stop}
 use Rattle.sections.specs.Load.{Load, assignments}
 use Rattle.sections.specs.Heads.{banksFit, withSegment, segmentStep, withSection, sectionStep}
-use Rattle.sections.specs.Program.{afterLast, afterGroup, itemStep}
-use Rattle.sections.proofs.Ranges.{Fits, CourseFits, BankFits, says-segment, says-due, says-table}
+use Rattle.sections.specs.Program.{inSection, afterLast, afterGroup, itemStep}
+use Rattle.sections.proofs.Ranges.{Fits, CourseFits, BankFits, says-first, says-segment, says-section, says-table}
 
 -- an answer for a load that waited for s
 abbrev pub Told : Load → Stage → Step → Type 0
@@ -49,7 +50,7 @@ Told x s (Refused f) = Among 17 21 f
 
 -- an item at place i, where s is due
 abbrev pub Leads : Load → Stage → ℕ → Item → Type 0
-Leads x s i (Go t p) = (i < p) × (p ≤ 255) × (Fits x s → Fits x t)
+Leads x s i (Go c due p) = (i < p) × (p ≤ 255) × (Fits x s → Fits x (Program c due))
 Leads x s i (Stop r) = Told x s r
 
 -- ---- heads
@@ -97,18 +98,18 @@ module _ (x : Load) where
       (and-left i _ q, and-left d _ (and-right i _ q))
 
   with-segment : (c : Course) (i : ℕ) → i + 3 ≤ 254 → (r : SegmentRead) → ofSegment r
-      → Leads x (segment-due c) i (withSegment (x .area) (x .tables) c (i + 4) r)
-  unfolding withSegment stageFits
+      → Leads x (Program c segment-due) i (withSegment (x .area) (x .tables) c (i + 4) r)
+  unfolding withSegment
   with-segment c i h (segment-read g) k =
-      when (Leads x (segment-due c) i) (banksFit (x .area) (x .tables) g)
-      (λ q. (omega arith, omega arith, λ f. says-segment x c g .test (f, banks-both g q)))
+      when (Leads x (Program c segment-due) i) (banksFit (x .area) (x .tables) g)
+      (λ q. (omega arith, omega arith, λ f. says-segment x c g .test (says-first x c .fact f .0, banks-both g q)))
       (λ q. (omega arith, omega arith))
   with-segment c i h (no-segment f) k = k
 
-  segment-leads : (c : Course) (block : List ℕ) (i : ℕ) → Leads x (segment-due c) i (segmentStep (x .area) (x .tables) c block i)
+  segment-leads : (c : Course) (block : List ℕ) (i : ℕ) → Leads x (Program c segment-due) i (segmentStep (x .area) (x .tables) c block i)
   unfolding segmentStep
   segment-leads c block i =
-      when (Leads x (segment-due c) i) (leb (i + 3) 254)
+      when (Leads x (Program c segment-due) i) (leb (i + 3) 254)
       (λ q. with-segment c i (leb-true (i + 3) 254 q) (segmentOf (getD block i 0) (getD block (i + 1) 0)) (segment-fault (getD block i 0) (getD block (i + 1) 0)))
       (λ q. (omega arith, omega arith))
 
@@ -120,68 +121,63 @@ module _ (x : Load) where
       says-and (says-le (c .near) io) (says-le (c .sections - 1) tables) .test (s .0, omega arith)
 
   with-section : (c : Course) (least : Reference) (ibank : Bank) (i : ℕ) → i ≤ 254 → (r : TableSectionRead) → ofSection r
-      → Leads x (table-due c least ibank) i (withSection (x .tables) c (least .0) ibank (i + 1) r)
+      → Leads x (Program c (section-due least ibank)) i (withSection (x .tables) c (least .0) ibank (i + 1) r)
   unfolding withSection
   with-section c least ibank i h (section-read t) k =
-      both (Leads x (table-due c least ibank) i) (leb (least .0) (t .number .0))
-      (when (Leads x (table-due c least ibank) i) (countFits (x .tables) t)
-      (λ q. (omega arith, omega arith, λ f. let d = says-due x c least ibank .fact f in says-table x (record { near = c .near; sections = c .sections - 1 }) t ibank .test (fewer-fits _ _ c (d .0), (q, d .1))))
+      both (Leads x (Program c (section-due least ibank)) i) (leb (least .0) (t .number .0))
+      (when (Leads x (Program c (section-due least ibank)) i) (countFits (x .tables) t)
+      (λ q. (omega arith, omega arith, λ f. let d = says-section x c least ibank .fact f in says-table x (record { near = c .near; sections = c .sections - 1 }) t ibank .test (fewer-fits _ _ c (d .0), (q, d .1))))
       (λ q. (omega arith, omega arith)))
       (omega arith, omega arith)
   with-section c least ibank i h (no-section f) k = k
 
   section-leads : (c : Course) (least : Reference) (ibank : Bank) (block : List ℕ) (i : ℕ) → i ≤ 254
-      → Leads x (table-due c least ibank) i (sectionStep (x .tables) c (least .0) ibank block i)
+      → Leads x (Program c (section-due least ibank)) i (sectionStep (x .tables) c (least .0) ibank block i)
   unfolding sectionStep
   section-leads c least ibank block i h = with-section c least ibank i h (tableSectionOf (getD block i 0)) (section-fault (getD block i 0))
 
   -- ---- groups: their section's stage fits, so what the section leaves fits
-  module _ (s : Stage) (c : Course) (least i : ℕ) (ibank : Bank) (due : Fits x s → CourseFits x c × BankFits x ibank) where
-    last-leads : (p : ℕ) → i < p → p ≤ 255 → Leads x s i (afterLast c least ibank p)
+  module _ (c : Course) (same : Due) (least i : ℕ) (ibank : Bank) (fits : Fits x (Program c same) → CourseFits x c × BankFits x ibank) where
+    last-leads : (p : ℕ) → i < p → p ≤ 255 → Leads x (Program c same) i (afterLast c least ibank p)
     unfolding afterLast stageFits
     last-leads p h k =
-        both (Leads x s i) (eqb (c .sections) 0) (λ f. due f .1) (h, k, λ f. says-due x c (record { 0 = least }) ibank .test (due f))
+        both (Leads x (Program c same) i) (eqb (c .sections) 0) (λ f. fits f .1) (h, k, λ f. says-section x c (record { 0 = least }) ibank .test (fits f))
 
-    answer-leads : (r : GroupStep) → ofGroup r → ((p : ℕ) (last : Bool) → r ≡ group-done p last → (i < p) × (p ≤ 255)) → Leads x s i (afterGroup s c least ibank r)
+    answer-leads : (r : GroupStep) → ofGroup r → ((p : ℕ) (last : Bool) → r ≡ group-done p last → (i < p) × (p ≤ 255))
+        → Leads x (Program c same) i (afterGroup c same least ibank r)
     unfolding afterGroup
     answer-leads (group-done p last) h k =
         let l = k p last refl in
-        both (Leads x s i) last (last-leads p (l .0) (l .1)) (l .0, l .1, λ f. f)
+        both (Leads x (Program c same) i) last (last-leads p (l .0) (l .1)) (l .0, l .1, λ f. f)
     answer-leads (group-refused f) h k = (omega arith, h .1)
 
-    group-leads : (section : Section) (block core : List ℕ) → Leads x s i (afterGroup s c least ibank (groupStep (assignments x c) section block i core .answer))
+    group-leads : (section : Section) (block core : List ℕ)
+        → Leads x (Program c same) i (afterGroup c same least ibank (groupStep (assignments x c) section block i core .answer))
     group-leads section block core =
         answer-leads (groupStep (assignments x c) section block i core .answer) (group-faults (assignments x c) section block i core)
         (λ p last q. let e = groups.group-done (assignments x c) section block i core p last q in (e .after, e .most))
 
-  pub item-leads : (s : Stage) (block : List ℕ) (i : ℕ) (core : List ℕ) → i ≤ 254 → Leads x s i (itemStep x s block i core .item)
+  pub item-leads : (c : Course) (due : Due) (block : List ℕ) (i : ℕ) (core : List ℕ) → i ≤ 254 → Leads x (Program c due) i (itemStep x c due block i core .item)
   unfolding itemStep
-  item-leads Label block i core h = λ f. f
-  item-leads (Entry c strict b) block i core h = λ f. f
-  item-leads (segment-due c) block i core h = segment-leads c block i
-  item-leads (SegmentGroup c g) block i core h =
-      group-leads (SegmentGroup c g) c 0 i (g .ibank)
+  item-leads c segment-due block i core h = segment-leads c block i
+  item-leads c (SegmentGroup g) block i core h =
+      group-leads c (SegmentGroup g) 0 i (g .ibank)
       (λ f. let d = says-segment x c g .fact f in (d .0, d .1 .0))
       (in-segment g) block core
-  item-leads (table-due c t ibank) block i core h = section-leads c t ibank block i h
-  item-leads (TableGroup c t ibank) block i core h =
-      group-leads (TableGroup c t ibank) c (t .number .0 + 1) i ibank
+  item-leads c (section-due t ibank) block i core h = section-leads c t ibank block i h
+  item-leads c (SectionGroup t ibank) block i core h =
+      group-leads c (SectionGroup t ibank) (t .number .0 + 1) i ibank
       (λ f. let d = says-table x c t ibank .fact f in (d .0, d .1 .1))
-      (in-table (getD (x .tables) (t .number .0) noTable) (t .count)) block core
-  item-leads (Termination ibank) block i core h = λ f. f
-  item-leads Complete block i core h = λ f. f
-  item-leads Broken block i core h = λ f. f
+      (inSection x t) block core
 
   -- an item that goes on goes to a later place, at most 255, and keeps the stage's numbers in their ranges
-  pub item-onward : (s : Stage) (block : List ℕ) (i : ℕ) (core : List ℕ) (t : Stage) (p : ℕ) → itemStep x s block i core .item ≡ Go t p → i ≤ 254
-      → (i < p) × (p ≤ 255)
-  item-onward s block i core t p e h = let l : Leads x s i (Go t p) = rw e at (item-leads s block i core h) in (l .0, l .1)
+  module _ (c : Course) (due : Due) (block : List ℕ) (i : ℕ) (core : List ℕ) (d : Course) (t : Due) (p : ℕ) (e : itemStep x c due block i core .item ≡ Go d t p)
+      (h : i ≤ 254) where
+    leads : Leads x (Program c due) i (Go d t p)
+    leads = rw e at (item-leads c due block i core h)
 
-  pub item-fits : (s : Stage) (block : List ℕ) (i : ℕ) (core : List ℕ) (t : Stage) (p : ℕ) → itemStep x s block i core .item ≡ Go t p → i ≤ 254
-      → Fits x s → Fits x t
-  item-fits s block i core t p e h = let l : Leads x s i (Go t p) = rw e at (item-leads s block i core h) in l .2
+    pub item-onward : (i < p) × (p ≤ 255)
+    item-onward = (leads .0, leads .1)
 
-  -- and so does one that closes the block
-  pub item-closes : (s : Stage) (block : List ℕ) (i : ℕ) (core : List ℕ) (t : Stage) → itemStep x s block i core .item ≡ Stop (More t) → i ≤ 254
-      → Fits x s → Fits x t
-  item-closes s block i core t e h = rw e at (item-leads s block i core h)
+    pub item-fits : Fits x (Program c due) → Fits x (Program d t)
+    item-fits = leads .2

@@ -21,9 +21,10 @@ use Rattle.group.specs.declared.Section.{Section}
 use Rattle.group.specs.declared.Section.the-variants.{Segment as in-segment, Table as in-table}
 use Rattle.group.specs.Group.{InArea, Ready}
 use Rattle.stage.specs.declared.Course.{Course}
+use Rattle.stage.specs.declared.Due.the-variants.{Segment as segment-due, SegmentGroup, Section as section-due, SectionGroup}
 use Rattle.stage.specs.declared.Stage.{Stage}
-use Rattle.stage.specs.declared.Stage.the-variants.{SegmentGroup, Table as table-due, TableGroup}
-use Rattle.stage.specs.Ranges.{courseFits, bankFits, countFits, stageFits}
+use Rattle.stage.specs.declared.Stage.the-variants.{Program}
+use Rattle.stage.specs.Ranges.{courseFits, bankFits, countFits, dueFits, stageFits}
 use Rattle.sections.specs.Load.{Load, Waits}
 
 pub bank-inside : (area : Area) (b : Bank) → bankFits area b ≡ true → b .at .0 + b .count ≤ area .size
@@ -55,33 +56,38 @@ module _ (x : Load) (c : Course) where
   says-bank : (b : Bank) → Says (bankFits (x .area) b) (BankFits x b)
   says-bank b = says-true (bankFits (x .area) b)
 
+  -- the segment's head asks for nothing beside the course
+  pub says-first : Says (stageFits (x .area) (x .tables) (length (x .ios)) (Program c segment-due)) (CourseFits x c × (_≡_ {A = Bool} true true))
+  unfolding dueFits stageFits
+  says-first = says-and says-course (says-true true)
+
   pub says-segment : (g : Segment)
-      → Says (stageFits (x .area) (x .tables) (length (x .ios)) (SegmentGroup c g)) (CourseFits x c × (BankFits x (g .ibank) × BankFits x (g .dbank)))
-  unfolding stageFits
+      → Says (stageFits (x .area) (x .tables) (length (x .ios)) (Program c (SegmentGroup g))) (CourseFits x c × (BankFits x (g .ibank) × BankFits x (g .dbank)))
+  unfolding dueFits stageFits
   says-segment g = says-and says-course (says-and (says-bank (g .ibank)) (says-bank (g .dbank)))
 
-  pub says-due : (t : Reference) (ibank : Bank)
-      → Says (stageFits (x .area) (x .tables) (length (x .ios)) (table-due c t ibank)) (CourseFits x c × BankFits x ibank)
-  unfolding stageFits
-  says-due t ibank = says-and says-course (says-bank ibank)
+  pub says-section : (t : Reference) (ibank : Bank)
+      → Says (stageFits (x .area) (x .tables) (length (x .ios)) (Program c (section-due t ibank))) (CourseFits x c × BankFits x ibank)
+  unfolding dueFits stageFits
+  says-section t ibank = says-and says-course (says-bank ibank)
 
   pub says-table : (t : TableSection) (ibank : Bank)
-      → Says (stageFits (x .area) (x .tables) (length (x .ios)) (TableGroup c t ibank)) (CourseFits x c × ((countFits (x .tables) t ≡ true) × BankFits x ibank))
-  unfolding stageFits
+      → Says (stageFits (x .area) (x .tables) (length (x .ios)) (Program c (SectionGroup t ibank))) (CourseFits x c × ((countFits (x .tables) t ≡ true) × BankFits x ibank))
+  unfolding dueFits stageFits
   says-table t ibank = says-and says-course (says-and (says-true (countFits (x .tables) t)) (says-bank ibank))
 
 module _ (x : Load) where
   -- the section's room lies in the area
-  pub segment-room : (c : Course) (g : Segment) → Fits x (SegmentGroup c g) → InArea (x .area) (in-segment g)
+  pub segment-room : (c : Course) (g : Segment) → Fits x (Program c (SegmentGroup g)) → InArea (x .area) (in-segment g)
   segment-room c g q =
       let f = says-segment x c g .fact q in
       (bank-inside (x .area) (g .ibank) (f .1 .0), bank-inside (x .area) (g .dbank) (f .1 .1))
 
-  pub table-there : (c : Course) (t : TableSection) (ibank : Bank) → Fits x (TableGroup c t ibank)
+  pub table-there : (c : Course) (t : TableSection) (ibank : Bank) → Fits x (Program c (SectionGroup t ibank))
       → (t .number .0 < length (x .tables)) × (t .count ≤ getD (x .tables) (t .number .0) noTable .len)
   table-there c t ibank q = count-inside (x .tables) t (says-table x c t ibank .fact q .1 .0)
 
-  pub table-room : (c : Course) (t : TableSection) (ibank : Bank) → every (tableInside (x .area)) (x .tables) ≡ true → Fits x (TableGroup c t ibank)
+  pub table-room : (c : Course) (t : TableSection) (ibank : Bank) → every (tableInside (x .area)) (x .tables) ≡ true → Fits x (Program c (SectionGroup t ibank))
       → InArea (x .area) (in-table (getD (x .tables) (t .number .0) noTable) (t .count))
   table-room c t ibank e q =
       let h = table-there c t ibank q in
@@ -100,9 +106,9 @@ module _ (x : Load) where
       place = place;
     }
 
-    pub segment-ready : (c : Course) (g : Segment) → Waits x (SegmentGroup c g) block core → Ready (x .area) (in-segment g) block i core
+    pub segment-ready : (c : Course) (g : Segment) → Waits x (Program c (SegmentGroup g)) block core → Ready (x .area) (in-segment g) block i core
     segment-ready c g w = ready _ _ (segment-room c g (w .stage)) w
 
-    pub table-ready : (c : Course) (t : TableSection) (ibank : Bank) → Waits x (TableGroup c t ibank) block core
+    pub table-ready : (c : Course) (t : TableSection) (ibank : Bank) → Waits x (Program c (SectionGroup t ibank)) block core
         → Ready (x .area) (in-table (getD (x .tables) (t .number .0) noTable) (t .count)) block i core
     table-ready c t ibank w = ready _ _ (table-room c t ibank (w .tables) (w .stage)) w

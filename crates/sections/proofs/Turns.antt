@@ -21,18 +21,20 @@ use Rattle.lists.proofs.Kept.{numbers-length, tables-length, tables-at}
 use Rattle.field.specs.Field.{assigned}
 use Rattle.group.specs.declared.GroupStep.{GroupStep}
 use Rattle.group.specs.declared.Section.{Section}
-use Rattle.group.specs.declared.Section.the-variants.{Segment as in-segment, Table as in-table}
+use Rattle.group.specs.declared.Section.the-variants.{Segment as in-segment}
 use Rattle.group.specs.Group.{Outcome as GroupOutcome, Meets, InArea, groupStep}
 use Rattle.group.proofs.Group.{group-length}
 use Rattle.stage.specs.declared.Course.{Course}
+use Rattle.stage.specs.declared.Due.{Due}
+use Rattle.stage.specs.declared.Due.the-variants.{Segment as segment-due, SegmentGroup, Section as section-due, SectionGroup}
 use Rattle.stage.specs.declared.Stage.{Stage}
-use Rattle.stage.specs.declared.Stage.the-variants.{Label, Entry, Segment as segment-due, SegmentGroup, Table as table-due, TableGroup, Termination, Complete, Broken}
-use Rattle.step.specs.declared.Step.{Step}
-use Rattle.step.specs.declared.Step.the-variants.{More}
+use Rattle.stage.specs.declared.Stage.the-variants.{Program}
+use Rattle.stage.specs.declared.Step.{Step}
+use Rattle.stage.specs.declared.Step.the-variants.{More}
 use Rattle.sections.specs.declared.Item.{Item}
 use Rattle.sections.specs.declared.Item.the-variants.{Go, Stop}
 use Rattle.sections.specs.Load.{Load, loadOf, assignments, Waits}
-use Rattle.sections.specs.Program.{afterGroup, grouped, kept, itemStep, ItemOutcome, ItemMeets, StepOutcome, StepMeets, closes, followed, programFrom}
+use Rattle.sections.specs.Program.{inSection, afterGroup, grouped, headed, itemStep, ItemOutcome, ItemMeets, StepOutcome, StepMeets, closes, followed, programFrom}
 use Rattle.sections.proofs.Ranges.{Fits, segment-room, table-there, table-room}
 use Rattle.sections.proofs.Leads.{item-onward, item-fits}
 
@@ -42,13 +44,13 @@ pub assigned-same : (area : Area) (io : ℕ) (words ranks ios : List ℕ) (c : C
 unfolding assigned
 assigned-same area io words ranks ios c = rw (numbers-length ios io)
 
-pub group-met : (same : Stage) (c : Course) (least : ℕ) (ibank : Bank) (o : GroupOutcome) (r : GroupStep) (core : List ℕ) (it : Item)
-    → Meets o r core → it ≡ afterGroup same c least ibank r → ItemMeets (grouped same c least ibank o) it core
-group-met same c least ibank o r core it m e = record { told = e ∙ ap (afterGroup same c least ibank) (m .told); left = m .left }
+pub group-met : (c : Course) (same : Due) (least : ℕ) (ibank : Bank) (o : GroupOutcome) (r : GroupStep) (core : List ℕ) (it : Item)
+    → Meets o r core → it ≡ afterGroup c same least ibank r → ItemMeets (grouped c same least ibank o) it core
+group-met c same least ibank o r core it m e = record { told = e ∙ ap (afterGroup c same least ibank) (m .told); left = m .left }
 
 -- a table section's table is there, so the one that the code reads is it
 module _ (area : Area) (io : ℕ) (words ranks ios : List ℕ) (c : Course) (t : TableSection) (ibank : Bank) (block core : List ℕ)
-    (w : Waits (loadOf area io words ranks ios) (TableGroup c t ibank) block core) where
+    (w : Waits (loadOf area io words ranks ios) (Program c (SectionGroup t ibank)) block core) where
   there : t .number .0 < length (tablesIn area words ranks)
   there = table-there (loadOf area io words ranks ios) c t ibank (w .stage) .0
 
@@ -69,53 +71,46 @@ stands x s block core w = record { inside = w .inside; tables = w .tables; stage
 
 module _ (x : Load) (block : List ℕ) where
   -- ---- an item: it leaves the core as it is, or it is a group whose section has its room in the area
-  module _ (i : ℕ) (P : (List ℕ → ItemOutcome) → Type 0) (none : (it : Item) → P (kept it))
-      (group : (same : Stage) (c : Course) (least : ℕ) (ibank : Bank) (section : Section) → InArea (x .area) section
-      → P (λ core. grouped same c least ibank (groupStep (assignments x c) section block i core))) where
-    pub item-cases : (s : Stage) → every (tableInside (x .area)) (x .tables) ≡ true → Fits x s → P (itemStep x s block i)
+  module _ (i : ℕ) (P : (List ℕ → ItemOutcome) → Type 0) (none : (it : Item) → P (headed it)) (c : Course)
+      (group : (same : Due) (least : ℕ) (ibank : Bank) (section : Section) → InArea (x .area) section
+      → P (λ core. grouped c same least ibank (groupStep (assignments x c) section block i core))) where
+    pub item-cases : (due : Due) → every (tableInside (x .area)) (x .tables) ≡ true → Fits x (Program c due) → P (itemStep x c due block i)
     unfolding itemStep
-    item-cases Label e f = none _
-    item-cases (Entry c strict b) e f = none _
-    item-cases (segment-due c) e f = none _
-    item-cases (SegmentGroup c g) e f = group (SegmentGroup c g) c 0 (g .ibank) (in-segment g) (segment-room x c g f)
-    item-cases (table-due c t ibank) e f = none _
-    item-cases (TableGroup c t ibank) e f =
-        group (TableGroup c t ibank) c (t .number .0 + 1) ibank (in-table (getD (x .tables) (t .number .0) noTable) (t .count)) (table-room x c t ibank e f)
-    item-cases (Termination ibank) e f = none _
-    item-cases Complete e f = none _
-    item-cases Broken e f = none _
+    item-cases segment-due e f = none _
+    item-cases (SegmentGroup g) e f = group (SegmentGroup g) 0 (g .ibank) (in-segment g) (segment-room x c g f)
+    item-cases (section-due t ibank) e f = none _
+    item-cases (SectionGroup t ibank) e f = group (SectionGroup t ibank) (t .number .0 + 1) ibank (inSection x t) (table-room x c t ibank e f)
 
-  pub item-length : (s : Stage) (i : ℕ) (core : List ℕ) → Stands x s core → length (itemStep x s block i core .core) ≡ length core
-  item-length s i core w =
-      item-cases i (λ (f : List ℕ → ItemOutcome). length (f core .core) ≡ length core) (λ it. refl)
-      (λ same c least ibank section room. group-length (assignments x c) section block i core room (w .inside)) s (w .tables) (w .stage)
+  pub item-length : (c : Course) (due : Due) (i : ℕ) (core : List ℕ) → Stands x (Program c due) core → length (itemStep x c due block i core .core) ≡ length core
+  item-length c due i core w =
+      item-cases i (λ (f : List ℕ → ItemOutcome). length (f core .core) ≡ length core) (λ it. refl) c
+      (λ same least ibank section room. group-length (assignments x c) section block i core room (w .inside)) due (w .tables) (w .stage)
 
-  pub item-stands : (s : Stage) (i : ℕ) (core : List ℕ) (t : Stage) (p : ℕ) → itemStep x s block i core .item ≡ Go t p → i ≤ 254
-      → Stands x s core → Stands x t (itemStep x s block i core .core)
-  item-stands s i core t p e h w = record {
-    inside = rw (item-length s i core w) (w .inside);
-    tables = w .tables;
-    stage = item-fits x s block i core t p e h (w .stage);
-  }
+  module _ (c : Course) (due : Due) (i : ℕ) (core : List ℕ) (d : Course) (t : Due) (p : ℕ) (e : itemStep x c due block i core .item ≡ Go d t p) (h : i ≤ 254) where
+    pub item-stands : Stands x (Program c due) core → Stands x (Program d t) (itemStep x c due block i core .core)
+    item-stands w = record {
+      inside = rw (item-length c due i core w) (w .inside);
+      tables = w .tables;
+      stage = item-fits x c due block i core d t p e h (w .stage);
+    }
 
-  -- what has been seen to still holds for the next one
-  pub item-waits : (s : Stage) (i : ℕ) (core : List ℕ) (t : Stage) (p : ℕ) → itemStep x s block i core .item ≡ Go t p → i ≤ 254
-      → Waits x s block core → Waits x t block (itemStep x s block i core .core)
-  item-waits s i core t p e h w = let l = item-length s i core (stands x s block core w) in record {
-    inside = rw l (w .inside);
-    most = rw l (w .most);
-    io = w .io;
-    few = w .few;
-    tables = w .tables;
-    stage = item-fits x s block i core t p e h (w .stage);
-    long = w .long;
-    words = w .words;
-  }
+    -- what has been seen to still holds for the next one
+    pub item-waits : Waits x (Program c due) block core → Waits x (Program d t) block (itemStep x c due block i core .core)
+    item-waits w = let l = item-length c due i core (stands x (Program c due) block core w) in record {
+      inside = rw l (w .inside);
+      most = rw l (w .most);
+      io = w .io;
+      few = w .few;
+      tables = w .tables;
+      stage = item-fits x c due block i core d t p e h (w .stage);
+      long = w .long;
+      words = w .words;
+    }
 
   -- ---- the block
-  follow-same : (it : Item) (core : List ℕ) (f g : Stage → ℕ → List ℕ → StepOutcome) → ((t : Stage) (p : ℕ) → it ≡ Go t p → f t p core ≡ g t p core)
-      → followed it core f ≡ followed it core g
-  follow-same (Go t p) core f g h = h t p refl
+  follow-same : (it : Item) (core : List ℕ) (f g : Course → Due → ℕ → List ℕ → StepOutcome)
+      → ((d : Course) (t : Due) (p : ℕ) → it ≡ Go d t p → f d t p core ≡ g d t p core) → followed it core f ≡ followed it core g
+  follow-same (Go d t p) core f g h = h d t p refl
   follow-same (Stop r) core f g h = refl
 
   pub open-place : (i : ℕ) → closes block i ≡ false → i ≤ 254
@@ -126,68 +121,70 @@ module _ (x : Load) (block : List ℕ) where
       neither true b h = h
       neither false b h = refl
 
-  pub from-closed : (n : ℕ) (s : Stage) (i : ℕ) (core : List ℕ) → closes block i ≡ true → programFrom n x s block i core ≡ record { step = More s; core = core }
+  pub from-closed : (n : ℕ) (c : Course) (due : Due) (i : ℕ) (core : List ℕ) → closes block i ≡ true
+      → programFrom n x c due block i core ≡ record { step = More (Program c due); core = core }
   unfolding programFrom
-  from-closed zero s i core q = refl
-  from-closed (suc n) s i core q = rw q
+  from-closed zero c due i core q = refl
+  from-closed (suc n) c due i core q = rw q
 
   past : (i : ℕ) → 255 ≤ i → closes block i ≡ true
   unfolding closes
   past i h = rw (le-leb 255 i h)
 
-  pub from-open : (n : ℕ) (s : Stage) (i : ℕ) (core : List ℕ) → closes block i ≡ false
-      → programFrom (suc n) x s block i core
-      ≡ followed (itemStep x s block i core .item) (itemStep x s block i core .core) (λ t p after. programFrom n x t block p after)
+  pub from-open : (n : ℕ) (c : Course) (due : Due) (i : ℕ) (core : List ℕ) → closes block i ≡ false
+      → programFrom (suc n) x c due block i core
+      ≡ followed (itemStep x c due block i core .item) (itemStep x c due block i core .core) (λ d t p after. programFrom n x d t block p after)
   unfolding programFrom
-  from-open n s i core q = rw q
+  from-open n c due i core q = rw q
 
   -- more turns than there are words left make no difference
-  pub fuel-enough : (n m : ℕ) (s : Stage) (i : ℕ) (core : List ℕ) → 255 ≤ n + i → 255 ≤ m + i → programFrom n x s block i core ≡ programFrom m x s block i core
-  fuel-enough zero m s i core h k = from-closed 0 s i core (past i (omega arith)) ∙ sym (from-closed m s i core (past i (omega arith)))
-  fuel-enough (suc n) zero s i core h k = from-closed (suc n) s i core (past i (omega arith)) ∙ sym (from-closed 0 s i core (past i (omega arith)))
-  fuel-enough (suc n) (suc m) s i core h k = by-test (closes block i)
-      (λ q. from-closed (suc n) s i core q ∙ sym (from-closed (suc m) s i core q))
-      (λ q. from-open n s i core q
-      ∙ follow-same (itemStep x s block i core .item) (itemStep x s block i core .core) _ _
-      (λ t p e.
-      let o = item-onward x s block i core t p e (open-place i q) in
-      fuel-enough n m t p (itemStep x s block i core .core) (omega arith) (omega arith))
-      ∙ sym (from-open m s i core q))
+  pub fuel-enough : (n m : ℕ) (c : Course) (due : Due) (i : ℕ) (core : List ℕ) → 255 ≤ n + i → 255 ≤ m + i
+      → programFrom n x c due block i core ≡ programFrom m x c due block i core
+  fuel-enough zero m c due i core h k = from-closed 0 c due i core (past i (omega arith)) ∙ sym (from-closed m c due i core (past i (omega arith)))
+  fuel-enough (suc n) zero c due i core h k = from-closed (suc n) c due i core (past i (omega arith)) ∙ sym (from-closed 0 c due i core (past i (omega arith)))
+  fuel-enough (suc n) (suc m) c due i core h k = by-test (closes block i)
+      (λ q. from-closed (suc n) c due i core q ∙ sym (from-closed (suc m) c due i core q))
+      (λ q. from-open n c due i core q
+      ∙ follow-same (itemStep x c due block i core .item) (itemStep x c due block i core .core) _ _
+      (λ d t p e.
+      let o = item-onward x c due block i core d t p e (open-place i q) in
+      fuel-enough n m d t p (itemStep x c due block i core .core) (omega arith) (omega arith))
+      ∙ sym (from-open m c due i core q))
 
-  -- ---- the code's loop, where s is due at place i: the items from there on decide the outcome o
-  module _ (s : Stage) (i : ℕ) (core : List ℕ) (o : StepOutcome) where
-    pub turn-zero : i < 255 → getD block i 0 ≡ 0 → o ≡ programFrom (255 - i) x s block i core → StepMeets o (More s) core
+  -- ---- the code's loop, where `due` is due at place i: the items from there on decide the outcome o
+  module _ (c : Course) (due : Due) (i : ℕ) (core : List ℕ) (o : StepOutcome) where
+    pub turn-zero : i < 255 → getD block i 0 ≡ 0 → o ≡ programFrom (255 - i) x c due block i core → StepMeets o (More (Program c due)) core
     unfolding closes
     turn-zero h z q =
-        rw (q ∙ from-closed (255 - i) s i core (rw (lt-leb 255 i h, eq-eqb (getD block i 0) 0 z))) (record { told = refl; left = refl })
+        rw (q ∙ from-closed (255 - i) c due i core (rw (lt-leb 255 i h, eq-eqb (getD block i 0) 0 z))) (record { told = refl; left = refl })
 
-    pub turn-end : 255 ≤ i → o ≡ programFrom (255 - i) x s block i core → StepMeets o (More s) core
-    turn-end h q = rw (q ∙ from-closed (255 - i) s i core (past i h)) (record { told = refl; left = refl })
+    pub turn-end : 255 ≤ i → o ≡ programFrom (255 - i) x c due block i core → StepMeets o (More (Program c due)) core
+    turn-end h q = rw (q ∙ from-closed (255 - i) c due i core (past i h)) (record { told = refl; left = refl })
 
-    module _ (h : i < 255) (z : getD block i 0 ≡ 0 → ⊥) (q : o ≡ programFrom (255 - i) x s block i core) (it : Item) (after : List ℕ)
-        (m : ItemMeets (itemStep x s block i core) it after) where
+    module _ (h : i < 255) (z : getD block i 0 ≡ 0 → ⊥) (q : o ≡ programFrom (255 - i) x c due block i core) (it : Item) (after : List ℕ)
+        (m : ItemMeets (itemStep x c due block i core) it after) where
       opens : closes block i ≡ false
       unfolding closes
       opens = rw (lt-leb 255 i h, ne-eqb (getD block i 0) 0 z)
 
-      decides : o ≡ followed it after (λ t p rest. programFrom (254 - i) x t block p rest)
+      decides : o ≡ followed it after (λ d t p rest. programFrom (254 - i) x d t block p rest)
       decides =
           let e : 255 - i ≡ suc (254 - i) = omega arith in
-          q ∙ rw (e, m .told, m .left) (from-open (254 - i) s i core opens)
+          q ∙ rw (e, m .told, m .left) (from-open (254 - i) c due i core opens)
 
-      pub turn-on : (t : Stage) (p : ℕ) → it ≡ Go t p → (i < p) × (p ≤ 255) × (o ≡ programFrom (255 - p) x t block p after)
-      turn-on t p e =
-          let l = item-onward x s block i core t p (sym (m .told) ∙ e) (omega arith) in
-          (l .0, l .1, rw e at decides ∙ fuel-enough (254 - i) (255 - p) t p after (omega arith) (omega arith))
+      pub turn-on : (d : Course) (t : Due) (p : ℕ) → it ≡ Go d t p → (i < p) × (p ≤ 255) × (o ≡ programFrom (255 - p) x d t block p after)
+      turn-on d t p e =
+          let l = item-onward x c due block i core d t p (sym (m .told) ∙ e) (omega arith) in
+          (l .0, l .1, rw e at decides ∙ fuel-enough (254 - i) (255 - p) d t p after (omega arith) (omega arith))
 
       pub turn-stop : (r : Step) → it ≡ Stop r → StepMeets o r after
       turn-stop r e = rw (rw e at decides) (record { told = refl; left = refl })
 
-      pub turn-waits : (t : Stage) (p : ℕ) → it ≡ Go t p → Waits x s block core → Waits x t block after
-      turn-waits t p e w = rw (m .left) (item-waits s i core t p (sym (m .told) ∙ e) (omega arith) w)
+      pub turn-waits : (d : Course) (t : Due) (p : ℕ) → it ≡ Go d t p → Waits x (Program c due) block core → Waits x (Program d t) block after
+      turn-waits d t p e w = rw (m .left) (item-waits c due i core d t p (sym (m .told) ∙ e) (omega arith) w)
 
-      pub turn-length : Waits x s block core → length after ≡ length core
-      turn-length w = rw (m .left) (item-length s i core (stands x s block core w))
+      pub turn-length : Waits x (Program c due) block core → length after ≡ length core
+      turn-length w = rw (m .left) (item-length c due i core (stands x (Program c due) block core w))
 
 -- ---- a copy of the lent block over 256 zeros is the block
 pub copy-same : (block copy : List ℕ) → length block ≡ 256 → copy ≡ splice (replicate 256 0) 0 block → copy ≡ block

@@ -7,6 +7,7 @@ use lib.Dec.{leb}
 use Rattle.word.specs.Fault.{fault}
 use Rattle.word.specs.Lists.{every}
 use Rattle.word.specs.Runs.{apart}
+use Rattle.word.specs.Sorts.{absoluteOf}
 use Rattle.word.specs.declared.Area.{Area}
 use Rattle.program.specs.declared.Bank.{Bank}
 use Rattle.program.specs.declared.Segment.{Segment}
@@ -17,9 +18,9 @@ use Rattle.program.specs.declared.TableSectionRead.the-variants.{Good as sectio
 use Rattle.program.specs.Sections.{segmentOf, tableSectionOf}
 use Rattle.lists.specs.declared.Table.{Table as CoreTable}
 use Rattle.stage.specs.declared.Course.{Course}
-use Rattle.stage.specs.declared.Stage.the-variants.{SegmentGroup, TableGroup}
+use Rattle.stage.specs.declared.Due.the-variants.{SegmentGroup, SectionGroup}
 use Rattle.stage.specs.Ranges.{bankFits, countFits}
-use Rattle.step.specs.declared.Step.the-variants.{Refused}
+use Rattle.stage.specs.declared.Step.the-variants.{Refused}
 use Rattle.sections.specs.declared.Item.{Item}
 use Rattle.sections.specs.declared.Item.the-variants.{Go, Stop}
 
@@ -31,7 +32,7 @@ headFault = Stop (Refused (fault 17))
 
 -- a bank shares no word with a table; the bank's address counts from the area's
 unfoldable pub besideTable : Area → Bank → CoreTable → Bool
-besideTable area b t = apart (area .at .0 + b .at .0) (b .count) (t .at .0) (t .len)
+besideTable area b t = apart (absoluteOf area (b .at) .0) (b .count) (t .at .0) (t .len)
 
 -- "Both lie in the area, sharing no word with each other or a table."
 unfoldable pub banksFit : Area → List CoreTable → Segment → Bool
@@ -44,7 +45,7 @@ banksFit area ts g =
 
 -- its groups are due after its four words, from place p on
 unfoldable pub withSegment : Area → List CoreTable → Course → ℕ → SegmentRead → Item
-withSegment area ts c p (segment-read g) = cond (banksFit area ts g) (Go (SegmentGroup c g) p) headFault
+withSegment area ts c p (segment-read g) = cond (banksFit area ts g) (Go c (SegmentGroup g) p) headFault
 withSegment area ts c p (no-segment f) = Stop (Refused f)
 
 -- "its identifier words stay in one block (else 17)": words up to 254
@@ -59,7 +60,7 @@ segmentStep area ts c block i =
 unfoldable pub withSection : List CoreTable → Course → ℕ → Bank → ℕ → TableSectionRead → Item
 withSection ts c least ibank p (section-read t) =
     cond (leb least (t .number .0))
-    (cond (countFits ts t) (Go (TableGroup (record { near = c .near; sections = c .sections - 1 }) t ibank) p) headFault)
+    (cond (countFits ts t) (Go (record { near = c .near; sections = c .sections - 1 }) (SectionGroup t ibank) p) headFault)
     headFault
 withSection ts c least ibank p (no-section f) = Stop (Refused f)
 

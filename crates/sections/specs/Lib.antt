@@ -1,4 +1,4 @@
-pub mod Due
 pub mod Load
 pub mod Heads
 pub mod Program
+pub mod HowItems

@@ -11,8 +11,8 @@ use program::Segment;
 use program::SegmentRead;
 use program::TableSectionRead;
 use stage::Course;
-use stage::Stage;
-use step::Step;
+use stage::Due;
+use stage::Step;
 use word::Area;
 use word::Fault;
 use word::Reference;
@@ -35,7 +35,7 @@ pub fn segment_head(
     match program::read_segment(block[i], block[i + 1]) {
         SegmentRead::Good(g) => {
             if banks_fit(area, words, ranks, g) {
-                return Item::Go(Stage::SegmentGroup(c, g), i + 4);
+                return Item::Go(c, Due::SegmentGroup(g), i + 4);
             }
             Item::Stop(Step::Refused(Fault { number: 17 }))
         }
@@ -63,7 +63,7 @@ pub fn section_head(
                 return Item::Stop(Step::Refused(Fault { number: 17 }));
             }
             if stage::count_fits(area, words, ranks, t) {
-                return Item::Go(Stage::TableGroup(one_fewer(c), t, ibank), i + 1);
+                return Item::Go(one_fewer(c), Due::SectionGroup(t, ibank), i + 1);
             }
             Item::Stop(Step::Refused(Fault { number: 17 }))
         }
@@ -111,11 +111,11 @@ fn bank_beside_tables(area: Area, words: &[u64], ranks: &[u64], bank: Bank) -> b
     requires { ⌜ (area .at .0 + area .size ≤ 65536) × (bank .at .0 ≤ area .size) ⌝ }
     ensures { λ r. ⌜ r ≡ every (besideTable area bank) (tablesIn area (now (words .entry)) (now (ranks .entry))) ⌝ }
 {
-    let at = area.at.0 + bank.at.0;
+    let at = word::placed(area, bank.at);
     let mut k: usize = 0;
     while k < ranks.len() {
         let t = lists::table_at(words, ranks, area, Reference(k as u64));
-        if !word::runs_apart(at, bank.count, t.at.0, t.len) {
+        if !word::runs_apart(at.0, bank.count, t.at.0, t.len) {
             return false;
         }
         k += 1;

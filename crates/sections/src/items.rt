@@ -1,10 +1,8 @@
 // A program block, item after item: what is due at a place says how the word there is read.
 ghost use mathlib.Core.Path.{_≡_};
-ghost use mathlib.Core.List.{[]};
 ghost use Prim.Native.Nat.{_+_, _≤_};
-ghost use lib.ListN.{length};
 ghost use Rattle.sections.specs.Load.{loadOf, Waits};
-ghost use Rattle.sections.specs.Due.{dueOf, Numbered, headOf};
+ghost use Rattle.sections.specs.HowItems.{Numbered, readingOf};
 ghost use Rattle.sections.specs.Program.{afterLast, afterGroup, itemStep, programStep, ItemMeets, StepMeets};
 use crate::Item;
 use crate::heads;
@@ -13,35 +11,39 @@ use group::GroupStep;
 use group::Section;
 use program::Bank;
 use stage::Course;
+use stage::Due;
 use stage::Stage;
-use step::Step;
+use stage::Step;
 use word::Area;
 use word::Reference;
 
-// The group that is due: its section, the course, the least number of a table section after it, and the IBANK; or none is.
-enum Due {
-    Group(Section, Course, Reference, Bank),
-    Other,
+// How the word at a place is read: as a section's head, or as the identifier of a group, with its section, the least number of a
+// table section after it and the IBANK.
+enum Reading {
+    Segment,
+    Section(Reference, Bank),
+    Group(Section, Reference, Bank),
 }
 
-// A program block for a load that waits for s, into the core. The lent block is copied first (01, "blocks of 256 words built with
-// repeat arrays").
+// A program block for a load of course c where due is due, into the core. The lent block is copied first (01, "blocks of 256 words
+// built with repeat arrays").
 pub fn program_step(
     area: Area,
     io: u64,
     words: &[u64],
     ranks: &[u64],
     ios: &[u64],
-    s: Stage,
+    c: Course,
+    due: Due,
     block: &[u64],
     core: &mut [u64],
 ) -> Step
-    requires { ⌜ Waits (loadOf area io (now words) (now ranks) (now ios)) s (now block) (now core) ⌝ }
-    ensures { λ r. ⌜ StepMeets (programStep (loadOf area io (now (words .entry)) (now (ranks .entry)) (now (ios .entry))) s (now (block .entry)) (now (core .entry))) r (now (core .exit)) ⌝ }
+    requires { ⌜ Waits (loadOf area io (now words) (now ranks) (now ios)) (Stage.Program c due) (now block) (now core) ⌝ }
+    ensures { λ r. ⌜ StepMeets (programStep (loadOf area io (now (words .entry)) (now (ranks .entry)) (now (ios .entry))) c due (now (block .entry)) (now (core .entry))) r (now (core .exit)) ⌝ }
 {
     let mut b = [0u64; 256];
     word::slices::copy_in(&mut b, 0, block);
-    walk_items(area, io, words, ranks, ios, s, &b, core)
+    walk_items(area, io, words, ranks, ios, c, due, &b, core)
 }
 
 // Item after item, from word 1 on.
@@ -51,22 +53,25 @@ fn walk_items(
     words: &[u64],
     ranks: &[u64],
     ios: &[u64],
-    s: Stage,
+    c: Course,
+    due: Due,
     block: &[u64],
     core: &mut [u64],
 ) -> Step
-    requires { ⌜ Waits (loadOf area io (now words) (now ranks) (now ios)) s (now block) (now core) ⌝ }
-    ensures { λ r. ⌜ StepMeets (programStep (loadOf area io (now (words .entry)) (now (ranks .entry)) (now (ios .entry))) s (now (block .entry)) (now (core .entry))) r (now (core .exit)) ⌝ }
+    requires { ⌜ Waits (loadOf area io (now words) (now ranks) (now ios)) (Stage.Program c due) (now block) (now core) ⌝ }
+    ensures { λ r. ⌜ StepMeets (programStep (loadOf area io (now (words .entry)) (now (ranks .entry)) (now (ios .entry))) c due (now (block .entry)) (now (core .entry))) r (now (core .exit)) ⌝ }
 {
-    let mut due = s;
+    let mut course = c;
+    let mut next = due;
     let mut i: usize = 1;
     while i < 255 {
         if block[i] == 0 {
-            return Step::More(due);
+            return Step::More(Stage::Program(course, next));
         }
-        match item_step(area, io, words, ranks, ios, due, block, i, core) {
-            Item::Go(t, p) => {
-                due = t;
+        match item_step(area, io, words, ranks, ios, course, next, block, i, core) {
+            Item::Go(d, t, p) => {
+                course = d;
+                next = t;
                 i = p;
             }
             Item::Stop(r) => {
@@ -74,107 +79,73 @@ fn walk_items(
             }
         }
     }
-    Step::More(due)
+    Step::More(Stage::Program(course, next))
 }
 
-// What stands at place i, where s is due. Groups of either section are read here, at one place, so that the compiler makes their code
-// once and for this place.
+// What stands at place i, where due is due. Groups of either section are read here, at one place, so that the compiler makes their
+// code once and for this place.
 fn item_step(
     area: Area,
     io: u64,
     words: &[u64],
     ranks: &[u64],
     ios: &[u64],
-    s: Stage,
+    c: Course,
+    due: Due,
     block: &[u64],
     i: usize,
     core: &mut [u64],
 ) -> Item
-    requires { ⌜ (Waits (loadOf area io (now words) (now ranks) (now ios)) s (now block) (now core)) × (i ≤ 254) ⌝ }
-    ensures { λ r. ⌜ ItemMeets (itemStep (loadOf area io (now (words .entry)) (now (ranks .entry)) (now (ios .entry))) s (now (block .entry)) i (now (core .entry))) r (now (core .exit)) ⌝ }
+    requires { ⌜ (Waits (loadOf area io (now words) (now ranks) (now ios)) (Stage.Program c due) (now block) (now core)) × (i ≤ 254) ⌝ }
+    ensures { λ r. ⌜ ItemMeets (itemStep (loadOf area io (now (words .entry)) (now (ranks .entry)) (now (ios .entry))) c due (now (block .entry)) i (now (core .entry))) r (now (core .exit)) ⌝ }
 {
-    match due_of(area, words, ranks, s) {
-        Due::Group(section, c, least, ibank) => {
+    match reading_of(area, words, ranks, due) {
+        Reading::Segment => heads::segment_head(area, words, ranks, c, block, i),
+        Reading::Section(t, b) => heads::section_head(area, words, ranks, c, t, b, block, i),
+        Reading::Group(section, least, ibank) => {
             let near = c.near;
-            let r = group::group_step(
-                Setting {
-                    area,
-                    near,
-                    all: io,
-                },
-                section,
-                words,
-                ranks,
-                ios,
-                block,
-                i,
-                core,
-            );
-            after_group(s, c, least, ibank, r)
+            let set = Setting {
+                area,
+                near,
+                all: io,
+            };
+            let r = group::group_step(set, section, words, ranks, ios, block, i, core);
+            after_group(c, due, least, ibank, r)
         }
-        Due::Other => head_item(area, words, ranks, s, block, i),
     }
 }
 
-// The group that s says is due.
-fn due_of(area: Area, words: &[u64], ranks: &[u64], s: Stage) -> Due
-    requires { ⌜ (area .at .0 + area .size ≤ 65536) × (Numbered s) ⌝ }
-    ensures { λ r. ⌜ r ≡ dueOf area (now (words .entry)) (now (ranks .entry)) s ⌝ }
+// How the word is read where due is due.
+fn reading_of(area: Area, words: &[u64], ranks: &[u64], due: Due) -> Reading
+    requires { ⌜ (area .at .0 + area .size ≤ 65536) × (Numbered due) ⌝ }
+    ensures { λ r. ⌜ r ≡ readingOf area (now (words .entry)) (now (ranks .entry)) due ⌝ }
 {
-    match s {
-        Stage::SegmentGroup(c, g) => {
+    match due {
+        Due::Segment => Reading::Segment,
+        Due::SegmentGroup(g) => {
             let ibank = g.ibank;
-            Due::Group(Section::Segment(g), c, Reference(0), ibank)
+            Reading::Group(Section::Segment(g), Reference(0), ibank)
         }
-        Stage::TableGroup(c, t, ibank) => {
+        Due::Section(t, ibank) => Reading::Section(t, ibank),
+        Due::SectionGroup(t, ibank) => {
             let number = t.number;
             let count = t.count;
             let table = lists::table_at(words, ranks, area, number);
-            Due::Group(
-                Section::Table(table, count),
-                c,
-                Reference(number.0 + 1),
-                ibank,
-            )
+            Reading::Group(Section::Table(table, count), Reference(number.0 + 1), ibank)
         }
-        Stage::Label => Due::Other,
-        Stage::Entry(_, _, _) => Due::Other,
-        Stage::Segment(_) => Due::Other,
-        Stage::Table(_, _, _) => Due::Other,
-        Stage::Termination(_) => Due::Other,
-        Stage::Complete => Due::Other,
-        Stage::Broken => Due::Other,
-    }
-}
-
-// A section's head where one is due; anything else than these and a group ends the block.
-fn head_item(area: Area, words: &[u64], ranks: &[u64], s: Stage, block: &[u64], i: usize) -> Item
-    requires { ⌜ (area .at .0 + area .size ≤ 65536) × (length (now block) ≡ 256) × (i ≤ 254) ⌝ }
-    ensures { λ r. ⌜ r ≡ headOf (loadOf area 0 (now (words .entry)) (now (ranks .entry)) []) s (now (block .entry)) i ⌝ }
-{
-    match s {
-        Stage::Segment(c) => heads::segment_head(area, words, ranks, c, block, i),
-        Stage::Table(c, t, b) => heads::section_head(area, words, ranks, c, t, b, block, i),
-        Stage::Label => Item::Stop(Step::More(s)),
-        Stage::Entry(_, _, _) => Item::Stop(Step::More(s)),
-        Stage::SegmentGroup(_, _) => Item::Stop(Step::More(s)),
-        Stage::TableGroup(_, _, _) => Item::Stop(Step::More(s)),
-        Stage::Termination(_) => Item::Stop(Step::More(s)),
-        Stage::Complete => Item::Stop(Step::More(s)),
-        Stage::Broken => Item::Stop(Step::More(s)),
     }
 }
 
 // What is due after a group: a group of the same section, or what follows the section's last one.
-fn after_group(same: Stage, c: Course, least: Reference, ibank: Bank, r: GroupStep) -> Item
-    ensures { λ it. ⌜ it ≡ afterGroup same c (least .0) ibank r ⌝ }
+fn after_group(c: Course, same: Due, least: Reference, ibank: Bank, r: GroupStep) -> Item
+    ensures { λ it. ⌜ it ≡ afterGroup c same (least .0) ibank r ⌝ }
 {
     match r {
         GroupStep::Done(p, last) => {
             if last {
                 return after_last(c, least, ibank, p);
             }
-            Item::Go(same, p)
+            Item::Go(c, same, p)
         }
         GroupStep::Refused(f) => Item::Stop(Step::Refused(f)),
     }
@@ -187,5 +158,5 @@ fn after_last(c: Course, least: Reference, ibank: Bank, p: usize) -> Item
     if c.sections == 0 {
         return Item::Stop(Step::More(Stage::Termination(ibank)));
     }
-    Item::Go(Stage::Table(c, least, ibank), p)
+    Item::Go(c, Due::Section(least, ibank), p)
 }

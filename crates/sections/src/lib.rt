@@ -2,11 +2,12 @@
 pub mod heads;
 pub mod items;
 
-use stage::Stage;
-use step::Step;
+use stage::Course;
+use stage::Due;
+use stage::Step;
 
 // What stands at a place of a program block leads to what is due at another place, or to the block's end.
 pub enum Item {
-    Go(Stage, usize),
+    Go(Course, Due, usize),
     Stop(Step),
 }

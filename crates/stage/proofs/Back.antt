@@ -3,17 +3,18 @@ use mathlib.Core.Path.{_≡_, refl}
 use mathlib.Core.Bool.{true, false}
 use lib.ListN.{length}
 use Rattle.stage.specs.Stage.{numbersOf, stageOf}
+use Rattle.stage.specs.declared.Due.the-variants.{Segment, SegmentGroup, Section, SectionGroup}
 use Rattle.stage.specs.declared.Stage.{Stage}
-use Rattle.stage.specs.declared.Stage.the-variants.{Label, Entry, Segment as segment-due, SegmentGroup, Table, TableGroup, Termination, Complete, Broken}
+use Rattle.stage.specs.declared.Stage.the-variants.{Label, Entry, Program, Termination, Complete, Broken}
 
 pub stage-length : (s : Stage) → length (numbersOf s) ≡ 9
 unfolding numbersOf
 stage-length Label = refl
 stage-length (Entry c strict b) = refl
-stage-length (segment-due c) = refl
-stage-length (SegmentGroup c g) = refl
-stage-length (Table c t i) = refl
-stage-length (TableGroup c t i) = refl
+stage-length (Program c Segment) = refl
+stage-length (Program c (SegmentGroup g)) = refl
+stage-length (Program c (Section t i)) = refl
+stage-length (Program c (SectionGroup t i)) = refl
 stage-length (Termination i) = refl
 stage-length Complete = refl
 stage-length Broken = refl
@@ -23,10 +24,10 @@ unfolding numbersOf stageOf
 stage-back Label = refl
 stage-back (Entry c true b) = refl
 stage-back (Entry c false b) = refl
-stage-back (segment-due c) = refl
-stage-back (SegmentGroup c g) = refl
-stage-back (Table c t i) = refl
-stage-back (TableGroup c t i) = refl
+stage-back (Program c Segment) = refl
+stage-back (Program c (SegmentGroup g)) = refl
+stage-back (Program c (Section t i)) = refl
+stage-back (Program c (SectionGroup t i)) = refl
 stage-back (Termination i) = refl
 stage-back Complete = refl
 stage-back Broken = refl

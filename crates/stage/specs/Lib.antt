@@ -1,2 +1,3 @@
 pub mod Stage
 pub mod Ranges
+pub mod Record

@@ -9,8 +9,9 @@ use Rattle.program.specs.declared.Bank.{Bank}
 use Rattle.program.specs.declared.Segment.{Segment}
 use Rattle.program.specs.declared.TableSection.{TableSection}
 use Rattle.stage.specs.declared.Course.{Course}
+use Rattle.stage.specs.declared.Due.the-variants.{Segment as segment-due, SegmentGroup, Section, SectionGroup}
 use Rattle.stage.specs.declared.Stage.{Stage}
-use Rattle.stage.specs.declared.Stage.the-variants.{Label, Entry, Segment as segment-due, SegmentGroup, Table, TableGroup, Termination, Complete, Broken}
+use Rattle.stage.specs.declared.Stage.the-variants.{Label, Entry, Program, Termination, Complete, Broken}
 
 -- the numbers are: what is due; the course's two; a table's number, a block's, or whether longer tables are forbidden; a second of
 -- these; the IBANK's address and count; the DBANK's
@@ -20,11 +21,11 @@ flag strict = cond strict 1 0
 unfoldable pub numbersOf : Stage → List ℕ
 numbersOf Label = 0 ∷ 0 ∷ 0 ∷ 0 ∷ 0 ∷ 0 ∷ 0 ∷ 0 ∷ 0 ∷ []
 numbersOf (Entry c strict b) = 1 ∷ c .near ∷ c .sections ∷ b ∷ flag strict ∷ 0 ∷ 0 ∷ 0 ∷ 0 ∷ []
-numbersOf (segment-due c) = 2 ∷ c .near ∷ c .sections ∷ 0 ∷ 0 ∷ 0 ∷ 0 ∷ 0 ∷ 0 ∷ []
-numbersOf (SegmentGroup c g) =
+numbersOf (Program c segment-due) = 2 ∷ c .near ∷ c .sections ∷ 0 ∷ 0 ∷ 0 ∷ 0 ∷ 0 ∷ 0 ∷ []
+numbersOf (Program c (SegmentGroup g)) =
     3 ∷ c .near ∷ c .sections ∷ 0 ∷ 0 ∷ g .ibank .at .0 ∷ g .ibank .count ∷ g .dbank .at .0 ∷ g .dbank .count ∷ []
-numbersOf (Table c t i) = 4 ∷ c .near ∷ c .sections ∷ t .0 ∷ 0 ∷ i .at .0 ∷ i .count ∷ 0 ∷ 0 ∷ []
-numbersOf (TableGroup c t i) = 5 ∷ c .near ∷ c .sections ∷ t .number .0 ∷ t .count ∷ i .at .0 ∷ i .count ∷ 0 ∷ 0 ∷ []
+numbersOf (Program c (Section t i)) = 4 ∷ c .near ∷ c .sections ∷ t .0 ∷ 0 ∷ i .at .0 ∷ i .count ∷ 0 ∷ 0 ∷ []
+numbersOf (Program c (SectionGroup t i)) = 5 ∷ c .near ∷ c .sections ∷ t .number .0 ∷ t .count ∷ i .at .0 ∷ i .count ∷ 0 ∷ 0 ∷ []
 numbersOf (Termination i) = 6 ∷ 0 ∷ 0 ∷ 0 ∷ 0 ∷ i .at .0 ∷ i .count ∷ 0 ∷ 0 ∷ []
 numbersOf Complete = 7 ∷ 0 ∷ 0 ∷ 0 ∷ 0 ∷ 0 ∷ 0 ∷ 0 ∷ 0 ∷ []
 numbersOf Broken = 8 ∷ 0 ∷ 0 ∷ 0 ∷ 0 ∷ 0 ∷ 0 ∷ 0 ∷ 0 ∷ []
@@ -46,10 +47,10 @@ unfoldable pub stageOf : List ℕ → Stage
 stageOf l =
     cond (eqb (getD l 0 0) 0) Label
     (cond (eqb (getD l 0 0) 1) (Entry (courseIn l) (eqb (getD l 4 0) 1) (getD l 3 0))
-    (cond (eqb (getD l 0 0) 2) (segment-due (courseIn l))
-    (cond (eqb (getD l 0 0) 3) (SegmentGroup (courseIn l) (segmentIn l))
-    (cond (eqb (getD l 0 0) 4) (Table (courseIn l) (record { 0 = getD l 3 0 }) (ibankIn l))
-    (cond (eqb (getD l 0 0) 5) (TableGroup (courseIn l) (tableSectionIn l) (ibankIn l))
+    (cond (eqb (getD l 0 0) 2) (Program (courseIn l) segment-due)
+    (cond (eqb (getD l 0 0) 3) (Program (courseIn l) (SegmentGroup (segmentIn l)))
+    (cond (eqb (getD l 0 0) 4) (Program (courseIn l) (Section (record { 0 = getD l 3 0 }) (ibankIn l)))
+    (cond (eqb (getD l 0 0) 5) (Program (courseIn l) (SectionGroup (tableSectionIn l) (ibankIn l)))
     (cond (eqb (getD l 0 0) 6) (Termination (ibankIn l))
     (cond (eqb (getD l 0 0) 7) Complete
     Broken)))))))

@@ -1,15 +1,20 @@
-// What a load waits for: its stage, how the desk keeps it in nine numbers, and the ranges that its numbers have.
+// What a load waits for: its stage, what a block leads to, how the desk keeps a stage in nine numbers, and the ranges that its
+// numbers have.
 ghost use mathlib.Core.Path.{_≡_};
 ghost use mathlib.Core.Bool.{_&&_};
 ghost use Prim.Native.Nat.{_+_, _≤_, _<_};
 ghost use lib.ListN.{length};
 ghost use Rattle.lists.specs.Kept.{tablesIn};
 ghost use Rattle.stage.specs.Stage.{numbersOf, stageOf};
-ghost use Rattle.stage.specs.Ranges.{courseFits, bankFits, countFits, stageFits};
+ghost use Rattle.stage.specs.Ranges.{courseFits, bankFits, countFits, dueFits, stageFits};
+ghost use Rattle.stage.specs.Record.{recordDue, isOver};
+use block::Record;
 use program::Bank;
 use program::Segment;
 use program::TableSection;
+use word::Absolute;
 use word::Area;
+use word::Fault;
 use word::Reference;
 use word::Relative;
 
@@ -19,18 +24,58 @@ pub struct Course {
     pub sections: u64,
 }
 
-// What is due next. An entry's block is counted from 0 among the modification blocks, with whether longer tables are forbidden; a
-// table section's number is at least the one kept with it; the IBANK is kept for the start.
+// What is due at the next word of the program blocks: a section's head or a group of the section. A table section's number is at
+// least the one kept with it; the IBANK is kept for the start.
+pub enum Due {
+    Segment,
+    SegmentGroup(Segment),
+    Section(Reference, Bank),
+    SectionGroup(TableSection, Bank),
+}
+
+// What is due next. An entry's block is counted from 0 among the modification blocks, with whether longer tables are forbidden.
 pub enum Stage {
     Label,
     Entry(Course, bool, u64),
-    Segment(Course),
-    SegmentGroup(Course, Segment),
-    Table(Course, Reference, Bank),
-    TableGroup(Course, TableSection, Bank),
+    Program(Course, Due),
     Termination(Bank),
     Complete,
     Broken,
+}
+
+// What a block leads to.
+pub enum Step {
+    More(Stage),
+    Done(Absolute),
+    Refused(Fault),
+}
+
+// The record that a block must be of.
+pub fn record_due(s: Stage) -> Record
+    ensures { λ r. ⌜ r ≡ recordDue s ⌝ }
+{
+    match s {
+        Stage::Label => Record::Label,
+        Stage::Entry(_, _, _) => Record::Modification,
+        Stage::Program(_, _) => Record::Program,
+        Stage::Termination(_) => Record::Termination,
+        Stage::Complete => Record::Termination,
+        Stage::Broken => Record::Termination,
+    }
+}
+
+// Whether no block is due any more (10).
+pub fn is_over(s: Stage) -> bool
+    ensures { λ r. ⌜ r ≡ isOver s ⌝ }
+{
+    match s {
+        Stage::Label => false,
+        Stage::Entry(_, _, _) => false,
+        Stage::Program(_, _) => false,
+        Stage::Termination(_) => false,
+        Stage::Complete => true,
+        Stage::Broken => true,
+    }
 }
 
 // A stage as nine numbers.
@@ -40,10 +85,7 @@ pub fn stage_numbers(s: Stage) -> [u64; 9]
     match s {
         Stage::Label => [0, 0, 0, 0, 0, 0, 0, 0, 0],
         Stage::Entry(c, strict, b) => entry_numbers(c, strict, b),
-        Stage::Segment(c) => [2, c.near, c.sections, 0, 0, 0, 0, 0, 0],
-        Stage::SegmentGroup(c, g) => segment_numbers(c, g),
-        Stage::Table(c, t, i) => [4, c.near, c.sections, t.0, 0, i.at.0, i.count, 0, 0],
-        Stage::TableGroup(c, t, i) => table_numbers(c, t, i),
+        Stage::Program(c, due) => due_numbers(c, due),
         Stage::Termination(i) => [6, 0, 0, 0, 0, i.at.0, i.count, 0, 0],
         Stage::Complete => [7, 0, 0, 0, 0, 0, 0, 0, 0],
         Stage::Broken => [8, 0, 0, 0, 0, 0, 0, 0, 0],
@@ -59,8 +101,19 @@ fn entry_numbers(c: Course, strict: bool, b: u64) -> [u64; 9]
     [1, c.near, c.sections, b, 0, 0, 0, 0, 0]
 }
 
+fn due_numbers(c: Course, due: Due) -> [u64; 9]
+    ensures { λ r. ⌜ r ≡ numbersOf (Stage.Program c due) ⌝ }
+{
+    match due {
+        Due::Segment => [2, c.near, c.sections, 0, 0, 0, 0, 0, 0],
+        Due::SegmentGroup(g) => segment_numbers(c, g),
+        Due::Section(t, i) => [4, c.near, c.sections, t.0, 0, i.at.0, i.count, 0, 0],
+        Due::SectionGroup(t, i) => section_numbers(c, t, i),
+    }
+}
+
 fn segment_numbers(c: Course, g: Segment) -> [u64; 9]
-    ensures { λ r. ⌜ r ≡ numbersOf (Stage.SegmentGroup c g) ⌝ }
+    ensures { λ r. ⌜ r ≡ numbersOf (Stage.Program c (Due.SegmentGroup g)) ⌝ }
 {
     let i = g.ibank;
     let d = g.dbank;
@@ -77,8 +130,8 @@ fn segment_numbers(c: Course, g: Segment) -> [u64; 9]
     ]
 }
 
-fn table_numbers(c: Course, t: TableSection, i: Bank) -> [u64; 9]
-    ensures { λ r. ⌜ r ≡ numbersOf (Stage.TableGroup c t i) ⌝ }
+fn section_numbers(c: Course, t: TableSection, i: Bank) -> [u64; 9]
+    ensures { λ r. ⌜ r ≡ numbersOf (Stage.Program c (Due.SectionGroup t i)) ⌝ }
 {
     [
         5,
@@ -98,7 +151,7 @@ pub fn read_stage(n: &[u64]) -> Stage
     requires { ⌜ length (now n) ≡ 9 ⌝ }
     ensures { λ s. ⌜ s ≡ stageOf (now (n .entry)) ⌝ }
 {
-    let due = n[0];
+    let tag = n[0];
     let c = Course {
         near: n[1],
         sections: n[2],
@@ -107,13 +160,13 @@ pub fn read_stage(n: &[u64]) -> Stage
         at: Relative(n[5]),
         count: n[6],
     };
-    match due {
+    match tag {
         0 => Stage::Label,
         1 => Stage::Entry(c, n[4] == 1, n[3]),
-        2 => Stage::Segment(c),
-        3 => Stage::SegmentGroup(c, with_dbank(i, n[7], n[8])),
-        4 => Stage::Table(c, Reference(n[3]), i),
-        5 => Stage::TableGroup(c, section_of(n[3], n[4]), i),
+        2 => Stage::Program(c, Due::Segment),
+        3 => Stage::Program(c, Due::SegmentGroup(with_dbank(i, n[7], n[8]))),
+        4 => Stage::Program(c, Due::Section(Reference(n[3]), i)),
+        5 => Stage::Program(c, Due::SectionGroup(section_of(n[3], n[4]), i)),
         6 => Stage::Termination(i),
         7 => Stage::Complete,
         _ => Stage::Broken,
@@ -155,15 +208,12 @@ pub fn stage_fits(area: Area, words: &[u64], ranks: &[u64], io: u64, s: Stage) -
             }
             b < modification::entry_blocks(io, tables)
         }
-        Stage::Segment(c) => course_fits(io, tables, c),
-        Stage::SegmentGroup(c, g) => segment_fits(area, io, tables, c, g),
-        Stage::Table(c, _, i) => {
+        Stage::Program(c, due) => {
             if !course_fits(io, tables, c) {
                 return false;
             }
-            bank_fits(area, i)
+            due_fits(area, words, ranks, due)
         }
-        Stage::TableGroup(c, t, i) => table_fits(area, words, ranks, io, c, t, i),
         Stage::Termination(i) => bank_fits(area, i),
         Stage::Complete => true,
         Stage::Broken => true,
@@ -186,39 +236,28 @@ pub fn bank_fits(area: Area, b: Bank) -> bool
     word::run_within(b.at.0, b.count, 0, area.size)
 }
 
-fn segment_fits(area: Area, io: u64, tables: u64, c: Course, g: Segment) -> bool
-    ensures { λ r. ⌜ r ≡ (courseFits io tables c && (bankFits area (g .ibank) && bankFits area (g .dbank))) ⌝ }
-{
-    if !course_fits(io, tables, c) {
-        return false;
-    }
-    let i = g.ibank;
-    if !bank_fits(area, i) {
-        return false;
-    }
-    let d = g.dbank;
-    bank_fits(area, d)
-}
-
-fn table_fits(
-    area: Area,
-    words: &[u64],
-    ranks: &[u64],
-    io: u64,
-    c: Course,
-    t: TableSection,
-    i: Bank,
-) -> bool
+fn due_fits(area: Area, words: &[u64], ranks: &[u64], due: Due) -> bool
     requires { ⌜ area .at .0 + area .size ≤ 65536 ⌝ }
-    ensures { λ r. ⌜ r ≡ (courseFits io (length (now (ranks .entry))) c && (countFits (tablesIn area (now (words .entry)) (now (ranks .entry))) t && bankFits area i)) ⌝ }
+    ensures { λ r. ⌜ r ≡ dueFits area (tablesIn area (now (words .entry)) (now (ranks .entry))) due ⌝ }
 {
-    if !course_fits(io, ranks.len() as u64, c) {
-        return false;
+    match due {
+        Due::Segment => true,
+        Due::SegmentGroup(g) => {
+            let i = g.ibank;
+            if !bank_fits(area, i) {
+                return false;
+            }
+            let d = g.dbank;
+            bank_fits(area, d)
+        }
+        Due::Section(_, i) => bank_fits(area, i),
+        Due::SectionGroup(t, i) => {
+            if !count_fits(area, words, ranks, t) {
+                return false;
+            }
+            bank_fits(area, i)
+        }
     }
-    if !count_fits(area, words, ranks, t) {
-        return false;
-    }
-    bank_fits(area, i)
 }
 
 // Whether a table section is of a table that there is, and of no more words than the table has.

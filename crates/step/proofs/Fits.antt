@@ -28,12 +28,12 @@ use Rattle.program.specs.Start.{startOf, inBank}
 use Rattle.stage.specs.declared.Course.{Course}
 use Rattle.stage.specs.declared.Stage.{Stage}
 use Rattle.stage.specs.declared.Stage.the-variants.{Entry}
-use Rattle.stage.specs.Ranges.{courseFits, stageFits}
+use Rattle.stage.specs.Ranges.{courseFits, dueFits, stageFits}
 use Rattle.step.specs.Label.{courseOf, afterLabel, withLabel, labelStep}
 use Rattle.step.specs.Entries.{entriesFit, afterEntries, entryStep}
 use Rattle.step.specs.Termination.{terminationStep}
-use Rattle.step.specs.declared.Step.{Step}
-use Rattle.step.specs.declared.Step.the-variants.{More, Done, Refused}
+use Rattle.stage.specs.declared.Step.{Step}
+use Rattle.stage.specs.declared.Step.the-variants.{More, Done, Refused}
 
 -- a fault of a block, not of a call
 abbrev pub OfBlock : Fault → Type 0
@@ -73,10 +73,10 @@ course-fits l ios tables k q =
 
 after-label-fits : (area : Area) (ts : List CoreTable) (io : ℕ) (l : Label) → courseFits io (length ts) (courseOf l) ≡ true
     → stageFits area ts io (afterLabel io (length ts) l) ≡ true
-unfolding afterLabel stageFits
+unfolding afterLabel dueFits stageFits
 after-label-fits area ts io l q =
     when (λ (s : Stage). stageFits area ts io s ≡ true) (eqb (entryBlocks io (length ts)) 0)
-    (λ _. q)
+    (λ _. and-both _ _ q refl)
     (λ e. let h = eqb-false (entryBlocks io (length ts)) 0 e in and-both _ _ q (lt-ltb 0 (entryBlocks io (length ts)) (omega arith)))
 
 pub label-fits : (area : Area) (ts : List CoreTable) (ios block : List ℕ) (s : Stage) → labelStep ios (length ts) block ≡ More s
@@ -107,11 +107,11 @@ module _ (io : ℕ) (ts : List CoreTable) (c : Course) (strict : Bool) (b : ℕ)
 
 after-entries-fit : (area : Area) (ts : List CoreTable) (io : ℕ) (c : Course) (strict : Bool) (b : ℕ) → courseFits io (length ts) c ≡ true
     → stageFits area ts io (afterEntries io (length ts) c strict b) ≡ true
-unfolding afterEntries stageFits
+unfolding afterEntries dueFits stageFits
 after-entries-fit area ts io c strict b q =
     when (λ (s : Stage). stageFits area ts io s ≡ true) (ltb (b + 1) (entryBlocks io (length ts)))
     (λ h. and-both _ _ q h)
-    (λ _. q)
+    (λ _. and-both _ _ q refl)
 
 pub entry-fits : (area : Area) (ts : List CoreTable) (io : ℕ) (c : Course) (strict : Bool) (b : ℕ) (block : List ℕ) (s : Stage)
     → stageFits area ts io (Entry c strict b) ≡ true → entryStep io ts c strict b block ≡ More s → stageFits area ts io s ≡ true

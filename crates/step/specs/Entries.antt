@@ -11,10 +11,11 @@ use Rattle.lists.specs.declared.Table.{Table as CoreTable}
 use Rattle.lists.specs.Obey.{noTable}
 use Rattle.modification.specs.Entries.{entryBlocks, lengthSpot, minimum, lengthFits}
 use Rattle.stage.specs.declared.Course.{Course}
+use Rattle.stage.specs.declared.Due.the-variants.{Segment}
 use Rattle.stage.specs.declared.Stage.{Stage}
-use Rattle.stage.specs.declared.Stage.the-variants.{Entry, Segment}
-use Rattle.step.specs.declared.Step.{Step}
-use Rattle.step.specs.declared.Step.the-variants.{More, Refused}
+use Rattle.stage.specs.declared.Stage.the-variants.{Entry, Program}
+use Rattle.stage.specs.declared.Step.{Step}
+use Rattle.stage.specs.declared.Step.the-variants.{More, Refused}
 
 -- table t, of length len: its minimum length does not stand in modification block b, or len fits it. The blocks are counted from 0.
 unfoldable pub entryFits : ℕ → Bool → ℕ → List ℕ → ℕ → ℕ → Bool
@@ -31,7 +32,7 @@ entriesFit io ts strict b block = every (λ t. entryFits io strict b block (leng
 
 -- the next modification block, or program blocks
 unfoldable pub afterEntries : ℕ → ℕ → Course → Bool → ℕ → Stage
-afterEntries io tables c strict b = cond (ltb (b + 1) (entryBlocks io tables)) (Entry c strict (b + 1)) (Segment c)
+afterEntries io tables c strict b = cond (ltb (b + 1) (entryBlocks io tables)) (Entry c strict (b + 1)) (Program c Segment)
 
 -- io how many I/O references there are, ts the core tables
 unfoldable pub entryStep : ℕ → List CoreTable → Course → Bool → ℕ → List ℕ → Step

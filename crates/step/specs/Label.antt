@@ -12,10 +12,11 @@ use Rattle.label.specs.Label.{labelOf, nearCount}
 use Rattle.modification.specs.Assignments.{assignmentsFit}
 use Rattle.modification.specs.Entries.{entryBlocks}
 use Rattle.stage.specs.declared.Course.{Course}
+use Rattle.stage.specs.declared.Due.the-variants.{Segment}
 use Rattle.stage.specs.declared.Stage.{Stage}
-use Rattle.stage.specs.declared.Stage.the-variants.{Entry, Segment}
-use Rattle.step.specs.declared.Step.{Step}
-use Rattle.step.specs.declared.Step.the-variants.{More, Refused}
+use Rattle.stage.specs.declared.Stage.the-variants.{Entry, Program}
+use Rattle.stage.specs.declared.Step.{Step}
+use Rattle.stage.specs.declared.Step.the-variants.{More, Refused}
 
 -- what of the label is still needed
 abbrev pub courseOf : Label → Course
@@ -23,7 +24,7 @@ courseOf l = record { near = nearCount l; sections = l .sections }
 
 -- "With no entries there is no modification block."
 unfoldable pub afterLabel : ℕ → ℕ → Label → Stage
-afterLabel io tables l = cond (eqb (entryBlocks io tables) 0) (Segment (courseOf l)) (Entry (courseOf l) (l .strict) 0)
+afterLabel io tables l = cond (eqb (entryBlocks io tables) 0) (Program (courseOf l) Segment) (Entry (courseOf l) (l .strict) 0)
 
 unfoldable pub withLabel : List ℕ → ℕ → LabelRead → Step
 withLabel ios tables (Good l) =

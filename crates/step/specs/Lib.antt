@@ -1,4 +1,3 @@
-pub mod Due
 pub mod Label
 pub mod Entries
 pub mod Termination

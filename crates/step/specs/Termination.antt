@@ -8,8 +8,8 @@ use Rattle.word.specs.Sorts.{absoluteOf}
 use Rattle.word.specs.declared.Area.{Area}
 use Rattle.program.specs.declared.Bank.{Bank}
 use Rattle.program.specs.Start.{startOf, inBank}
-use Rattle.step.specs.declared.Step.{Step}
-use Rattle.step.specs.declared.Step.the-variants.{Done, Refused}
+use Rattle.stage.specs.declared.Step.{Step}
+use Rattle.stage.specs.declared.Step.the-variants.{Done, Refused}
 
 unfoldable pub terminationStep : Area → Bank → List ℕ → Step
 terminationStep area ibank block =

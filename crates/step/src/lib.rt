@@ -6,61 +6,19 @@ ghost use lib.ListN.{length};
 ghost use Rattle.label.specs.declared.LabelRead.the-variants.{Good};
 ghost use Rattle.label.specs.Label.{Carried};
 ghost use Rattle.lists.specs.Kept.{numbersIn, tablesIn};
-ghost use Rattle.step.specs.Due.{recordDue, isOver};
 ghost use Rattle.step.specs.Label.{withLabel, labelStep};
 ghost use Rattle.step.specs.Entries.{entryFits, entriesFit, entryStep};
 ghost use Rattle.step.specs.Termination.{terminationStep};
-use block::Record;
 use label::Label;
 use label::LabelRead;
 use program::Bank;
 use stage::Course;
+use stage::Due;
 use stage::Stage;
-use word::Absolute;
+use stage::Step;
 use word::Area;
 use word::Fault;
 use word::Reference;
-
-// What a block leads to.
-pub enum Step {
-    More(Stage),
-    Done(Absolute),
-    Refused(Fault),
-}
-
-// The record that a block must be of.
-pub fn record_due(s: Stage) -> Record
-    ensures { λ r. ⌜ r ≡ recordDue s ⌝ }
-{
-    match s {
-        Stage::Label => Record::Label,
-        Stage::Entry(_, _, _) => Record::Modification,
-        Stage::Segment(_) => Record::Program,
-        Stage::SegmentGroup(_, _) => Record::Program,
-        Stage::Table(_, _, _) => Record::Program,
-        Stage::TableGroup(_, _, _) => Record::Program,
-        Stage::Termination(_) => Record::Termination,
-        Stage::Complete => Record::Termination,
-        Stage::Broken => Record::Termination,
-    }
-}
-
-// Whether no block is due any more (10).
-pub fn is_over(s: Stage) -> bool
-    ensures { λ r. ⌜ r ≡ isOver s ⌝ }
-{
-    match s {
-        Stage::Label => false,
-        Stage::Entry(_, _, _) => false,
-        Stage::Segment(_) => false,
-        Stage::SegmentGroup(_, _) => false,
-        Stage::Table(_, _, _) => false,
-        Stage::TableGroup(_, _, _) => false,
-        Stage::Termination(_) => false,
-        Stage::Complete => true,
-        Stage::Broken => true,
-    }
-}
 
 // The label, held against n I/O numbers, kept as ios, and as many core tables.
 pub fn label_step(ios: &[u64], n: u64, tables: u64, block: &[u64]) -> Step
@@ -86,7 +44,7 @@ fn take_label(ios: &[u64], n: u64, tables: u64, l: Label) -> Step
         sections: l.sections,
     };
     if modification::entry_blocks(n, tables) == 0 {
-        return Step::More(Stage::Segment(c));
+        return Step::More(Stage::Program(c, Due::Segment));
     }
     Step::More(Stage::Entry(c, l.strict, 0))
 }
@@ -111,7 +69,7 @@ pub fn entry_step(
     if b + 1 < modification::entry_blocks(io, ranks.len() as u64) {
         return Step::More(Stage::Entry(c, strict, b + 1));
     }
-    Step::More(Stage::Segment(c))
+    Step::More(Stage::Program(c, Due::Segment))
 }
 
 // Whether each table's length fits its entry, as far as the entry's third word stands in block b.

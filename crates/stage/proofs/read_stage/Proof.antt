@@ -5,8 +5,8 @@ use borrow.Author.Needs.{needs}
 use Rattle.stage.proofs.read_stage.Statement.{statement}
 use Rattle.stage.proofs.read_stage.Tie as tie
 
-shared-slice-read-due : tie.Need-shared-slice-read-due
-shared-slice-read-due c = search needs
+shared-slice-read-tag : tie.Need-shared-slice-read-tag
+shared-slice-read-tag c = search needs
 
 shared-slice-read-t6 : tie.Need-shared-slice-read-t6
 shared-slice-read-t6 c = search needs
@@ -35,8 +35,8 @@ shared-slice-read-with-dbank-2 c = search needs
 with-dbank-requires : tie.Need-with-dbank-requires
 with-dbank-requires c κs = search needs
 
-shared-slice-read-t25 : tie.Need-shared-slice-read-t25
-shared-slice-read-t25 c = search needs
+shared-slice-read-t27 : tie.Need-shared-slice-read-t27
+shared-slice-read-t27 c = search needs
 
 shared-slice-read-section-of : tie.Need-shared-slice-read-section-of
 shared-slice-read-section-of c = search needs
@@ -87,7 +87,7 @@ pub read-stage-spec : {M : Type 1} → statement M
 read-stage-spec =
     tie.close
     (tie.spec
-    shared-slice-read-due
+    shared-slice-read-tag
     shared-slice-read-t6
     shared-slice-read-t9
     shared-slice-read-t6-2
@@ -97,7 +97,7 @@ read-stage-spec =
     shared-slice-read-with-dbank
     shared-slice-read-with-dbank-2
     with-dbank-requires
-    shared-slice-read-t25
+    shared-slice-read-t27
     shared-slice-read-section-of
     shared-slice-read-section-of-2
     section-of-requires

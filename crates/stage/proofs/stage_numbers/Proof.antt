@@ -1,4 +1,4 @@
--- `stage::stage_numbers` meets its contract: each return by the tests that led to it. Assumes nothing.
+-- `stage::stage_numbers`: by the stage. Assumes nothing.
 use Rattle.stage.specs.Stage.{numbersOf}
 use borrow.Author.Needs.{needs}
 use Rattle.stage.proofs.stage_numbers.Statement.{statement}
@@ -16,23 +16,11 @@ entry-numbers-requires c κs = search needs
 enum-known-s-2 : tie.Need-enum-known-s-2
 enum-known-s-2 c = search needs
 
+due-numbers-requires : tie.Need-due-numbers-requires
+due-numbers-requires c κs = search needs
+
 enum-known-s-3 : tie.Need-enum-known-s-3
 enum-known-s-3 c = search needs
-
-segment-numbers-requires : tie.Need-segment-numbers-requires
-segment-numbers-requires c κs = search needs
-
-enum-known-s-4 : tie.Need-enum-known-s-4
-enum-known-s-4 c = search needs
-
-enum-known-s-5 : tie.Need-enum-known-s-5
-enum-known-s-5 c = search needs
-
-table-numbers-requires : tie.Need-table-numbers-requires
-table-numbers-requires c κs = search needs
-
-enum-known-s-6 : tie.Need-enum-known-s-6
-enum-known-s-6 c = search needs
 
 enum-told-2 : tie.Need-enum-told-2
 enum-told-2 c = search needs
@@ -48,30 +36,19 @@ returns-2 : tie.Need-returns-2
 returns-2 c = rw (c .before .before .s .given .1) (c .entry-numbers .ensures)
 
 returns-3 : tie.Need-returns-3
-unfolding numbersOf
-returns-3 c = rw (c .before .s2 .given .1)
+returns-3 c = rw (c .before .before .s2 .given .1) (c .due-numbers .ensures)
 
 returns-4 : tie.Need-returns-4
-returns-4 c = rw (c .before .before .s3 .given .1) (c .segment-numbers .ensures)
+unfolding numbersOf
+returns-4 c = rw (c .before .s3 .given .1)
 
 returns-5 : tie.Need-returns-5
 unfolding numbersOf
-returns-5 c = rw (c .before .s4 .given .1)
+returns-5 c = rw (c .enum-told2 .given .1)
 
 returns-6 : tie.Need-returns-6
-returns-6 c = rw (c .before .before .s5 .given .1) (c .table-numbers .ensures)
-
-returns-7 : tie.Need-returns-7
 unfolding numbersOf
-returns-7 c = rw (c .before .s6 .given .1)
-
-returns-8 : tie.Need-returns-8
-unfolding numbersOf
-returns-8 c = rw (c .enum-told2 .given .1)
-
-returns-9 : tie.Need-returns-9
-unfolding numbersOf
-returns-9 c = rw (c .enum-told3 .given .1)
+returns-6 c = rw (c .enum-told3 .given .1)
 
 pub stage-numbers-spec : {M : Type 1} → statement M
 stage-numbers-spec =
@@ -81,12 +58,8 @@ stage-numbers-spec =
     enum-known-s
     entry-numbers-requires
     enum-known-s-2
+    due-numbers-requires
     enum-known-s-3
-    segment-numbers-requires
-    enum-known-s-4
-    enum-known-s-5
-    table-numbers-requires
-    enum-known-s-6
     enum-told-2
     enum-told-3
     returns
@@ -94,7 +67,4 @@ stage-numbers-spec =
     returns-3
     returns-4
     returns-5
-    returns-6
-    returns-7
-    returns-8
-    returns-9)
+    returns-6)

@@ -23,8 +23,8 @@ Inv-loop area words ranks bank at k₀ k =
 abbrev μ-loop : tie.MeasureT-loop
 μ-loop area words ranks bank at k₀ k = length ranks - k
 
-add-at : tie.Need-add-at Inv-loop μ-loop
-add-at c = omega arith
+placed-requires : tie.Need-placed-requires Inv-loop μ-loop
+placed-requires c κs = omega arith
 
 loop-holds : tie.Need-loop-holds Inv-loop μ-loop
 loop-holds c = (omega arith, refl)
@@ -39,11 +39,11 @@ returns : tie.Need-returns Inv-loop μ-loop
 unfolding besideTable
 returns c = let b = c .before .before in
     let l = b .before .before .loop in
-    let a = b .before .before .before .before .before .before .before .args in
+    let a = b .before .before .before .before .before .before .args in
     let n = tables-length (a .area) (now (a .words)) (now (a .ranks)) in
     let t = tables-at (a .area) (now (a .words)) (now (a .ranks)) (l .k) noTable (b .before .loop-test .taken) in
     every-fails (besideTable (a .area) (a .bank)) noTable (tablesIn (a .area) (now (a .words)) (now (a .ranks))) (l .k) _ (omega arith)
-    (rw (t ∙ sym (b .table-at .ensures)) (sym (c .before .runs-apart .ensures) ∙ not-true _ (c .if1 .taken))) (l .inv .1)
+    (rw (t ∙ sym (b .table-at .ensures)) (rw (b .before .before .before .placed .ensures) at (sym (c .before .runs-apart .ensures) ∙ not-true _ (c .if1 .taken)))) (l .inv .1)
 
 add-k : tie.Need-add-k Inv-loop μ-loop
 add-k c = omega arith
@@ -55,17 +55,17 @@ loop-again : tie.Need-loop-again Inv-loop μ-loop
 unfolding besideTable
 loop-again c = let b = c .before .before in
     let l = b .before .before .loop in
-    let a = b .before .before .before .before .before .before .before .args in
+    let a = b .before .before .before .before .before .before .args in
     let n = tables-length (a .area) (now (a .words)) (now (a .ranks)) in
     let t = tables-at (a .area) (now (a .words)) (now (a .ranks)) (l .k) noTable (b .before .loop-test .taken) in (
       omega arith,
       every-more (besideTable (a .area) (a .bank)) noTable (tablesIn (a .area) (now (a .words)) (now (a .ranks))) (l .k) _ (omega arith)
-          (rw (t ∙ sym (b .table-at .ensures)) (sym (c .before .runs-apart .ensures) ∙ not-false _ (c .if1 .left))) (l .inv .1),
+          (rw (t ∙ sym (b .table-at .ensures)) (rw (b .before .before .before .placed .ensures) at (sym (c .before .runs-apart .ensures) ∙ not-false _ (c .if1 .left)))) (l .inv .1),
     )
 
 returns-2 : tie.Need-returns-2 Inv-loop μ-loop
 returns-2 c = let l = c .before .loop in
-    let a = c .before .before .before .before .before .before .args in
+    let a = c .before .before .before .before .before .args in
     let n = tables-length (a .area) (now (a .words)) (now (a .ranks)) in
     every-ends (besideTable (a .area) (a .bank)) noTable (tablesIn (a .area) (now (a .words)) (now (a .ranks))) (l .k) _ (omega arith) (l .inv .1)
 
@@ -75,7 +75,7 @@ bank-beside-tables-spec =
     (tie.spec
     Inv-loop
     μ-loop
-    add-at
+    placed-requires
     loop-holds
     table-at-requires
     runs-apart-requires

@@ -1,16 +1,28 @@
--- `items::item_step`: a group where one is due, else a head. Assumes nothing.
+-- `items::item_step`: a head or a group, as the word is read. Assumes nothing.
 use mathlib.Core.Path.{refl, sym, _∙_}
 use native.Mathlib.Omega.{arith}
 use denote.Ref.{now}
 use Rattle.sections.proofs.Turns.{assigned-same, group-met}
-use Rattle.sections.proofs.Due.{due-numbered, due-group, due-other}
+use Rattle.sections.proofs.Reading.{due-numbered, reads-group, reads-segment, reads-section}
 use borrow.Author.Needs.{needs}
 use Rattle.sections.proofs.items.item_step.Statement.{statement}
 use Rattle.sections.proofs.items.item_step.Tie as tie
 
-due-of-requires : tie.Need-due-of-requires
-due-of-requires c κs = let z = c .before .before .before .before .before in
-    (omega (arith, z .pre .0 .inside, z .pre .0 .most), due-numbered _ _ _ _ _ _ 0 _ _ (z .pre .0))
+reading-of-requires : tie.Need-reading-of-requires
+reading-of-requires c κs = let z = c .before .before .before .before .before in
+    (omega (arith, z .pre .0 .inside, z .pre .0 .most), due-numbered _ _ _ _ _ _ 0 _ _ _ (z .pre .0))
+
+enum-told : tie.Need-enum-told
+enum-told c = search needs
+
+segment-head-requires : tie.Need-segment-head-requires
+segment-head-requires c κs = search needs
+
+enum-known-t : tie.Need-enum-known-t
+enum-known-t c = search needs
+
+section-head-requires : tie.Need-section-head-requires
+section-head-requires c κs = search needs
 
 enum-known-section : tie.Need-enum-known-section
 enum-known-section c = search needs
@@ -18,42 +30,44 @@ enum-known-section c = search needs
 group-step-requires : tie.Need-group-step-requires
 group-step-requires c κs = let z = c .before .before .before .before .before .before .before .before .before .before in
     let e = c .before .before .section .given in
-    due-group _ _ _ _ _ _ _ _ (z .pre .1) _ (z .pre .0) (e .0 .0) (e .0 .1 .0) (e .0 .1 .1 .0) (e .0 .1 .1 .1 .0) (sym (c .before .before .before .before .due-of .ensures) ∙ e .1) .ready
+    reads-group _ _ _ _ _ _ _ _ _ (z .pre .1) _ (z .pre .0) (e .0 .0) (e .0 .1 .0) (e .0 .1 .1 .0) (sym (c .before .before .before .before .reading-of .ensures) ∙ e .1) .ready
 
 after-group-requires : tie.Need-after-group-requires
 after-group-requires c κs = search needs
 
-enum-told : tie.Need-enum-told
-enum-told c = search needs
+returns : tie.Need-returns
+returns c = let a = c .before .before .before .before .before .before .before .before .before .args in
+    rw (reads-segment (a .area) (a .io) (now (a .words)) (now (a .ranks)) (now (a .ios)) _ _ _ _ _ (sym (c .before .before .before .reading-of .ensures) ∙ c .before .enum-told .given .1)) (record { told = c .segment-head .ensures; left = refl })
 
-head-item-requires : tie.Need-head-item-requires
-head-item-requires c κs = search needs
+returns-2 : tie.Need-returns-2
+returns-2 c = let a = c .before .before .before .before .before .before .before .before .before .before .args in
+    let e = c .before .before .t .given in
+    rw (reads-section (a .area) (a .io) (now (a .words)) (now (a .ranks)) (now (a .ios)) _ _ _ _ _ (e .0 .0) (e .0 .1 .0) (sym (c .before .before .before .before .reading-of .ensures) ∙ e .1)) (record { told = c .section-head .ensures; left = refl })
 
 same-length : tie.Need-same-length
 same-length c = search needs
 
-returns : tie.Need-returns
-returns c = let z = c .before .before .before .before .before .before .before .before .before .before .before .before .before .before in
+returns-3 : tie.Need-returns-3
+returns-3 c = let z = c .before .before .before .before .before .before .before .before .before .before .before .before .before .before in
     let a = z .args in
     let e = c .before .before .before .before .before .before .section .given in
-    let d = due-group (a .area) (a .io) (now (a .words)) (now (a .ranks)) (now (a .ios)) _ _ _ (z .pre .1) _ (z .pre .0) (e .0 .0) (e .0 .1 .0) (e .0 .1 .1 .0) (e .0 .1 .1 .1 .0) (sym (c .before .before .before .before .before .before .before .before .due-of .ensures) ∙ e .1) in
-    let q = assigned-same (a .area) (a .io) (now (a .words)) (now (a .ranks)) (now (a .ios)) (e .0 .1 .0) in
-    rw (d .item) (group-met (a .s) (e .0 .1 .0) _ (e .0 .1 .1 .1 .0) _ _ _ _ (rw q at (c .before .before .before .group-step .ensures)) (c .after-group .ensures))
-
-returns-2 : tie.Need-returns-2
-returns-2 c = let a = c .before .before .before .before .before .before .before .before .before .args in
-    rw (due-other (a .area) (a .io) (now (a .words)) (now (a .ranks)) (now (a .ios)) _ _ _ _ (sym (c .before .before .before .due-of .ensures) ∙ c .before .enum-told .given .1)) (record { told = c .head-item .ensures; left = refl })
+    let d = reads-group (a .area) (a .io) (now (a .words)) (now (a .ranks)) (now (a .ios)) _ _ _ _ (z .pre .1) _ (z .pre .0) (e .0 .0) (e .0 .1 .0) (e .0 .1 .1 .0) (sym (c .before .before .before .before .before .before .before .before .reading-of .ensures) ∙ e .1) in
+    let q = assigned-same (a .area) (a .io) (now (a .words)) (now (a .ranks)) (now (a .ios)) (a .c) in
+    rw (d .item) (group-met (a .c) (a .due) _ (e .0 .1 .1 .0) _ _ _ _ (rw q at (c .before .before .before .group-step .ensures)) (c .after-group .ensures))
 
 pub item-step-spec : {M : Type 1} → statement M
 item-step-spec =
     tie.close
     (tie.spec
-    due-of-requires
+    reading-of-requires
+    enum-told
+    segment-head-requires
+    enum-known-t
+    section-head-requires
     enum-known-section
     group-step-requires
     after-group-requires
-    enum-told
-    head-item-requires
-    same-length
     returns
-    returns-2)
+    returns-2
+    same-length
+    returns-3)

@@ -4,6 +4,7 @@ use mathlib.Core.Path.{_≡_, refl, _∙_}
 use native.Mathlib.Omega.{arith}
 use lib.ListN.{length}
 use borrow.Author.Needs.{needs}
+use Rattle.stage.specs.declared.Stage.the-variants.{Program}
 use Rattle.sections.specs.Load.{loadOf, Waits}
 use Rattle.sections.specs.Program.{programFrom, programStep}
 use Rattle.sections.proofs.Turns.{turn-zero, turn-end, turn-on, turn-stop, turn-waits, turn-length}
@@ -11,12 +12,12 @@ use Rattle.sections.proofs.items.walk_items.Statement.{statement}
 use Rattle.sections.proofs.items.walk_items.Tie as tie
 
 abbrev Inv-loop : tie.InvT-loop
-Inv-loop area io words ranks ios block core₀ due₀ i₀ core due i =
-    (i ≤ 255) × (length core ≡ length core₀) × (Waits (loadOf area io words ranks ios) due block core)
-    × (programStep (loadOf area io words ranks ios) due₀ block core₀ ≡ programFrom (255 - i) (loadOf area io words ranks ios) due block i core)
+Inv-loop area io words ranks ios block core₀ course₀ next₀ i₀ core course next i =
+    (i ≤ 255) × (length core ≡ length core₀) × (Waits (loadOf area io words ranks ios) (Program course next) block core)
+    × (programStep (loadOf area io words ranks ios) course₀ next₀ block core₀ ≡ programFrom (255 - i) (loadOf area io words ranks ios) course next block i core)
 
 abbrev μ-loop : tie.MeasureT-loop
-μ-loop area io words ranks ios block core₀ due₀ i₀ core due i = 255 - i
+μ-loop area io words ranks ios block core₀ course₀ next₀ i₀ core course next i = 255 - i
 
 loop-holds : tie.Need-loop-holds Inv-loop μ-loop
 unfolding programStep
@@ -33,28 +34,28 @@ same-length c = c .before .before .before .loop .inv .1
 
 returns : tie.Need-returns Inv-loop μ-loop
 returns c = let l = c .before .before .before .loop in
-    turn-zero _ _ (l .due) (l .i) (l .core) _ (c .before .before .loop-test .taken) (c .if1 .taken) (l .inv .3)
+    turn-zero _ _ (l .course) (l .next) (l .i) (l .core) _ (c .before .before .loop-test .taken) (c .if1 .taken) (l .inv .3)
 
 item-step-requires : tie.Need-item-step-requires Inv-loop μ-loop
 item-step-requires c κs = let l = c .before .before .before .before .loop in (l .inv .2, omega arith)
 
-enum-known-t : tie.Need-enum-known-t Inv-loop μ-loop
-enum-known-t c = search needs
+enum-known-d : tie.Need-enum-known-d Inv-loop μ-loop
+enum-known-d c = search needs
 
 loop-less : tie.Need-loop-less Inv-loop μ-loop
 loop-less c = let s = c .before .before .before .before .before in
     let b = s .before .before in
     let l = b .before .before .before .loop in
-    let o = turn-on _ _ (l .due) (l .i) (l .core) _ (b .before .before .loop-test .taken) (b .if1 .left) (l .inv .3) _ _ (s .item-step .ensures) _ _ (c .before .t .given .1) in
+    let o = turn-on _ _ (l .course) (l .next) (l .i) (l .core) _ (b .before .before .loop-test .taken) (b .if1 .left) (l .inv .3) _ _ (s .item-step .ensures) _ _ _ (c .before .d .given .1) in
     omega (arith, o .0, o .1)
 
 loop-again : tie.Need-loop-again Inv-loop μ-loop
 loop-again c = let s = c .before .before .before .before .before in
     let b = s .before .before in
     let l = b .before .before .before .loop in
-    let o = turn-on _ _ (l .due) (l .i) (l .core) _ (b .before .before .loop-test .taken) (b .if1 .left) (l .inv .3) _ _ (s .item-step .ensures) _ _ (c .before .t .given .1) in
-    let w = turn-waits _ _ (l .due) (l .i) (l .core) _ (b .before .before .loop-test .taken) (b .if1 .left) (l .inv .3) _ _ (s .item-step .ensures) _ _ (c .before .t .given .1) (l .inv .2) in
-    let n = turn-length _ _ (l .due) (l .i) (l .core) _ (b .before .before .loop-test .taken) (b .if1 .left) (l .inv .3) _ _ (s .item-step .ensures) (l .inv .2) in
+    let o = turn-on _ _ (l .course) (l .next) (l .i) (l .core) _ (b .before .before .loop-test .taken) (b .if1 .left) (l .inv .3) _ _ (s .item-step .ensures) _ _ _ (c .before .d .given .1) in
+    let w = turn-waits _ _ (l .course) (l .next) (l .i) (l .core) _ (b .before .before .loop-test .taken) (b .if1 .left) (l .inv .3) _ _ (s .item-step .ensures) _ _ _ (c .before .d .given .1) (l .inv .2) in
+    let n = turn-length _ _ (l .course) (l .next) (l .i) (l .core) _ (b .before .before .loop-test .taken) (b .if1 .left) (l .inv .3) _ _ (s .item-step .ensures) (l .inv .2) in
     (o .1, n ∙ l .inv .1, w, o .2)
 
 enum-known-r : tie.Need-enum-known-r Inv-loop μ-loop
@@ -64,19 +65,19 @@ same-length-2 : tie.Need-same-length-2 Inv-loop μ-loop
 same-length-2 c = let s = c .before .before .before .before .before in
     let b = s .before .before in
     let l = b .before .before .before .loop in
-    turn-length _ _ (l .due) (l .i) (l .core) _ (b .before .before .loop-test .taken) (b .if1 .left) (l .inv .3) _ _ (s .item-step .ensures) (l .inv .2) ∙ l .inv .1
+    turn-length _ _ (l .course) (l .next) (l .i) (l .core) _ (b .before .before .loop-test .taken) (b .if1 .left) (l .inv .3) _ _ (s .item-step .ensures) (l .inv .2) ∙ l .inv .1
 
 returns-2 : tie.Need-returns-2 Inv-loop μ-loop
 returns-2 c = let s = c .before .before .before .before .before in
     let b = s .before .before in
     let l = b .before .before .before .loop in
-    turn-stop _ _ (l .due) (l .i) (l .core) _ (b .before .before .loop-test .taken) (b .if1 .left) (l .inv .3) _ _ (s .item-step .ensures) _ (c .before .r .given .1)
+    turn-stop _ _ (l .course) (l .next) (l .i) (l .core) _ (b .before .before .loop-test .taken) (b .if1 .left) (l .inv .3) _ _ (s .item-step .ensures) _ (c .before .r .given .1)
 
 same-length-3 : tie.Need-same-length-3 Inv-loop μ-loop
 same-length-3 c = c .before .loop .inv .1
 
 returns-3 : tie.Need-returns-3 Inv-loop μ-loop
-returns-3 c = let l = c .before .loop in turn-end _ _ (l .due) (l .i) (l .core) _ (c .loop-test .left) (l .inv .3)
+returns-3 c = let l = c .before .loop in turn-end _ _ (l .course) (l .next) (l .i) (l .core) _ (c .loop-test .left) (l .inv .3)
 
 pub walk-items-spec : {M : Type 1} → statement M
 walk-items-spec =
@@ -90,7 +91,7 @@ walk-items-spec =
     same-length
     returns
     item-step-requires
-    enum-known-t
+    enum-known-d
     loop-less
     loop-again
     enum-known-r

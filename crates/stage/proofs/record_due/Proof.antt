@@ -1,8 +1,8 @@
--- `step::is_over` meets its contract: each return by the tests that led to it. Assumes nothing.
-use Rattle.step.specs.Due.{isOver}
+-- `stage::record_due`: by the stage. Assumes nothing.
+use Rattle.stage.specs.Record.{recordDue}
 use borrow.Author.Needs.{needs}
-use Rattle.step.proofs.is_over.Statement.{statement}
-use Rattle.step.proofs.is_over.Tie as tie
+use Rattle.stage.proofs.record_due.Statement.{statement}
+use Rattle.stage.proofs.record_due.Tie as tie
 
 enum-told : tie.Need-enum-told
 enum-told c = search needs
@@ -22,53 +22,32 @@ enum-told-5 c = search needs
 enum-told-6 : tie.Need-enum-told-6
 enum-told-6 c = search needs
 
-enum-told-7 : tie.Need-enum-told-7
-enum-told-7 c = search needs
-
-enum-told-8 : tie.Need-enum-told-8
-enum-told-8 c = search needs
-
-enum-told-9 : tie.Need-enum-told-9
-enum-told-9 c = search needs
-
 returns : tie.Need-returns
-unfolding isOver
+unfolding recordDue
 returns c = rw (c .enum-told .given .1)
 
 returns-2 : tie.Need-returns-2
-unfolding isOver
+unfolding recordDue
 returns-2 c = rw (c .enum-told2 .given .1)
 
 returns-3 : tie.Need-returns-3
-unfolding isOver
+unfolding recordDue
 returns-3 c = rw (c .enum-told3 .given .1)
 
 returns-4 : tie.Need-returns-4
-unfolding isOver
+unfolding recordDue
 returns-4 c = rw (c .enum-told4 .given .1)
 
 returns-5 : tie.Need-returns-5
-unfolding isOver
+unfolding recordDue
 returns-5 c = rw (c .enum-told5 .given .1)
 
 returns-6 : tie.Need-returns-6
-unfolding isOver
+unfolding recordDue
 returns-6 c = rw (c .enum-told6 .given .1)
 
-returns-7 : tie.Need-returns-7
-unfolding isOver
-returns-7 c = rw (c .enum-told7 .given .1)
-
-returns-8 : tie.Need-returns-8
-unfolding isOver
-returns-8 c = rw (c .enum-told8 .given .1)
-
-returns-9 : tie.Need-returns-9
-unfolding isOver
-returns-9 c = rw (c .enum-told9 .given .1)
-
-pub is-over-spec : {M : Type 1} → statement M
-is-over-spec =
+pub record-due-spec : {M : Type 1} → statement M
+record-due-spec =
     tie.close
     (tie.spec
     enum-told
@@ -77,15 +56,9 @@ is-over-spec =
     enum-told-4
     enum-told-5
     enum-told-6
-    enum-told-7
-    enum-told-8
-    enum-told-9
     returns
     returns-2
     returns-3
     returns-4
     returns-5
-    returns-6
-    returns-7
-    returns-8
-    returns-9)
+    returns-6)

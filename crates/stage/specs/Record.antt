@@ -2,17 +2,14 @@
 -- or broken waits for none; it meets refusal 10 before its record is asked for.
 use mathlib.Core.Bool.{Bool, true, false}
 use Rattle.block.specs.declared.Record.{Record}
-use Rattle.block.specs.declared.Record.the-variants.{Label as label-record, Modification, Program, Termination as termination-record}
+use Rattle.block.specs.declared.Record.the-variants.{Label as label-record, Modification, Program as program-record, Termination as termination-record}
 use Rattle.stage.specs.declared.Stage.{Stage}
-use Rattle.stage.specs.declared.Stage.the-variants.{Label, Entry, Segment, SegmentGroup, Table, TableGroup, Termination, Complete, Broken}
+use Rattle.stage.specs.declared.Stage.the-variants.{Label, Entry, Program, Termination, Complete, Broken}
 
 unfoldable pub recordDue : Stage → Record
 recordDue Label = label-record
 recordDue (Entry c strict b) = Modification
-recordDue (Segment c) = Program
-recordDue (SegmentGroup c g) = Program
-recordDue (Table c t i) = Program
-recordDue (TableGroup c t i) = Program
+recordDue (Program c due) = program-record
 recordDue (Termination i) = termination-record
 recordDue Complete = termination-record
 recordDue Broken = termination-record
@@ -21,10 +18,7 @@ recordDue Broken = termination-record
 unfoldable pub isOver : Stage → Bool
 isOver Label = false
 isOver (Entry c strict b) = false
-isOver (Segment c) = false
-isOver (SegmentGroup c g) = false
-isOver (Table c t i) = false
-isOver (TableGroup c t i) = false
+isOver (Program c due) = false
 isOver (Termination i) = false
 isOver Complete = true
 isOver Broken = true
