@@ -1,4 +1,5 @@
 pub mod Kept
+pub mod Load
 pub mod Chain
 pub mod Obey
 pub mod Keep

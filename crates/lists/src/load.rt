@@ -1,0 +1,47 @@
+// The lists of a load, in the one slice that the desk keeps of them, read: what stands where says specs/Load.antt.
+ghost use mathlib.Core.Path.{_≡_};
+ghost use lib.ListN.{getD};
+ghost use Rattle.lists.specs.Chain.{chain};
+ghost use Rattle.lists.specs.Load.{wordsIn, coreTable, ioNumbers, Readable};
+use crate::Given;
+use crate::Table;
+use word::Reference;
+
+// The places of the I/O numbers, of the kept words and of the ranks, and how many numbers there are in all.
+const WORDS: usize = 32;
+
+const RANKS: usize = 160;
+
+pub const LISTS: usize = 288;
+
+// Core table k of a load; one that it has not is empty.
+pub fn core_table(g: Given, lists: &[u64], k: Reference) -> Table
+    requires { ⌜ Readable g (now lists) ⌝ }
+    ensures { λ t. ⌜ t ≡ coreTable g (now (lists .entry)) (k .0) ⌝ }
+{
+    let n = g.kept as usize;
+    let m = g.tables as usize;
+    let area = g.area;
+    crate::table_at(&lists[WORDS..WORDS + n], &lists[RANKS..RANKS + m], area, k)
+}
+
+// The number assigned to I/O reference k of a load; 0 past the last, as in the definitions.
+pub fn io_assigned(g: Given, lists: &[u64], k: Reference) -> u64
+    requires { ⌜ Readable g (now lists) ⌝ }
+    ensures { λ r. ⌜ r ≡ getD (ioNumbers g (now (lists .entry))) (k .0) 0 ⌝ }
+{
+    if k.0 < g.io {
+        return crate::io_number(&lists[..WORDS], k);
+    }
+    0
+}
+
+// Whether the kept words of a load's tables lie in its area one after the other.
+pub fn kept_fits(g: Given, lists: &[u64]) -> bool
+    requires { ⌜ Readable g (now lists) ⌝ }
+    ensures { λ r. ⌜ r ≡ chain (g .area) (wordsIn (now (lists .entry)) (g .kept)) ⌝ }
+{
+    let n = g.kept as usize;
+    let area = g.area;
+    crate::chain_fits(&lists[WORDS..WORDS + n], area)
+}
