@@ -18,8 +18,9 @@ use Rattle.word.specs.Word.{part, put, bit, isSet, lowest, fieldOf, aField}
 use Rattle.word.proofs.Word.{across, across-stored, part-below, part-put, bit-put, stored-word, a-stored-word}
 use Rattle.word.proofs.Cases.{both, when, by-eq}
 use Rattle.lists.specs.declared.Table.{Table}
-use Rattle.lists.specs.Kept.{tableAt, tablesIn}
-use Rattle.lists.proofs.Kept.{tables-at, table-below}
+use Rattle.lists.specs.declared.Given.{Given}
+use Rattle.lists.specs.Load.{coreTable, coreTables, Readable}
+use Rattle.lists.proofs.Reading.{core-at, core-below}
 use Rattle.field.specs.declared.Becomes.{Becomes}
 use Rattle.field.specs.declared.Becomes.the-variants.{Value, Bad}
 use Rattle.field.specs.declared.Changed.{Changed}
@@ -27,18 +28,15 @@ use Rattle.field.specs.declared.Changed.the-variants.{Word, Refused}
 use Rattle.field.specs.Field.{Assignments, valued, plusOrMinus, movedField, table, addressOrLength, referred, pair, minusZero, short, long, constant, switch, unit, reference, relative, becomes, lowestOf, widthOf, putBack, fieldStep, Fits}
 
 -- ---- a table of the kept lists
-table-kept : (area : Area) (ws rs : List ℕ) (k : Reference) → k .0 < length rs → table (tablesIn area ws rs) k ≡ tableAt area ws rs (k .0)
-unfolding table
-table-kept area ws rs k h = tables-at area ws rs (k .0) _ h
-
 address-or-length-below : (sized : Bool) (t : Table) → (t .at .0 < 2 ^ 24) × (t .len < 2 ^ 20) → addressOrLength sized t < 2 ^ 24
 address-or-length-below sized t h = both (λ (n : ℕ). n < 2 ^ 24) sized (omega arith) (h .0)
 
-pub address-or-length-kept : (sized : Bool) (area : Area) (ws rs : List ℕ) (k : Reference) (t : Table) → area .at .0 + area .size ≤ 65536 → k .0 < length rs
-    → t ≡ tableAt area ws rs (k .0) → (addressOrLength sized t ≡ addressOrLength sized (table (tablesIn area ws rs) k)) × (addressOrLength sized t < 2 ^ 24)
-address-or-length-kept sized area ws rs k t fits h e =
-    rw (e, table-kept area ws rs k h)
-    (refl, address-or-length-below sized (tableAt area ws rs (k .0)) (table-below area ws rs (k .0) (omega arith)))
+pub address-or-length-kept : (sized : Bool) (g : Given) (l : List ℕ) (k : Reference) (t : Table) → Readable g l → k .0 < g .tables
+    → t ≡ coreTable g l (k .0) → (addressOrLength sized t ≡ addressOrLength sized (table (coreTables g l) k)) × (addressOrLength sized t < 2 ^ 24)
+unfolding table
+address-or-length-kept sized g l k t r h e =
+    rw (e, core-at g l r (k .0) _ h)
+    (refl, address-or-length-below sized (coreTable g l (k .0)) (core-below g l r (k .0)))
 
 -- ---- whatever the changed bits become fits them: 16 bits, or 4 for type 100
 valued-fits : (v : ℕ) → Fits 16 (valued v)
@@ -75,26 +73,26 @@ module _ (ts : List Table) where
   unfolding constant
   constant-fits f x = both (Fits 16) (isSet 15 f) (long-fits f x) (short-fits f)
 
-module _ (ios : List ℕ) (near : ℕ) where
-  pub switch-fits : (h : Half) (k : Reference) → Fits 4 (switch ios near h k)
+module _ (ios : List ℕ) (channels : ℕ) where
+  pub switch-fits : (h : Half) (k : Reference) → Fits 4 (switch ios channels h k)
   unfolding switch
-  switch-fits Left k = both (Fits 4) (leb near (k .0)) tt (part-below 0 4 (getD ios (k .0) 0))
+  switch-fits Left k = both (Fits 4) (leb channels (k .0)) tt (part-below 0 4 (getD ios (k .0) 0))
   switch-fits Right k = tt
 
-  pub unit-fits : (all : ℕ) (k : Reference) → Fits 16 (unit ios near all k)
+  pub unit-fits : (k : Reference) → Fits 16 (unit ios channels k)
   unfolding unit
-  unit-fits all k =
-      both (Fits 16) (ltb (k .0) near) tt (both (Fits 16) (ltb (k .0) all) (valued-fits (getD ios (k .0) 0)) tt)
+  unit-fits k =
+      both (Fits 16) (ltb (k .0) channels) tt (both (Fits 16) (ltb (k .0) (length ios)) (valued-fits (getD ios (k .0) 0)) tt)
 
 pub becomes-fits : (a : Assignments) (h : Half) (t w x : ℕ) → Fits (widthOf t) (becomes a h t w x)
 unfolding becomes
 becomes-fits a h t w x = by-eq t 4
-    (λ e. rw e (switch-fits (a .ios) (a .near) h (reference (aField w))))
+    (λ e. rw e (switch-fits (a .ios) (a .channels) h (reference (aField w))))
     (λ n. rw (ne-eqb t 4 n)
     (both (Fits 16) (eqb t 0) (moved-fits (a .area) (relative (fieldOf h w)))
     (both (Fits 16) (eqb t 1) (pair-fits (a .tables) (fieldOf h w))
     (both (Fits 16) (eqb t 2) (constant-fits (a .tables) (fieldOf h w) x)
-    (both (Fits 16) (eqb t 7) (unit-fits (a .ios) (a .near) (a .all) (reference (fieldOf h w))) tt)))))
+    (both (Fits 16) (eqb t 7) (unit-fits (a .ios) (a .channels) (reference (fieldOf h w))) tt)))))
 
 -- ---- an arm of the match over the type, the same for either half: what its calls give is the step of its type
 module _ (a : Assignments) (h : Half) (w x : ℕ) {t f : ℕ} {b : Becomes} {r : Changed}
@@ -115,7 +113,7 @@ module _ (a : Assignments) (h : Half) (w x : ℕ) {t f : ℕ} {b : Becomes} {r :
   unfolding fieldStep becomes constant
   short-arm e i q = back ∙ rw (q, e, ← read, ne-eqb (bit 15 f) 1 i)
 
-  pub unit-arm : t ≡ 7 → b ≡ unit (a .ios) (a .near) (a .all) (reference f) → r ≡ fieldStep a h t w x
+  pub unit-arm : t ≡ 7 → b ≡ unit (a .ios) (a .channels) (reference f) → r ≡ fieldStep a h t w x
   unfolding fieldStep becomes
   unit-arm e q = back ∙ rw (q, read, e)
 

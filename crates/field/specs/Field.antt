@@ -14,21 +14,21 @@ use Rattle.word.specs.Fault.{fault}
 use Rattle.word.specs.Sorts.{absoluteOf}
 use Rattle.word.specs.Word.{part, put, isSet, lowest, fieldOf, aField}
 use Rattle.lists.specs.declared.Table.{Table}
-use Rattle.lists.specs.Kept.{numbersIn, tablesIn}
+use Rattle.lists.specs.Load.{coreTables, ioNumbers}
+use Rattle.lists.specs.Obey.{noTable}
 use Rattle.field.specs.declared.Becomes.{Becomes}
 use Rattle.field.specs.declared.Becomes.the-variants.{Value, Bad}
 use Rattle.field.specs.declared.Changed.{Changed}
 use Rattle.field.specs.declared.Changed.the-variants.{Word, Refused}
-use Rattle.field.specs.declared.Setting.{Setting}
+use Rattle.field.specs.declared.Assigned.{Assigned}
 
--- What a load has been given: its area, its core tables, the numbers assigned to its I/O references, how many of these are of
--- types 0 and 2, and how many of types 0, 2 and 3. References are numbered through the types in that order.
+-- What a load has been given: its area, its core tables, the numbers assigned to its I/O references, and how many of these are of
+-- types 0 and 2. References are numbered through the types 0, 2 and 3 in that order.
 pub record Assignments : Type 0 where
   pub area : Area
   pub tables : List Table
   pub ios : List ℕ
-  pub near : ℕ
-  pub all : ℕ
+  pub channels : ℕ
 
 -- a number that a field holds, as the sort that it is
 abbrev pub relative : ℕ → Relative
@@ -54,7 +54,7 @@ movedField area r = valued (absoluteOf area r .0)
 
 -- core table k; `referred` and `pair` first test that there is one
 unfoldable pub table : List Table → Reference → Table
-table ts k = getD ts (k .0) (record { at = record { 0 = 0 }; len = 0 })
+table ts k = getD ts (k .0) noTable
 
 -- "table address or length"
 abbrev pub addressOrLength : Bool → Table → ℕ
@@ -99,15 +99,15 @@ constant ts f x = cond (isSet 15 f) (long ts f x) (short ts f)
 -- type 100: "left only: bits 25-22, a number below the type 0 and 2 count, become its assignment". By refusal 16 that is at most
 -- 15; its low four bits are taken so that the definition is total.
 unfoldable pub switch : List ℕ → ℕ → Half → Reference → Becomes
-switch ios near Left k = cond (leb near (k .0)) (Bad (fault 20)) (Value (part 0 4 (getD ios (k .0) 0)))
-switch ios near Right k = Bad (fault 19)
+switch ios channels Left k = cond (leb channels (k .0)) (Bad (fault 20)) (Value (part 0 4 (getD ios (k .0) 0)))
+switch ios channels Right k = Bad (fault 19)
 
 -- type 111: "the field, a number of a type 3 entry, becomes its assignment". By refusal 8 that is at most 65,535, so that 21
 -- never comes of it.
-unfoldable pub unit : List ℕ → ℕ → ℕ → Reference → Becomes
-unit ios near all k =
-    cond (ltb (k .0) near) (Bad (fault 20))
-    (cond (ltb (k .0) all) (valued (getD ios (k .0) 0))
+unfoldable pub unit : List ℕ → ℕ → Reference → Becomes
+unit ios channels k =
+    cond (ltb (k .0) channels) (Bad (fault 20))
+    (cond (ltb (k .0) (length ios)) (valued (getD ios (k .0) 0))
     (Bad (fault 20)))
 
 -- what the bits that type t changes in half h of the word w become; "Others are 19."
@@ -116,8 +116,8 @@ becomes a h t w x =
     cond (eqb t 0) (movedField (a .area) (relative (fieldOf h w)))
     (cond (eqb t 1) (pair (a .tables) (fieldOf h w))
     (cond (eqb t 2) (constant (a .tables) (fieldOf h w) x)
-    (cond (eqb t 4) (switch (a .ios) (a .near) h (reference (aField w)))
-    (cond (eqb t 7) (unit (a .ios) (a .near) (a .all) (reference (fieldOf h w)))
+    (cond (eqb t 4) (switch (a .ios) (a .channels) h (reference (aField w)))
+    (cond (eqb t 7) (unit (a .ios) (a .channels) (reference (fieldOf h w)))
     (Bad (fault 19))))))
 
 -- these bits: 25-22 for type 100, else the field of the half
@@ -141,12 +141,11 @@ abbrev pub Fits : ℕ → Becomes → Type 0
 Fits n (Value v) = v < 2 ^ n
 Fits n (Bad f) = Unit {0}
 
--- the assignments of a load whose lists are kept as crate `lists` says
-unfoldable pub assigned : Setting → List ℕ → List ℕ → List ℕ → Assignments
-assigned s words ranks ios = record {
-  area = s .area;
-  tables = tablesIn (s .area) words ranks;
-  ios = numbersIn ios (s .all);
-  near = s .near;
-  all = s .all;
+-- the assignments of a load whose lists the desk keeps as crate `lists` says
+unfoldable pub assignedBy : Assigned → List ℕ → Assignments
+assignedBy s l = record {
+  area = s .given .area;
+  tables = coreTables (s .given) l;
+  ios = ioNumbers (s .given) l;
+  channels = s .channels;
 }

@@ -1,11 +1,11 @@
 // One field of a program word: what it becomes by its modification type, or why it is refused.
 ghost use mathlib.Core.Path.{_≡_};
 ghost use Prim.Native.Nat.{_+_, _<_, _≤_, _^_};
-ghost use lib.ListN.{length, getD};
 ghost use Rattle.word.specs.declared.Half.the-variants.{Left, Right};
 ghost use Rattle.word.specs.Word.{lowest};
-ghost use Rattle.lists.specs.Kept.{numbersIn, tablesIn};
-ghost use Rattle.field.specs.Field.{valued, plusOrMinus, movedField, table, addressOrLength, referred, pair, minusZero, short, long, switch, unit, Fits, putBack, assigned, fieldStep};
+ghost use Rattle.lists.specs.Load.{coreTables, ioNumbers, Readable};
+ghost use Rattle.field.specs.Field.{valued, plusOrMinus, movedField, table, addressOrLength, referred, pair, minusZero, short, long, switch, unit, Fits, putBack, assignedBy, fieldStep};
+use lists::Given;
 use word::Area;
 use word::Fault;
 use word::Half;
@@ -24,73 +24,59 @@ pub enum Changed {
     Refused(Fault),
 }
 
-// The area of a load, how many of its I/O references are of types 0 and 2, and how many of types 0, 2 and 3.
-pub struct Setting {
-    pub area: Area,
-    pub near: u64,
-    pub all: u64,
+// What the fields of a load's words are changed by, beside its lists: what open was given, and how many of its I/O references are of
+// types 0 and 2.
+pub struct Assigned {
+    pub given: Given,
+    pub channels: u64,
 }
 
 // The word w with its left half, or its right half, changed by modification type t (01, "A match over the three-bit modification
 // type decides field position, form and refusal for each half"); x is the nine more indicator bits of a long type 010. There are
 // two so that the compiler makes each half's code for that half alone.
-pub fn left_step(
-    s: Setting,
-    words: &[u64],
-    ranks: &[u64],
-    ios: &[u64],
-    t: u64,
-    w: u64,
-    x: u64,
-) -> Changed
-    requires { ⌜ (s .area .at .0 + s .area .size ≤ 65536) × (w < 2 ^ 36) ⌝ }
-    ensures { λ r. ⌜ r ≡ fieldStep (assigned s (now (words .entry)) (now (ranks .entry)) (now (ios .entry))) Left t w x ⌝ }
+pub fn left_step(s: Assigned, lists: &[u64], t: u64, w: u64, x: u64) -> Changed
+    requires { ⌜ (Readable (s .given) (now lists)) × (w < 2 ^ 36) ⌝ }
+    ensures { λ r. ⌜ r ≡ fieldStep (assignedBy s (now (lists .entry))) Left t w x ⌝ }
 {
-    let area = s.area;
+    let g = s.given;
+    let area = g.area;
     let f = word::field(w, Half::Left);
     match t {
         0 => put_back(Half::Left, w, moved_field(area, Relative(f))),
-        1 => put_back(Half::Left, w, pair_of(words, ranks, area, f)),
+        1 => put_back(Half::Left, w, pair_of(g, lists, f)),
         2 => {
             if f / 32768 % 2 == 1 {
-                return put_back(Half::Left, w, long_of(words, ranks, area, f, x));
+                return put_back(Half::Left, w, long_of(g, lists, f, x));
             }
-            put_back(Half::Left, w, short_of(words, ranks, area, f))
+            put_back(Half::Left, w, short_of(g, lists, f))
         }
         4 => put_a(
             w,
-            switch_of(ios, s.near, s.all, Reference(word::a_field(w))),
+            switch_of(g, lists, s.channels, Reference(word::a_field(w))),
         ),
-        7 => put_back(Half::Left, w, unit_of(ios, s.near, s.all, Reference(f))),
+        7 => put_back(Half::Left, w, unit_of(g, lists, s.channels, Reference(f))),
         _ => Changed::Refused(Fault { number: 19 }),
     }
 }
 
 // The same for the right half, which has no type 100.
-pub fn right_step(
-    s: Setting,
-    words: &[u64],
-    ranks: &[u64],
-    ios: &[u64],
-    t: u64,
-    w: u64,
-    x: u64,
-) -> Changed
-    requires { ⌜ (s .area .at .0 + s .area .size ≤ 65536) × (w < 2 ^ 36) ⌝ }
-    ensures { λ r. ⌜ r ≡ fieldStep (assigned s (now (words .entry)) (now (ranks .entry)) (now (ios .entry))) Right t w x ⌝ }
+pub fn right_step(s: Assigned, lists: &[u64], t: u64, w: u64, x: u64) -> Changed
+    requires { ⌜ (Readable (s .given) (now lists)) × (w < 2 ^ 36) ⌝ }
+    ensures { λ r. ⌜ r ≡ fieldStep (assignedBy s (now (lists .entry))) Right t w x ⌝ }
 {
-    let area = s.area;
+    let g = s.given;
+    let area = g.area;
     let f = word::field(w, Half::Right);
     match t {
         0 => put_back(Half::Right, w, moved_field(area, Relative(f))),
-        1 => put_back(Half::Right, w, pair_of(words, ranks, area, f)),
+        1 => put_back(Half::Right, w, pair_of(g, lists, f)),
         2 => {
             if f / 32768 % 2 == 1 {
-                return put_back(Half::Right, w, long_of(words, ranks, area, f, x));
+                return put_back(Half::Right, w, long_of(g, lists, f, x));
             }
-            put_back(Half::Right, w, short_of(words, ranks, area, f))
+            put_back(Half::Right, w, short_of(g, lists, f))
         }
-        7 => put_back(Half::Right, w, unit_of(ios, s.near, s.all, Reference(f))),
+        7 => put_back(Half::Right, w, unit_of(g, lists, s.channels, Reference(f))),
         _ => Changed::Refused(Fault { number: 19 }),
     }
 }
@@ -105,26 +91,26 @@ fn moved_field(area: Area, r: Relative) -> Becomes
 }
 
 // Type 001: bits 13-7 are the number of the table with the address, bits 6-0 of the one with the length.
-fn pair_of(words: &[u64], ranks: &[u64], area: Area, f: u64) -> Becomes
-    requires { ⌜ area .at .0 + area .size ≤ 65536 ⌝ }
-    ensures { λ b. ⌜ b ≡ pair (tablesIn area (now (words .entry)) (now (ranks .entry))) f ⌝ }
+fn pair_of(g: Given, lists: &[u64], f: u64) -> Becomes
+    requires { ⌜ Readable g (now lists) ⌝ }
+    ensures { λ b. ⌜ b ≡ pair (coreTables g (now (lists .entry))) f ⌝ }
 {
     if f / 32768 % 2 == 1 {
         return Becomes::Bad(Fault { number: 19 });
     }
     let k = Reference(f / 128 % 128);
     let l = Reference(f % 128);
-    if l.0 < ranks.len() as u64 {
-        let amount = address_or_length(words, ranks, area, true, l);
-        return refer(words, ranks, area, false, k, f / 16384 % 2 == 1, amount);
+    if l.0 < g.tables {
+        let amount = address_or_length(g, lists, true, l);
+        return refer(g, lists, false, k, f / 16384 % 2 == 1, amount);
     }
     Becomes::Bad(Fault { number: 20 })
 }
 
 // Type 010, short, with bit 15 zero.
-fn short_of(words: &[u64], ranks: &[u64], area: Area, f: u64) -> Becomes
-    requires { ⌜ area .at .0 + area .size ≤ 65536 ⌝ }
-    ensures { λ b. ⌜ b ≡ short (tablesIn area (now (words .entry)) (now (ranks .entry))) f ⌝ }
+fn short_of(g: Given, lists: &[u64], f: u64) -> Becomes
+    requires { ⌜ Readable g (now lists) ⌝ }
+    ensures { λ b. ⌜ b ≡ short (coreTables g (now (lists .entry))) f ⌝ }
 {
     let minus = f / 16384 % 2 == 1;
     let amount = f % 64;
@@ -132,13 +118,13 @@ fn short_of(words: &[u64], ranks: &[u64], area: Area, f: u64) -> Becomes
         return Becomes::Bad(Fault { number: 19 });
     }
     let k = Reference(f / 64 % 128);
-    refer(words, ranks, area, f / 8192 % 2 == 1, k, minus, amount)
+    refer(g, lists, f / 8192 % 2 == 1, k, minus, amount)
 }
 
 // Type 010, long, with bit 15 set: the number, and whether its length is meant, are in the nine more bits.
-fn long_of(words: &[u64], ranks: &[u64], area: Area, f: u64, x: u64) -> Becomes
-    requires { ⌜ area .at .0 + area .size ≤ 65536 ⌝ }
-    ensures { λ b. ⌜ b ≡ long (tablesIn area (now (words .entry)) (now (ranks .entry))) f x ⌝ }
+fn long_of(g: Given, lists: &[u64], f: u64, x: u64) -> Becomes
+    requires { ⌜ Readable g (now lists) ⌝ }
+    ensures { λ b. ⌜ b ≡ long (coreTables g (now (lists .entry))) f x ⌝ }
 {
     let amount = f % 16384;
     if amount < 64 {
@@ -148,56 +134,40 @@ fn long_of(words: &[u64], ranks: &[u64], area: Area, f: u64, x: u64) -> Becomes
         return Becomes::Bad(Fault { number: 19 });
     }
     let k = Reference(x % 128);
-    refer(
-        words,
-        ranks,
-        area,
-        x / 256 % 2 == 1,
-        k,
-        f / 16384 % 2 == 1,
-        amount,
-    )
+    refer(g, lists, x / 256 % 2 == 1, k, f / 16384 % 2 == 1, amount)
 }
 
 // Type 100: only a left half has it.
-fn switch_of(ios: &[u64], near: u64, all: u64, k: Reference) -> Becomes
-    ensures { λ b. ⌜ b ≡ switch (numbersIn (now (ios .entry)) all) near Left k ⌝ }
+fn switch_of(g: Given, lists: &[u64], channels: u64, k: Reference) -> Becomes
+    requires { ⌜ Readable g (now lists) ⌝ }
+    ensures { λ b. ⌜ b ≡ switch (ioNumbers g (now (lists .entry))) channels Left k ⌝ }
 {
-    if near <= k.0 {
+    if channels <= k.0 {
         return Becomes::Bad(Fault { number: 20 });
     }
-    Becomes::Value(io_of(ios, all, k) % 16)
+    Becomes::Value(lists::load::io_assigned(g, lists, k) % 16)
 }
 
-// Type 111: the numbers of the type 3 entries run from `near` up to `all`.
-fn unit_of(ios: &[u64], near: u64, all: u64, k: Reference) -> Becomes
-    ensures { λ b. ⌜ b ≡ unit (numbersIn (now (ios .entry)) all) near all k ⌝ }
+// Type 111: the numbers of the type 3 entries come after those of types 0 and 2.
+fn unit_of(g: Given, lists: &[u64], channels: u64, k: Reference) -> Becomes
+    requires { ⌜ Readable g (now lists) ⌝ }
+    ensures { λ b. ⌜ b ≡ unit (ioNumbers g (now (lists .entry))) channels k ⌝ }
 {
-    if k.0 < near {
+    if k.0 < channels {
         return Becomes::Bad(Fault { number: 20 });
     }
-    if k.0 < all {
-        return valued_of(io_of(ios, all, k));
+    if k.0 < g.io {
+        return valued_of(lists::load::io_assigned(g, lists, k));
     }
     Becomes::Bad(Fault { number: 20 })
 }
 
-// The number assigned to I/O reference k; 0 past the last, as in the definitions.
-fn io_of(ios: &[u64], all: u64, k: Reference) -> u64
-    ensures { λ r. ⌜ r ≡ getD (numbersIn (now (ios .entry)) all) (k .0) 0 ⌝ }
-{
-    if k.0 < all {
-        return lists::io_number(ios, k);
-    }
-    0
-}
-
 // The address of table k, or its length.
-fn address_or_length(words: &[u64], ranks: &[u64], area: Area, sized: bool, k: Reference) -> u64
-    requires { ⌜ (area .at .0 + area .size ≤ 65536) × (k .0 < length (now ranks)) ⌝ }
-    ensures { λ r. ⌜ (r ≡ addressOrLength sized (table (tablesIn area (now (words .entry)) (now (ranks .entry))) k)) × (r < 2 ^ 24) ⌝ }
+fn address_or_length(g: Given, lists: &[u64], sized: bool, k: Reference) -> u64
+    requires { ⌜ (Readable g (now lists)) × (k .0 < g .tables) ⌝ }
+    ensures { λ r. ⌜ (r ≡ addressOrLength sized (table (coreTables g (now (lists .entry))) k)) × (r < 2 ^ 24) ⌝ }
 {
-    let t = lists::table_at(words, ranks, area, k);
+    let t = lists::load::core_table(g, lists, k);
     if sized {
         return t.len;
     }
@@ -205,24 +175,12 @@ fn address_or_length(words: &[u64], ranks: &[u64], area: Area, sized: bool, k: R
 }
 
 // A table's address or length, plus or minus an amount. The address is absolute already.
-fn refer(
-    words: &[u64],
-    ranks: &[u64],
-    area: Area,
-    sized: bool,
-    k: Reference,
-    minus: bool,
-    amount: u64,
-) -> Becomes
-    requires { ⌜ (area .at .0 + area .size ≤ 65536) × (amount < 2 ^ 24) ⌝ }
-    ensures { λ b. ⌜ b ≡ referred (tablesIn area (now (words .entry)) (now (ranks .entry))) sized k minus amount ⌝ }
+fn refer(g: Given, lists: &[u64], sized: bool, k: Reference, minus: bool, amount: u64) -> Becomes
+    requires { ⌜ (Readable g (now lists)) × (amount < 2 ^ 24) ⌝ }
+    ensures { λ b. ⌜ b ≡ referred (coreTables g (now (lists .entry))) sized k minus amount ⌝ }
 {
-    if k.0 < ranks.len() as u64 {
-        return plus_or_minus(
-            minus,
-            address_or_length(words, ranks, area, sized, k),
-            amount,
-        );
+    if k.0 < g.tables {
+        return plus_or_minus(minus, address_or_length(g, lists, sized, k), amount);
     }
     Becomes::Bad(Fault { number: 20 })
 }

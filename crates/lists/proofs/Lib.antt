@@ -1,4 +1,5 @@
 pub mod Kept
+pub mod Reading
 pub mod Flag
 pub mod Obey
 pub mod Sound

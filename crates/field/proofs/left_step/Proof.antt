@@ -1,6 +1,6 @@
 -- `field::left_step` meets its contract: each arm of the match by what its calls give (Field's arms), and what they give fits. Assumes nothing.
 use Rattle.word.specs.declared.Half.the-variants.{Left}
-use Rattle.field.specs.Field.{becomes, putBack, fieldStep, assigned}
+use Rattle.field.specs.Field.{becomes, putBack, fieldStep, assignedBy}
 use Rattle.field.proofs.Field.{moved-fits, pair-fits, long-fits, short-fits, switch-fits, unit-fits, moved-arm, pair-arm, long-arm, short-arm, unit-arm}
 use Rattle.word.proofs.Tests.{tests}
 use borrow.Author.Needs.{needs}
@@ -29,7 +29,7 @@ put-back-requires-3 : tie.Need-put-back-requires-3
 put-back-requires-3 c κs = (search needs, rw (c .long-of .ensures) (long-fits _ _ _))
 
 returns : tie.Need-returns
-unfolding assigned
+unfolding assignedBy
 returns c = let m = c .before .before .before in
     long-arm _ Left _ _ (m .before .field .ensures) (c .put-back3 .ensures) (m .match .keys3) (c .before .before .if1 .taken) (c .before .long-of .ensures)
 
@@ -52,35 +52,35 @@ unit-of-requires : tie.Need-unit-of-requires
 unit-of-requires c κs = search needs
 
 put-back-requires-5 : tie.Need-put-back-requires-5
-put-back-requires-5 c κs = (search needs, rw (c .unit-of .ensures) (unit-fits _ _ _ _))
+put-back-requires-5 c κs = (search needs, rw (c .unit-of .ensures) (unit-fits _ _ _))
 
 returns-2 : tie.Need-returns-2
-unfolding assigned
+unfolding assignedBy
 returns-2 c = let m = c .before .before in
     moved-arm _ Left _ _ (m .before .field .ensures) (c .put-back .ensures) (m .match .keys1) (c .before .moved-field .ensures)
 
 returns-3 : tie.Need-returns-3
-unfolding assigned
+unfolding assignedBy
 returns-3 c = let m = c .before .before in
     pair-arm _ Left _ _ (m .before .field .ensures) (c .put-back2 .ensures) (m .match .keys2) (c .before .pair-of .ensures)
 
 returns-4 : tie.Need-returns-4
-unfolding assigned
+unfolding assignedBy
 returns-4 c = let m = c .before .before .before in
     short-arm _ Left _ _ (m .before .field .ensures) (c .put-back4 .ensures) (m .match .keys3) (c .before .before .if1 .left) (c .before .short-of .ensures)
 
 returns-5 : tie.Need-returns-5
-unfolding fieldStep becomes assigned
+unfolding fieldStep becomes assignedBy
 returns-5 c = simp (c .before .before .before .match .keys4)
     (rw (c .before .before .a-field .ensures) at (rw (c .before .switch-of .ensures) at (c .put-a .ensures)))
 
 returns-6 : tie.Need-returns-6
-unfolding assigned
+unfolding assignedBy
 returns-6 c = let m = c .before .before in
     unit-arm _ Left _ _ (m .before .field .ensures) (c .put-back5 .ensures) (m .match .keys5) (c .before .unit-of .ensures)
 
 returns-7 : tie.Need-returns-7
-unfolding fieldStep becomes assigned putBack
+unfolding fieldStep becomes assignedBy putBack
 returns-7 c = search tests
 
 pub left-step-spec : {M : Type 1} → statement M

@@ -1,7 +1,7 @@
 -- `field::refer` meets its contract: each way out by the test on its way; there is a table for each word of the ranks. Assumes nothing.
 use Rattle.field.specs.Field.{referred}
 use Rattle.word.proofs.Tests.{tests}
-use Rattle.lists.proofs.Kept.{tables-length}
+use Rattle.lists.proofs.Reading.{core-length}
 use borrow.Author.Needs.{needs}
 use Rattle.field.proofs.refer.Statement.{statement}
 use Rattle.field.proofs.refer.Tie as tie
@@ -14,11 +14,11 @@ plus-or-minus-requires c κs = search needs
 
 returns : tie.Need-returns
 unfolding referred
-returns c = search (tests, tables-length, rw (c .before .address-or-length .ensures .0) at (c .plus-or-minus .ensures))
+returns c = search (tests, core-length, rw (c .before .address-or-length .ensures .0) at (c .plus-or-minus .ensures))
 
 returns-2 : tie.Need-returns-2
 unfolding referred
-returns-2 c = search (tests, tables-length)
+returns-2 c = search (tests, core-length)
 
 pub refer-spec : {M : Type 1} → statement M
 refer-spec = tie.close (tie.spec address-or-length-requires plus-or-minus-requires returns returns-2)

@@ -1,6 +1,6 @@
 -- `field::right_step` meets its contract: each arm of the match by what its calls give (Field's arms), and what they give fits. Assumes nothing.
 use Rattle.word.specs.declared.Half.the-variants.{Right}
-use Rattle.field.specs.Field.{assigned}
+use Rattle.field.specs.Field.{assignedBy}
 use Rattle.field.proofs.Field.{moved-fits, pair-fits, long-fits, short-fits, unit-fits, moved-arm, pair-arm, long-arm, short-arm, unit-arm, right-rest}
 use borrow.Author.Needs.{needs}
 use Rattle.field.proofs.right_step.Statement.{statement}
@@ -28,7 +28,7 @@ put-back-requires-3 : tie.Need-put-back-requires-3
 put-back-requires-3 c κs = (search needs, rw (c .long-of .ensures) (long-fits _ _ _))
 
 returns : tie.Need-returns
-unfolding assigned
+unfolding assignedBy
 returns c = let m = c .before .before .before in
     long-arm _ Right _ _ (m .before .field .ensures) (c .put-back3 .ensures) (m .match .keys3) (c .before .before .if1 .taken) (c .before .long-of .ensures)
 
@@ -42,25 +42,25 @@ unit-of-requires : tie.Need-unit-of-requires
 unit-of-requires c κs = search needs
 
 put-back-requires-5 : tie.Need-put-back-requires-5
-put-back-requires-5 c κs = (search needs, rw (c .unit-of .ensures) (unit-fits _ _ _ _))
+put-back-requires-5 c κs = (search needs, rw (c .unit-of .ensures) (unit-fits _ _ _))
 
 returns-2 : tie.Need-returns-2
-unfolding assigned
+unfolding assignedBy
 returns-2 c = let m = c .before .before in
     moved-arm _ Right _ _ (m .before .field .ensures) (c .put-back .ensures) (m .match .keys1) (c .before .moved-field .ensures)
 
 returns-3 : tie.Need-returns-3
-unfolding assigned
+unfolding assignedBy
 returns-3 c = let m = c .before .before in
     pair-arm _ Right _ _ (m .before .field .ensures) (c .put-back2 .ensures) (m .match .keys2) (c .before .pair-of .ensures)
 
 returns-4 : tie.Need-returns-4
-unfolding assigned
+unfolding assignedBy
 returns-4 c = let m = c .before .before .before in
     short-arm _ Right _ _ (m .before .field .ensures) (c .put-back4 .ensures) (m .match .keys3) (c .before .before .if1 .left) (c .before .short-of .ensures)
 
 returns-5 : tie.Need-returns-5
-unfolding assigned
+unfolding assignedBy
 returns-5 c = let m = c .before .before in
     unit-arm _ Right _ _ (m .before .field .ensures) (c .put-back5 .ensures) (m .match .keys4) (c .before .unit-of .ensures)
 

@@ -11,12 +11,12 @@ returns : tie.Need-returns
 unfolding switch
 returns c = search tests
 
-io-of-requires : tie.Need-io-of-requires
-io-of-requires c κs = search needs
+io-assigned-requires : tie.Need-io-assigned-requires
+io-assigned-requires c κs = search needs
 
 returns-2 : tie.Need-returns-2
 unfolding switch
-returns-2 c = search (tests, div-one, sym (c .io-of .ensures))
+returns-2 c = search (tests, div-one, sym (c .io-assigned .ensures))
 
 pub switch-of-spec : {M : Type 1} → statement M
-switch-of-spec = tie.close (tie.spec returns io-of-requires returns-2)
+switch-of-spec = tie.close (tie.spec returns io-assigned-requires returns-2)
