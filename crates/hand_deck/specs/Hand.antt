@@ -16,8 +16,7 @@ deckLoad = record {
   area = record { at = record { 0 = 5000 }; size = 60536 };
   tables = record { at = record { 0 = 40000 }; len = 120 } ∷ [];
   ios = [];
-  near = 0;
-  all = 0;
+  channels = 0;
 }
 
 -- an answer as one number: the field of half h, or the refusal's number times 2^32

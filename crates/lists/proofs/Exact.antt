@@ -18,9 +18,10 @@ use Rattle.lists.specs.declared.Table.{Table}
 use Rattle.lists.specs.Kept.{addressIn, lengthIn, tableNumberIn, tableOf}
 use Rattle.lists.specs.Chain.{chainFrom, chain}
 use Rattle.lists.specs.Obey.{tableInside, tablesApart}
-use Rattle.lists.specs.Keep.{wordOf, hasRoom, wordsFrom, sorted, wordsKept}
+use Rattle.lists.specs.Keep.{wordOf, hasRoom, wordsFrom, wordsKept}
+use Rattle.sorting.specs.Sorted.{sorted}
 use Rattle.lists.proofs.Obey.{says-inside, first-empty, second-empty, first-before, apart-before, apart-sym}
-use Rattle.lists.proofs.Rising.{every-sorted, two-sorted, sorted-rising, rising-sorted}
+use Rattle.sorting.proofs.Rising.{every-sorted, two-sorted, sorted-rising, rising-sorted}
 
 pub same-test : (a b : Bool) → (a ≡ true → b ≡ true) → (b ≡ true → a ≡ true) → a ≡ b
 same-test true b f g = sym (f refl)

@@ -4,12 +4,8 @@ pub mod Flag
 pub mod Obey
 pub mod Sound
 pub mod Lent
-pub mod Sort
-pub mod Rising
 pub mod Exact
 pub mod Numbers
 pub mod Ranks
 pub mod Keep
-pub mod Merge
-pub mod Fours
 pub mod Take

@@ -21,11 +21,12 @@ use Rattle.word.proofs.Says.{says-eq, says-lt, says-le, says-and, says-within}
 use Rattle.lists.specs.declared.Table.{Table}
 use Rattle.lists.specs.Kept.{tableNumberIn, tableOf, rankIn, awayIn, emptyIn, tableBy, tableAt, tablesIn}
 use Rattle.lists.specs.Obey.{noTable, tableInside}
-use Rattle.lists.specs.Keep.{wordOf, hasRoom, wordsFrom, sorted, wordsKept, awayRank, ranked, ranksKept, Ranking}
-use Rattle.lists.specs.Sorting.{numberBelow}
+use Rattle.lists.specs.Keep.{wordOf, hasRoom, wordsFrom, wordsKept, awayRank, ranked, ranksKept, Ranking}
+use Rattle.sorting.specs.Sorted.{sorted}
+use Rattle.lists.specs.Taking.{numberBelow}
 use Rattle.lists.proofs.Kept.{tables-length, tables-at}
 use Rattle.lists.proofs.Obey.{says-inside}
-use Rattle.lists.proofs.Rising.{length-sorted, every-sorted}
+use Rattle.sorting.proofs.Rising.{length-sorted, every-sorted}
 use Rattle.lists.proofs.Exact.{says-room, word-number, word-table}
 
 -- ---- how many there are

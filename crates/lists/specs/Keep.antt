@@ -6,6 +6,7 @@ use mathlib.Core.List.{List, [], _∷_, map}
 use lib.ListN.{length, getD, set}
 use lib.Dec.{ltb, eqb}
 use Rattle.word.specs.Limits.{tablesMost}
+use Rattle.sorting.specs.Sorted.{sorted}
 use Rattle.word.specs.Lists.{every, tab, splice}
 use Rattle.word.specs.declared.Area.{Area}
 use Rattle.lists.specs.declared.Table.{Table}
@@ -47,16 +48,6 @@ hasWords t = ltb 0 (t .len)
 unfoldable pub wordsFrom : ℕ → List Table → List ℕ
 wordsFrom k [] = []
 wordsFrom k (t ∷ ts) = cond (eqb (t .len) 0) (wordsFrom (suc k) ts) (wordOf k t ∷ wordsFrom (suc k) ts)
-
--- the number x put among numbers that rise
-unfoldable pub insert : ℕ → List ℕ → List ℕ
-insert x [] = x ∷ []
-insert x (y ∷ ys) = cond (ltb y x) (y ∷ insert x ys) (x ∷ y ∷ ys)
-
--- the same numbers, rising
-unfoldable pub sorted : List ℕ → List ℕ
-sorted [] = []
-sorted (x ∷ xs) = insert x (sorted xs)
 
 -- the words that are kept: rising numbers are tables by rising address
 unfoldable pub wordsKept : List Table → List ℕ

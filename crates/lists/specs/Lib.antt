@@ -3,4 +3,4 @@ pub mod Load
 pub mod Chain
 pub mod Obey
 pub mod Keep
-pub mod Sorting
+pub mod Taking

@@ -19,7 +19,8 @@ use Rattle.program.specs.Groups.{groupOf}
 use Rattle.program.specs.Start.{inBank}
 use Rattle.indicator.specs.Indicator.{bitsOf, indicatorBits, bitsBefore, numberAt, indicatorAt, afterField, afterWord, afterAll}
 use Rattle.lists.specs.Obey.{listsObey, tablesObey, tablesOf}
-use Rattle.lists.specs.Keep.{numbersKept, wordsKept, ranksKept, wordsFrom, sorted, ranked}
+use Rattle.lists.specs.Keep.{numbersKept, wordsKept, ranksKept, wordsFrom, ranked}
+use Rattle.sorting.specs.Sorted.{sorted}
 use Rattle.lists.specs.Kept.{numbersIn, tablesIn}
 use Rattle.lists.specs.Chain.{chain, chainFrom}
 use Rattle.field.specs.Field.{valued, movedField, becomes, putBack, fieldStep}
