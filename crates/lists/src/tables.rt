@@ -7,7 +7,10 @@ ghost use Rattle.word.specs.Lists.{every};
 ghost use Rattle.lists.specs.Keep.{hasRoom, hasWords};
 ghost use Rattle.lists.specs.Obey.{tablesOf, noTable};
 ghost use Rattle.lists.specs.Taking.{Fillable, Fills};
+use crate::ADDRESS;
+use crate::NUMBER;
 use crate::Table;
+use crate::WRAPPED;
 use word::Absolute;
 
 // Table k of a lent list.
@@ -45,7 +48,7 @@ fn none_empty(tables: &[u64]) -> bool
         any = any | std::num::wrapping_sub_u64(t.len, 1);
         k += 1;
     }
-    any < 9223372036854775808
+    any < WRAPPED
 }
 
 // The words of the tables where none is empty: each stands at its table's number.
@@ -56,7 +59,7 @@ fn fill_all(tables: &[u64], words: &mut [u64]) -> usize
     let mut k: usize = 0;
     while k < tables.len() / 2 {
         let t = lent_table(tables, k);
-        words[k] = t.at.0 * 1099511627776 + k as u64 * 1048576 + t.len;
+        words[k] = t.at.0 * ADDRESS + k as u64 * NUMBER + t.len;
         k += 1;
     }
     k
@@ -75,7 +78,7 @@ fn fill_some(tables: &[u64], words: &mut [u64]) -> usize
             k += 1;
             continue;
         }
-        words[n] = t.at.0 * 1099511627776 + k as u64 * 1048576 + t.len;
+        words[n] = t.at.0 * ADDRESS + k as u64 * NUMBER + t.len;
         n += 1;
         k += 1;
     }
