@@ -12,8 +12,8 @@ use borrow.Author.Tests.{le-leb, lt-ltb}
 use Rattle.io.specs.Digits.{digits, glyph}
 use Rattle.word.specs.Lists.{every, range}
 use Rattle.word.proofs.Cases.{and-both, and-left, and-right}
-use Rattle.load_printer.specs.Lines.{isOctal, newline, octal, lineAt}
-use Rattle.load_printer.specs.declared.Line.the-variants.{Word, Bad}
+use Rattle.octal.specs.Lines.{isOctal, newline, octal, lineAt}
+use Rattle.octal.specs.declared.Line.the-variants.{Word, Bad}
 
 octal-snoc : (v d : ℕ) (ds : List ℕ) → octal v (ds ++ (d ∷ [])) ≡ octal v ds * 8 + (d - 48)
 unfolding octal

@@ -1,7 +1,5 @@
 // The load printer: feeds room 0 the blocks on standard input, 256 lines of 12 octal digits each, and prints what is answered to each
 // (01, "The hand deck").
-mod lines;
-
 ghost use mathlib.Core.Path.{_≡_};
 ghost use lib.ListN.{length};
 use calls::Answer;
@@ -9,12 +7,6 @@ use libc::STDIN_FILENO;
 use libc::STDOUT_FILENO;
 use word::Absolute;
 use word::Area;
-
-// What a line says.
-pub enum Line {
-    Word(u64),
-    Bad,
-}
 
 // What comes next on standard input.
 pub enum Input {
@@ -48,15 +40,15 @@ fn say_answer(index: u64, a: Answer) {
 fn read_block(block: &mut [u64]) -> Input
     requires { ⌜ length (now block) ≡ 256 ⌝ }
 {
-    let mut text = [0u8; 3328];
+    let mut text = [0u8; octal::TEXT];
     let n = io::read_full(STDIN_FILENO, &mut text);
     if n == 0 {
         return Input::End;
     }
-    if !lines::end_text(&mut text, n) {
+    if !octal::end_text(&mut text, n) {
         return Input::Bad;
     }
-    if lines::read_lines(&text, block) {
+    if octal::read_lines(&text, block) {
         Input::Block
     } else {
         Input::Bad
@@ -65,7 +57,7 @@ fn read_block(block: &mut [u64]) -> Input
 
 // Feeds the next block, and answers whether to go on.
 fn feed_next(desk: &mut [u64], core: &mut [u64], place: u64, index: u64) -> bool {
-    let mut block = [0u64; 256];
+    let mut block = [0u64; octal::LINES];
     match read_block(&mut block) {
         Input::End => false,
         Input::Bad => {

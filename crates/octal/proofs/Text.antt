@@ -13,10 +13,10 @@ use Rattle.word.specs.Lists.{every, tab}
 use Rattle.word.proofs.Cases.{and-assoc, and-true}
 use Rattle.word.proofs.Every.{every-place, every-by}
 use Rattle.word.proofs.Lists.{length-tab, getD-tab}
-use Rattle.load_printer.specs.Lines.{isGood, wordOf, line, lineWord, isBlock, blockOf}
-use Rattle.load_printer.specs.declared.Line.{Line}
-use Rattle.load_printer.specs.declared.Line.the-variants.{Word, Bad}
-use Rattle.load_printer.proofs.Digits.{line-word}
+use Rattle.octal.specs.Lines.{isGood, wordOf, line, lineWord, isBlock, blockOf}
+use Rattle.octal.specs.declared.Line.{Line}
+use Rattle.octal.specs.declared.Line.the-variants.{Word, Bad}
+use Rattle.octal.proofs.Digits.{line-word}
 
 -- g: the lines before line i are good
 unfoldable pub goodFrom : List ℕ → Bool → ℕ → Bool

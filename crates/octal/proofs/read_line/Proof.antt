@@ -1,12 +1,12 @@
--- `load_printer::lines::read_line` meets its contract: by the loop's invariant. Assumes nothing.
+-- `octal::read_line` meets its contract: by the loop's invariant. Assumes nothing.
 use Prim.Native.Nat.{_≤_, _<_, _+_, _-_, _^_}
 use mathlib.Core.Path.{_≡_, sym, _∙_}
 use native.Mathlib.Omega.{arith}
 use borrow.Author.Tests.{eq-eqb, ne-eqb}
-use Rattle.load_printer.specs.Lines.{lineAt}
-use Rattle.load_printer.proofs.Digits.{rest, rest-all, rest-more, rest-low, rest-high, rest-end, below-more, below-most}
-use Rattle.load_printer.proofs.lines.read_line.Statement.{statement}
-use Rattle.load_printer.proofs.lines.read_line.Tie as tie
+use Rattle.octal.specs.Lines.{lineAt}
+use Rattle.octal.proofs.Digits.{rest, rest-all, rest-more, rest-low, rest-high, rest-end, below-more, below-most}
+use Rattle.octal.proofs.read_line.Statement.{statement}
+use Rattle.octal.proofs.read_line.Tie as tie
 
 abbrev Inv-loop : tie.InvT-loop
 Inv-loop text a last w₀ i₀ w i =

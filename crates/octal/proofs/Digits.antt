@@ -12,9 +12,9 @@ use borrow.Author.Tests.{le-leb, lt-leb, leb-true}
 use Rattle.word.specs.Lists.{every, range}
 use Rattle.word.proofs.Cases.{and-left, and-right, when}
 use Rattle.word.proofs.Lists.{range-turn, range-end, length-range-most}
-use Rattle.load_printer.specs.Lines.{isOctal, newline, octal, lineAt, wordOf}
-use Rattle.load_printer.specs.declared.Line.{Line}
-use Rattle.load_printer.specs.declared.Line.the-variants.{Word, Bad}
+use Rattle.octal.specs.Lines.{isOctal, newline, octal, lineAt, wordOf}
+use Rattle.octal.specs.declared.Line.{Line}
+use Rattle.octal.specs.declared.Line.the-variants.{Word, Bad}
 
 -- the line at place a, of which the digits before place i spelt w
 unfoldable pub rest : List ℕ → ℕ → ℕ → ℕ → Line

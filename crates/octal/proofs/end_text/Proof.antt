@@ -1,10 +1,10 @@
--- `load_printer::lines::end_text` meets its contract: each return by the tests that led to it. Assumes nothing.
+-- `octal::end_text` meets its contract: each return by the tests that led to it. Assumes nothing.
 use mathlib.Core.Path.{refl}
 use Rattle.word.proofs.Tests.{tests}
-use Rattle.load_printer.specs.Lines.{isWhole, ended}
+use Rattle.octal.specs.Lines.{isWhole, ended}
 use borrow.Author.Needs.{needs}
-use Rattle.load_printer.proofs.lines.end_text.Statement.{statement}
-use Rattle.load_printer.proofs.lines.end_text.Tie as tie
+use Rattle.octal.proofs.end_text.Statement.{statement}
+use Rattle.octal.proofs.end_text.Tie as tie
 
 returns : tie.Need-returns
 unfolding isWhole ended

@@ -1,30 +1,52 @@
-// The text of a block: 256 lines of 12 octal digits.
+// The text of a block, as programs read it: 256 lines of 12 octal digits.
 ghost use mathlib.Core.Path.{_≡_};
 ghost use Prim.Native.Nat.{_+_, _≤_};
 ghost use lib.ListN.{length};
-ghost use Rattle.load_printer.specs.Lines.{lineAt, isGood, wordOf, isBlock, blockOf, isWhole, ended};
-use crate::Line;
+ghost use Rattle.octal.specs.Lines.{lineAt, isGood, wordOf, isBlock, blockOf, isWhole, ended};
+
+// The digits of a line, its bytes with the newline, the lines of a block, and the bytes of a block's text.
+const DIGITS: usize = 12;
+
+const LINE: usize = DIGITS + 1;
+
+pub const LINES: usize = 256;
+
+pub const TEXT: usize = LINES * LINE;
+
+const TEXT_UNENDED: usize = TEXT - 1;
+
+const NEWLINE: u8 = 10;
+
+const DIGIT_0: u8 = 48;
+
+const DIGIT_7: u8 = 55;
+
+// What a line says.
+pub enum Line {
+    Word(u64),
+    Bad,
+}
 
 // The line whose first byte is at place a.
 pub fn read_line(text: &[u8], a: usize) -> Line
     requires { ⌜ a + 13 ≤ length (now text) ⌝ }
     ensures { λ r. ⌜ r ≡ lineAt (now (text .entry)) a ⌝ }
 {
-    let last = a + 12;
+    let last = a + DIGITS;
     let mut w: u64 = 0;
     let mut i = a;
     while i < last {
         let d = text[i];
-        if d < 48 {
+        if d < DIGIT_0 {
             return Line::Bad;
         }
-        if 55 < d {
+        if DIGIT_7 < d {
             return Line::Bad;
         }
-        w = w * 8 + (d - 48) as u64;
+        w = w * 8 + (d - DIGIT_0) as u64;
         i += 1;
     }
-    if text[last] != 10 {
+    if text[last] != NEWLINE {
         return Line::Bad;
     }
     Line::Word(w)
@@ -35,11 +57,11 @@ pub fn end_text(text: &mut [u8], n: usize) -> bool
     requires { ⌜ length (now text) ≡ 3328 ⌝ }
     ensures { λ r. ⌜ (r ≡ isWhole n) × (now (text .exit) ≡ ended (now (text .entry)) n) ⌝ }
 {
-    if n == 3328 {
+    if n == TEXT {
         return true;
     }
-    if n == 3327 {
-        text[3327] = 10;
+    if n == TEXT_UNENDED {
+        text[TEXT_UNENDED] = NEWLINE;
         return true;
     }
     false
@@ -52,8 +74,8 @@ pub fn read_lines(text: &[u8], block: &mut [u64]) -> bool
 {
     let mut good = true;
     let mut i: usize = 0;
-    while i < 256 {
-        let l = read_line(text, i * 13);
+    while i < LINES {
+        let l = read_line(text, i * LINE);
         block[i] = word_of(l);
         good = good & is_good(l);
         i += 1;

@@ -1,14 +1,14 @@
--- `load_printer::lines::read_lines` meets its contract: by the loop's invariant. Assumes nothing.
+-- `octal::read_lines` meets its contract: by the loop's invariant. Assumes nothing.
 use Prim.Native.Nat.{_≤_, _-_}
 use mathlib.Core.Path.{_≡_, ap, _∙_}
 use native.Mathlib.Omega.{arith}
 use lib.ListN.{length, length-set}
 use borrow.Author.Needs.{needs}
 use Rattle.word.proofs.Fill.{filled, filled-none, filled-more, filled-all}
-use Rattle.load_printer.specs.Lines.{isGood, wordOf, lineWord, isBlock, blockOf}
-use Rattle.load_printer.proofs.Text.{goodFrom, good-all, good-more, good-end}
-use Rattle.load_printer.proofs.lines.read_lines.Statement.{statement}
-use Rattle.load_printer.proofs.lines.read_lines.Tie as tie
+use Rattle.octal.specs.Lines.{isGood, wordOf, lineWord, isBlock, blockOf}
+use Rattle.octal.proofs.Text.{goodFrom, good-all, good-more, good-end}
+use Rattle.octal.proofs.read_lines.Statement.{statement}
+use Rattle.octal.proofs.read_lines.Tie as tie
 
 abbrev Inv-loop : tie.InvT-loop
 Inv-loop text block₀ good₀ i₀ block good i =
