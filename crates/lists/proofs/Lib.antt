@@ -8,4 +8,5 @@ pub mod Exact
 pub mod Numbers
 pub mod Ranks
 pub mod Keep
+pub mod Back
 pub mod Take

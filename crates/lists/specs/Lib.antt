@@ -1,6 +1,6 @@
 pub mod Kept
-pub mod Load
 pub mod Chain
 pub mod Obey
 pub mod Keep
+pub mod Load
 pub mod Taking

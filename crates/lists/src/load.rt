@@ -2,9 +2,10 @@
 ghost use mathlib.Core.Path.{_≡_};
 ghost use lib.ListN.{getD};
 ghost use Rattle.lists.specs.Chain.{chain};
-ghost use Rattle.lists.specs.Load.{wordsIn, coreTable, ioNumbers, Readable};
+ghost use Rattle.lists.specs.Load.{wordsIn, coreTable, ioNumbers, keptLists, Readable, Keepable};
 use crate::Given;
 use crate::Table;
+use word::Area;
 use word::Reference;
 
 // The places of the I/O numbers, of the kept words and of the ranks, and how many numbers there are in all.
@@ -13,6 +14,18 @@ const WORDS: usize = 32;
 const RANKS: usize = 160;
 
 pub const LISTS: usize = 288;
+
+// Keeps the lists that are lent to open, whose tables' kept words are these.
+pub fn keep_lists(area: Area, ios: &[u64], tables: &[u64], words: &[u64], lists: &mut [u64])
+    requires { ⌜ Keepable area (now ios) (now tables) (now words) (now lists) ⌝ }
+    ensures { λ _. ⌜ now (lists .exit) ≡ keptLists (now (ios .entry)) (now (tables .entry)) (now (lists .entry)) ⌝ }
+{
+    let mut numbers = [0u64; WORDS];
+    crate::keep_numbers(ios, &mut numbers);
+    slices::copy_in(lists, 0, &numbers[..(ios.len() + 3) / 4]);
+    slices::copy_in(lists, WORDS, words);
+    crate::keep_ranks(tables, words, &mut lists[RANKS..LISTS]);
+}
 
 // Core table k of a load; one that it has not is empty.
 pub fn core_table(g: Given, lists: &[u64], k: Reference) -> Table
