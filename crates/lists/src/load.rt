@@ -7,6 +7,7 @@ use crate::Given;
 use crate::Table;
 use word::Area;
 use word::Reference;
+use word::limits::TABLES_MOST;
 
 // The places of the I/O numbers, of the kept words and of the ranks, and how many numbers there are in all.
 const WORDS: usize = 32;
@@ -22,8 +23,8 @@ pub fn keep_lists(area: Area, ios: &[u64], tables: &[u64], words: &[u64], lists:
 {
     let mut numbers = [0u64; WORDS];
     crate::keep_numbers(ios, &mut numbers);
-    slices::copy_in(lists, 0, &numbers[..(ios.len() + 3) / 4]);
-    slices::copy_in(lists, WORDS, words);
+    word::slices::copy_in(lists, 0, &numbers[..(ios.len() + 3) / 4]);
+    word::slices::copy_in(lists, WORDS, words);
     crate::keep_ranks(tables, words, &mut lists[RANKS..LISTS]);
 }
 
