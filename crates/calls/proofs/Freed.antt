@@ -1,4 +1,4 @@
--- Release: what its tests have shown, and that the desk it leaves is sound and its answer small. Assumes nothing.
+-- Release: the desk it leaves is sound, and its answer small. Assumes nothing.
 use Prim.Native.Nat.{ℕ, _+_, _<_}
 use mathlib.Core.Path.{_≡_, refl, sym, ap, _∙_}
 use mathlib.Core.Bool.{true}
@@ -6,24 +6,18 @@ use mathlib.Core.List.{List, [], _∷_}
 use native.Mathlib.Omega.{arith}
 use lib.ListN.{length, set, length-set}
 use lib.Seq.{getD-set-same}
-use lib.Dec.{eqb, ltb, leb}
-use borrow.Author.Tests.{ltb-true}
 use Rattle.word.specs.Lists.{splice}
-use Rattle.word.proofs.Cases.{and-left, by-eq, both, when}
+use Rattle.word.proofs.Cases.{by-eq, both, when}
 use Rattle.word.proofs.Lists.{set-splice}
 use Rattle.rooms.proofs.Rooms.{freed-fair}
-use Rattle.layout.specs.Layout.{deskWords, base, coreLength, mapNumbers, placeIn, holderIn, holderOf, holders}
-use Rattle.layout.proofs.Places.{holder-at, place-kept, map-kept, core-kept, holders-written}
+use Rattle.layout.specs.Layout.{deskWords, base, coreLength, mapNumbers, placeIn, holderOf, holders, holds}
+use Rattle.layout.proofs.Places.{holds-inside, holder-at, place-kept, map-kept, core-kept, holders-written}
 use Rattle.desk.specs.Sound.{sound, Sound}
 use Rattle.desk.proofs.Facts.{sound-says, free-fits, free-first, free-second}
 use Rattle.calls.specs.Answer.{Small}
 use Rattle.calls.specs.Outcome.{Outcome}
-use Rattle.calls.specs.Release.{holds, releaseOf}
-
--- ---- what the tests of release have shown
-pub held-inside : (d : List ℕ) (r p : ℕ) → holds d r p ≡ true → p < 12
-unfolding holds
-held-inside d r p q = ltb-true p 12 (and-left (ltb p 12) (eqb (holderIn d p) (r + 1)) q)
+use Rattle.calls.specs.Release.{releaseOf}
+use Rattle.calls.proofs.Entry.{entered-cases}
 
 -- ---- a place freed: every other place, the core length and the map are as they were
 module _ (d : List ℕ) (long : length d ≡ deskWords) (p : ℕ) (h : p < 12) where
@@ -71,23 +65,13 @@ pub release-sound : (d : List ℕ) (n r p : ℕ) → sound d ≡ true → sound 
 unfolding releaseOf
 release-sound d n r p q =
     let P : Outcome → Type 0 = λ o. sound (o .desk) ≡ true in
-    rw q
-    (both P (eqb n (coreLength d))
-    (both P (leb r 7)
-    (when P (holds d r p)
-    (λ h. sound-says (set d (base p) 0) .test (freed-sound d p (held-inside d r p h) (sound-says d .fact q)))
+    entered-cases d n r [] _ P (λ m k. q)
+    (λ k. when P (holds d r p)
+    (λ h. sound-says (set d (base p) 0) .test (freed-sound d p (holds-inside d r p h) (sound-says d .fact q)))
     (λ h. q))
-    q)
-    q)
 
 pub release-small : (d : List ℕ) (n r p : ℕ) → Small (releaseOf d n r p .answer)
 unfolding releaseOf
 release-small d n r p =
     let P : Outcome → Type 0 = λ o. Small (o .answer) in
-    both P (sound d)
-    (both P (eqb n (coreLength d))
-    (both P (leb r 7)
-    (both P (holds d r p) tt (omega arith))
-    (omega arith))
-    (omega arith))
-    (omega arith)
+    entered-cases d n r [] _ P (λ m k. omega arith) (λ k. both P (holds d r p) tt (omega arith))

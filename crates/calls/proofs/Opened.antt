@@ -1,19 +1,18 @@
--- Open: what its steps leave, by the tests that were passed, and that it keeps a desk sound. Assumes nothing.
-use Prim.Native.Nat.{ℕ, _+_, _-_, _/_, _≤_, _<_}
+-- Open keeps a desk sound, and its answer fits in one number. Assumes nothing.
+use Prim.Native.Nat.{ℕ, _+_, _-_, _≤_, _<_}
 use mathlib.Core.Path.{_≡_, refl, sym, ap, _∙_}
-use mathlib.Core.Bool.{Bool, true, false}
-use mathlib.Core.List.{List, [], _∷_, _++_}
+use mathlib.Core.Bool.{true}
+use mathlib.Core.List.{List, []}
 use native.Mathlib.Omega.{arith}
-use lib.ListN.{length, getD, take, drop, set}
+use lib.ListN.{length, getD, set}
 use lib.Dec.{eqb, leb}
-use borrow.Author.Tests.{eq-eqb, ne-eqb, eqb-true, leb-true, le-leb, lt-leb}
-use Rattle.word.specs.Lists.{every, splice, range, cleared}
+use borrow.Author.Tests.{eq-eqb, ne-eqb, eqb-true, le-leb}
+use Rattle.word.specs.Lists.{splice, range}
 use Rattle.word.specs.Runs.{apart}
-use Rattle.word.specs.Fault.{fault}
 use Rattle.word.specs.declared.Area.{Area}
 use Rattle.word.proofs.Cases.{by-eq, when, both, and-left, and-right, or-not}
 use Rattle.word.proofs.Every.{every-place}
-use Rattle.word.proofs.Lists.{getD-range, range-splice-same, range-splice-before, length-splice, splice-lent}
+use Rattle.word.proofs.Lists.{getD-range, range-splice-same, range-splice-before, length-splice}
 use Rattle.word.proofs.Says.{says-within, says-apart}
 use Rattle.map.specs.declared.Stretch.{Stretch}
 use Rattle.map.specs.Map.{mapOf, none, Separate}
@@ -21,145 +20,25 @@ use Rattle.rooms.specs.Rooms.{free, held, idle, placeRefusal, lowestFree}
 use Rattle.rooms.proofs.Count.{lowest-is-free}
 use Rattle.rooms.proofs.Rooms.{given-place, given-fair}
 use Rattle.lists.specs.Obey.{tablesOf, listsObey}
-use Rattle.lists.specs.Keep.{numbersKept, wordsKept, ranksKept, Takes}
-use Rattle.lists.specs.declared.Taken.the-variants.{Words}
+use Rattle.lists.specs.Keep.{numbersKept, wordsKept, ranksKept}
 use Rattle.lists.proofs.Keep.{lists-obey, kept-passes}
-use Rattle.lists.proofs.Take.{taken-words}
-use Rattle.lists.proofs.Lent.{lent-length}
 use Rattle.lists.proofs.Numbers.{numbers-kept-length}
 use Rattle.lists.proofs.Ranks.{words-few, ranks-length}
 use Rattle.stage.specs.Stage.{numbersOf, stageOf}
 use Rattle.stage.specs.Ranges.{stageFits}
 use Rattle.stage.specs.declared.Stage.the-variants.{Label}
 use Rattle.layout.specs.declared.Place.{Place}
-use Rattle.layout.specs.Layout.{coreLength, mapNumbers, base, placeIn, places, holderOf, holderIn, ownOf, stageIn, wordsIn, holders}
+use Rattle.layout.specs.Layout.{mapNumbers, base, placeIn, places, holderOf, holderIn, ownOf, stageIn, wordsIn, holders}
 use Rattle.layout.proofs.Places.{holder-at, getD-holders, place-length}
 use Rattle.desk.specs.Sound.{areaIn, countsFit, loadFits, heldFits, placeFits, areasApart, sound}
-use Rattle.desk.proofs.Facts.{sound-says, sound-long, free-first, core-small, sound-map, sound-fair, stretch-in-core}
+use Rattle.desk.proofs.Facts.{sound-says, sound-long, free-first, sound-map, sound-fair}
 use Rattle.desk.proofs.Replaced.{Replaced, replaced-none, replaced-more, areas-by, replaced-sound, holders-replaced}
 use Rattle.desk.proofs.Tested.{load-is, places-length, places-at}
 use Rattle.calls.specs.Answer.{Small}
-use Rattle.calls.specs.declared.Answer.the-variants.{Refused, Opened}
-use Rattle.calls.specs.Outcome.{Outcome, Meets}
+use Rattle.calls.specs.Outcome.{Outcome}
 use Rattle.calls.specs.Open.{besideOwn, areaFits, openedOwn, openedDesk, opened, grantOf, openOf}
-
--- ---- an area that fits lies in its room's stretch, and so in the core
-module _ (d : List ℕ) (s : sound d ≡ true) (r : ℕ) (a : Area) (h : r < 8) (q : areaFits d r a ≡ true) where
-  pub area-held : areaIn (getD (mapOf (mapNumbers d)) r none) a ≡ true
-  unfolding areaFits
-  area-held = and-left (areaIn (getD (mapOf (mapNumbers d)) r none) a) _ q
-
-  pub area-in-core : a .at .0 + a .size ≤ coreLength d
-  area-in-core = stretch-in-core d s r a h area-held
-
-  pub area-small : a .at .0 + a .size ≤ 65536
-  area-small = omega (arith, area-in-core, core-small d s)
-
--- ---- an area beside those that the room holds
-module _ (r : ℕ) (a : Area) (l : List ℕ) where
-  pub beside-others : (holderOf l ≡ r + 1 → ⊥) → true ≡ besideOwn r a l
-  unfolding besideOwn
-  beside-others h = rw (ne-eqb (holderOf l) (r + 1) h)
-
-  pub beside-held : holderOf l ≡ r + 1 → apart (getD l 1 0) (getD l 2 0) (a .at .0) (a .size) ≡ besideOwn r a l
-  unfolding besideOwn ownOf
-  beside-held h = rw (eq-eqb (holderOf l) (r + 1) h)
-
-module _ (d : List ℕ) (r : ℕ) (a : Area) (m : List Stretch) (e : m ≡ mapOf (mapNumbers d)) where
-  pub area-outside : areaIn (getD m r none) a ≡ false → false ≡ areaFits d r a
-  unfolding areaFits
-  area-outside q = rw (← e, q)
-
-  pub area-inside : (b : Bool) → areaIn (getD m r none) a ≡ true → b ≡ every (besideOwn r a) (places d) → b ≡ areaFits d r a
-  unfolding areaFits
-  area-inside b q p = rw (← e, q) p
-
--- ---- the lists as they are copied: an array that begins with vs, lent as far as vs goes
-lent-start : (l vs ws : List ℕ) (n : ℕ) → ws ≡ splice l 0 vs → n ≡ length vs → length vs ≤ length l → take n ws ≡ vs
-unfolding range
-lent-start l vs ws n e k h = rw (e, k) (range-splice-same l 0 vs (omega arith))
-
-lent-inside : (l vs ws : List ℕ) (n : ℕ) → ws ≡ splice l 0 vs → n ≡ length vs → length vs ≤ length l → n ≤ length ws
-lent-inside l vs ws n e k h = rw (e, length-splice l 0 vs (omega arith)) (omega arith)
-
-pub numbers-lent : (l ios ws : List ℕ) → ws ≡ splice l 0 (numbersKept ios) → length ios ≤ 128 → 32 ≤ length l
-    → take ((length ios + 3) / 4) ws ≡ numbersKept ios
-numbers-lent l ios ws e h k =
-    let n = numbers-kept-length ios in lent-start l (numbersKept ios) ws ((length ios + 3) / 4) e (sym n) (omega arith)
-
--- the words of the tables, in the array that they were taken to
-module _ (a : Area) (ios tables l ws : List ℕ) (n : ℕ) (t : Takes a ios tables l (Words n) ws) (h : length l ≡ 128) where
-  few-words : length (wordsKept (tablesOf tables)) ≤ length l
-  few-words =
-      let o = lists-obey a ios tables (taken-words a ios tables l ws n t .0) in
-      omega (arith, words-few (tablesOf tables), o .tables-few)
-
-  pub words-inside : n ≤ length ws
-  words-inside = let k = taken-words a ios tables l ws n t in lent-inside l _ ws n (k .2) (k .1) few-words
-
-  pub words-lent : take n ws ≡ wordsKept (tablesOf tables)
-  words-lent = let k = taken-words a ios tables l ws n t in lent-start l _ ws n (k .2) (k .1) few-words
-
--- ---- a place written
-module _ (r : ℕ) (a : Area) (ios tables : List ℕ) where
-  own-written : (n : ℕ) → n ≡ length (wordsKept (tablesOf tables))
-      → ((r + 1) ∷ a .at .0 ∷ a .size ∷ length ios ∷ (length tables / 2) ∷ n ∷ 0 ∷ 0 ∷ 0 ∷ 0 ∷ 0 ∷ 0 ∷ 0 ∷ 0 ∷ 0 ∷ []) ≡ openedOwn r a ios tables
-  unfolding openedOwn numbersOf
-  own-written n e = rw (e, lent-length tables)
-
-  pub desk-written : (d : List ℕ) (p : ℕ) (e f g ws rs : List ℕ)
-      → ws ≡ wordsKept (tablesOf tables)
-      → e ≡ splice d (base p) ((r + 1) ∷ a .at .0 ∷ a .size ∷ length ios ∷ (length tables / 2) ∷ length ws ∷ 0 ∷ 0 ∷ 0 ∷ 0 ∷ 0 ∷ 0 ∷ 0 ∷ 0 ∷ 0 ∷ [])
-      → f ≡ splice e (base p + 15) (numbersKept ios)
-      → g ≡ splice f (base p + 47) ws
-      → base p + 303 ≤ length g → length (tablesOf tables) ≤ 128
-      → rs ≡ splice (take (base p + 175 + 128 - (base p + 175)) (drop (base p + 175) g)) 0 (ranksKept (tablesOf tables))
-      → take (base p + 175) g ++ (rs ++ drop (base p + 175 + 128 - (base p + 175)) (drop (base p + 175) g)) ≡ openedDesk d p r a ios tables
-  unfolding openedDesk
-  desk-written d p e f g ws rs c x y w l m z =
-      let k = ranks-length (tablesOf tables) in
-      rw z (splice-lent g (base p + 175) 128 (ranksKept (tablesOf tables)) (omega arith) (omega arith)
-      ∙ rw (w, c, y, x, own-written (length ws) (ap length c)))
-
--- ---- the answers
-module _ (d core : List ℕ) (r : ℕ) (a : Area) (ios tables : List ℕ) where
-  pub grant-denied : (n : ℕ) → n ≡ placeRefusal r (holders d) → (n ≡ 0 → ⊥) → Meets (grantOf d core r a ios tables) (Refused (fault n)) d core
-  unfolding grantOf
-  grant-denied n q h = rw (← q, ne-eqb n 0 h) (record { told = refl; desk-left = refl; core-left = refl })
-
-  module _ (f : placeRefusal r (holders d) ≡ 0) where
-    pub grant-outside : areaFits d r a ≡ false → Meets (grantOf d core r a ios tables) (Refused (fault 7)) d core
-    unfolding grantOf
-    grant-outside q = rw (f, q) (record { told = refl; desk-left = refl; core-left = refl })
-
-    module _ (g : areaFits d r a ≡ true) where
-      pub grant-unlisted : listsObey a ios tables ≡ false → Meets (grantOf d core r a ios tables) (Refused (fault 8)) d core
-      unfolding grantOf
-      grant-unlisted q = rw (f, g, q) (record { told = refl; desk-left = refl; core-left = refl })
-
-      pub grant-given : (p : ℕ) (e k : List ℕ) → listsObey a ios tables ≡ true → p ≡ lowestFree (holders d)
-          → e ≡ openedDesk d p r a ios tables → k ≡ cleared core (a .at .0) (a .size)
-          → Meets (grantOf d core r a ios tables) (Opened p) e k
-      unfolding grantOf opened
-      grant-given p e k q y x z = rw (f, g, q, ← y) (record { told = refl; desk-left = x; core-left = z })
-
-  pub open-unsound : sound d ≡ false → Meets (openOf d core r a ios tables) (Refused (fault 1)) d core
-  unfolding openOf
-  open-unsound q = rw q (record { told = refl; desk-left = refl; core-left = refl })
-
-  module _ (s : sound d ≡ true) where
-    pub open-other-core : (length core ≡ coreLength d → ⊥) → Meets (openOf d core r a ios tables) (Refused (fault 2)) d core
-    unfolding openOf
-    open-other-core h = rw (s, ne-eqb (length core) (coreLength d) h) (record { told = refl; desk-left = refl; core-left = refl })
-
-    module _ (e : length core ≡ coreLength d) where
-      pub open-no-room : 7 < r → Meets (openOf d core r a ios tables) (Refused (fault 4)) d core
-      unfolding openOf
-      open-no-room h = rw (s, eq-eqb (length core) (coreLength d) e, lt-leb r 7 h) (record { told = refl; desk-left = refl; core-left = refl })
-
-      pub open-on : r ≤ 7 → openOf d core r a ios tables ≡ grantOf d core r a ios tables
-      unfolding openOf
-      open-on h = rw (s, eq-eqb (length core) (coreLength d) e, le-leb r 7 h)
+use Rattle.calls.proofs.Entry.{entered-cases}
+use Rattle.calls.proofs.Grant.{area-held, area-small}
 
 -- ---- areas in stretches that share no word
 stretches-areas : (s t : Stretch) (a b : Area) → Separate s t → areaIn s a ≡ true → areaIn t b ≡ true
@@ -338,12 +217,7 @@ module _ (d core : List ℕ) (r : ℕ) (a : Area) (ios tables : List ℕ) where
 
   pub open-sound : sound d ≡ true → sound (openOf d core r a ios tables .desk) ≡ true
   unfolding openOf
-  open-sound s =
-      when SoundLeft (sound d)
-      (λ x. when SoundLeft (eqb (length core) (coreLength d))
-      (λ e. when SoundLeft (leb r 7)
-      (λ h. grant-sound s (omega (arith, leb-true r 7 h)))
-      (λ h. s)) (λ e. s)) (λ x. s)
+  open-sound s = entered-cases d (length core) r core _ SoundLeft (λ m h. s) (λ k. grant-sound s (k .room))
 
 -- ---- its answer fits in one number, whatever is lent
 abbrev SmallAnswer : Outcome → Type 0
@@ -370,8 +244,4 @@ module _ (d core : List ℕ) (r : ℕ) (a : Area) (ios tables : List ℕ) where
 
   pub open-small : Small (openOf d core r a ios tables .answer)
   unfolding openOf
-  open-small =
-      when SmallAnswer (sound d)
-      (λ s. both SmallAnswer (eqb (length core) (coreLength d))
-      (when SmallAnswer (leb r 7) (λ h. grant-small s (omega (arith, leb-true r 7 h))) (λ h. omega arith))
-      (omega arith)) (λ s. omega arith)
+  open-small = entered-cases d (length core) r core _ SmallAnswer (λ m h. omega arith) (λ k. grant-small (k .desk) (k .room))

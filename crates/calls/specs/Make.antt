@@ -1,11 +1,12 @@
 -- Making a desk: "A fresh desk is made from the core length and a map .. Making a desk writes no core word." Refusals 1 (length only),
 -- 2 and 3, in that order.
 use Prim.Native.Nat.{ℕ, zero, suc}
-use mathlib.Core.Bool.{cond}
 use mathlib.Core.List.{List, [], _∷_}
 use lib.ListN.{length, set}
 use lib.Dec.{eqb}
 use Rattle.word.specs.Lists.{splice}
+use Rattle.word.specs.Limits.{placeCount, mapWords}
+use Rattle.word.specs.Fault.{unless}
 use Rattle.map.specs.Map.{mapOf, mapObeys}
 use Rattle.layout.specs.Layout.{deskWords, base}
 use Rattle.desk.specs.Sound.{coreFits}
@@ -17,18 +18,14 @@ unfoldable pub freed : ℕ → List ℕ → List ℕ
 freed zero d = d
 freed (suc p) d = set (freed p d) (base p) 0
 
--- the core length and the map's sixteen numbers, and twelve free places; the rest is as it was
+-- the core length and the map's numbers, and every place free; the rest is as it was
 unfoldable pub freshDesk : List ℕ → ℕ → List ℕ → List ℕ
-freshDesk d n m = freed 12 (splice d 0 (n ∷ m))
+freshDesk d n m = freed placeCount (splice d 0 (n ∷ m))
 
 unfoldable pub makeOf : List ℕ → ℕ → List ℕ → Outcome
 makeOf d n m =
-    cond (eqb (length d) deskWords)
-    (cond (coreFits n)
-    (cond (eqb (length m) 16)
-    (cond (mapObeys n (mapOf m))
-    (record { answer = Made; desk = freshDesk d n m; core = [] })
-    (refused 3 d []))
-    (refused 3 d []))
-    (refused 2 d []))
-    (refused 1 d [])
+    unless (eqb (length d) deskWords) (refused 1 d [])
+    (unless (coreFits n) (refused 2 d [])
+    (unless (eqb (length m) mapWords) (refused 3 d [])
+    (unless (mapObeys n (mapOf m)) (refused 3 d [])
+    (record { answer = Made; desk = freshDesk d n m; core = [] }))))

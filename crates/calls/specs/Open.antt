@@ -1,12 +1,13 @@
 -- "Open takes a room, an area (address and size) and two lists .. It gives the lowest free place, sets each word of the area to zero,
 -- and copies the lists." Refusals 1, 2, 4, 5, 6, 7 and 8, in that order.
 use Prim.Native.Nat.{ℕ, _+_}
-use mathlib.Core.Bool.{Bool, cond, _&&_, _||_, not}
+use mathlib.Core.Bool.{Bool, _&&_, _||_, not}
 use mathlib.Core.List.{List, _∷_}
 use lib.ListN.{length, getD}
-use lib.Dec.{eqb, leb}
+use lib.Dec.{eqb}
 use Rattle.word.specs.Lists.{every, splice, cleared}
 use Rattle.word.specs.Runs.{apart}
+use Rattle.word.specs.Fault.{unless}
 use Rattle.word.specs.declared.Area.{Area}
 use Rattle.map.specs.Map.{mapOf, none}
 use Rattle.rooms.specs.Rooms.{placeRefusal, lowestFree}
@@ -14,10 +15,11 @@ use Rattle.lists.specs.Obey.{tablesOf, listsObey}
 use Rattle.lists.specs.Keep.{numbersKept, wordsKept, ranksKept}
 use Rattle.stage.specs.Stage.{numbersOf}
 use Rattle.stage.specs.declared.Stage.the-variants.{Label}
-use Rattle.layout.specs.Layout.{coreLength, mapNumbers, base, places, holderOf, ownOf, holders}
-use Rattle.desk.specs.Sound.{areaIn, sound}
+use Rattle.layout.specs.Layout.{iosAt, wordsAt, ranksAt, mapNumbers, base, places, holderOf, ownOf, holders}
+use Rattle.desk.specs.Sound.{areaIn}
 use Rattle.calls.specs.declared.Answer.the-variants.{Opened}
 use Rattle.calls.specs.Outcome.{Outcome, refused}
+use Rattle.calls.specs.Entry.{entered}
 
 -- the area shares no word with one that the room holds
 unfoldable pub besideOwn : ℕ → Area → List ℕ → Bool
@@ -43,9 +45,9 @@ unfoldable pub openedDesk : List ℕ → ℕ → ℕ → Area → List ℕ → L
 openedDesk d p r a ios tables =
     splice (splice (splice (splice d
     (base p) (openedOwn r a ios tables))
-    (base p + 15) (numbersKept ios))
-    (base p + 47) (wordsKept (tablesOf tables)))
-    (base p + 175) (ranksKept (tablesOf tables))
+    (base p + iosAt) (numbersKept ios))
+    (base p + wordsAt) (wordsKept (tablesOf tables)))
+    (base p + ranksAt) (ranksKept (tablesOf tables))
 
 -- the place is given, and each word of the area set to zero
 unfoldable pub opened : List ℕ → List ℕ → ℕ → Area → List ℕ → List ℕ → Outcome
@@ -58,20 +60,10 @@ opened d core r a ios tables = record {
 -- from refusal 5 on
 unfoldable pub grantOf : List ℕ → List ℕ → ℕ → Area → List ℕ → List ℕ → Outcome
 grantOf d core r a ios tables =
-    cond (eqb (placeRefusal r (holders d)) 0)
-    (cond (areaFits d r a)
-    (cond (listsObey a ios tables)
-    (opened d core r a ios tables)
-    (refused 8 d core))
-    (refused 7 d core))
-    (refused (placeRefusal r (holders d)) d core)
+    unless (eqb (placeRefusal r (holders d)) 0) (refused (placeRefusal r (holders d)) d core)
+    (unless (areaFits d r a) (refused 7 d core)
+    (unless (listsObey a ios tables) (refused 8 d core)
+    (opened d core r a ios tables)))
 
 unfoldable pub openOf : List ℕ → List ℕ → ℕ → Area → List ℕ → List ℕ → Outcome
-openOf d core r a ios tables =
-    cond (sound d)
-    (cond (eqb (length core) (coreLength d))
-    (cond (leb r 7)
-    (grantOf d core r a ios tables)
-    (refused 4 d core))
-    (refused 2 d core))
-    (refused 1 d core)
+openOf d core r a ios tables = entered d (length core) r core (grantOf d core r a ios tables)

@@ -1,13 +1,15 @@
-// The calls that give and take places: make, open and release, each with its refusals in 01's order; and the answers of all calls,
-// each as one 64-bit number for C.
+// The calls that give and take places: make, open and release, each with its refusals in 01's order; the answers of all calls, and
+// each as one 64-bit number for C; and the refusals that open, feed and release share.
 pub mod make;
 pub mod open;
 pub mod release;
 
 ghost use mathlib.Core.Path.{_≡_};
 ghost use Rattle.calls.specs.Answer.{packed, Small};
+ghost use Rattle.calls.specs.Entry.{entryRefusal};
 use word::Absolute;
 use word::Fault;
+use word::limits::ROOMS;
 
 // 2^32: an answer's code is counted in these, its value is below.
 const CODE: u64 = 4294967296;
@@ -20,6 +22,22 @@ pub enum Answer {
     More,
     Done(Absolute),
     Released,
+}
+
+// Which of refusals 1, 2 and 4 is due to a call on a desk, with a core of that many words, for that room; 0 where none is.
+pub fn entry_refusal(desk: &[u64], core: u64, room: u64) -> u64
+    ensures { λ n. ⌜ n ≡ entryRefusal (now (desk .entry)) core room ⌝ }
+{
+    if !desk::is_sound(desk) {
+        return 1;
+    }
+    if core != desk[0] {
+        return 2;
+    }
+    if ROOMS as u64 <= room {
+        return 4;
+    }
+    0
 }
 
 // The answer as one number: its code times 2^32, and its value.

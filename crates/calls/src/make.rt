@@ -2,26 +2,34 @@
 ghost use mathlib.Core.Path.{_≡_};
 ghost use mathlib.Core.List.{[]};
 ghost use lib.ListN.{length};
+ghost use Rattle.word.specs.Limits.{placeCount, mapWords};
 ghost use Rattle.layout.specs.Layout.{deskWords};
 ghost use Rattle.calls.specs.Make.{freed, freshDesk, makeOf};
 ghost use Rattle.calls.specs.Outcome.{Meets};
 use crate::Answer;
+use layout::DESK_WORDS;
+use layout::MAP_AT;
+use layout::PLACE_WORDS;
+use layout::PLACES_AT;
 use word::Fault;
+use word::limits::CORE_MOST;
+use word::limits::MAP_WORDS;
+use word::limits::PLACES;
 
-// The core length, the map's sixteen numbers and twelve free places, in a desk that held whatever it held.
+// The core length, the map's numbers and every place free, in a desk that held whatever it held.
 pub fn make_desk(desk: &mut [u64], core: u64, numbers: &[u64]) -> Answer
     ensures { λ a. ⌜ Meets (makeOf (now (desk .entry)) core (now (numbers .entry))) a (now (desk .exit)) [] ⌝ }
 {
-    if desk.len() != 3653 {
+    if desk.len() != DESK_WORDS {
         return Answer::Refused(Fault { number: 1 });
     }
     if core < 1 {
         return Answer::Refused(Fault { number: 2 });
     }
-    if 65536 < core {
+    if CORE_MOST < core {
         return Answer::Refused(Fault { number: 2 });
     }
-    if numbers.len() != 16 {
+    if numbers.len() != MAP_WORDS {
         return Answer::Refused(Fault { number: 3 });
     }
     if !map::map_fits(core, numbers) {
@@ -31,24 +39,24 @@ pub fn make_desk(desk: &mut [u64], core: u64, numbers: &[u64]) -> Answer
     Answer::Made
 }
 
-// The core length, the sixteen numbers behind it, and no place held.
+// The core length, the map's numbers behind it, and no place held.
 fn write_fresh(desk: &mut [u64], core: u64, numbers: &[u64])
-    requires { ⌜ (length (now desk) ≡ deskWords) × (length (now numbers) ≡ 16) ⌝ }
+    requires { ⌜ (length (now desk) ≡ deskWords) × (length (now numbers) ≡ mapWords) ⌝ }
     ensures { λ _. ⌜ now (desk .exit) ≡ freshDesk (now (desk .entry)) core (now (numbers .entry)) ⌝ }
 {
     desk[0] = core;
-    word::slices::copy_in(desk, 1, numbers);
+    word::slices::copy_in(desk, MAP_AT, numbers);
     free_places(desk);
 }
 
-// The twelve places set free.
+// Every place set free.
 fn free_places(desk: &mut [u64])
     requires { ⌜ length (now desk) ≡ deskWords ⌝ }
-    ensures { λ _. ⌜ now (desk .exit) ≡ freed 12 (now (desk .entry)) ⌝ }
+    ensures { λ _. ⌜ now (desk .exit) ≡ freed placeCount (now (desk .entry)) ⌝ }
 {
     let mut p: usize = 0;
-    while p < 12 {
-        desk[17 + p * 303] = 0;
+    while p < PLACES {
+        desk[PLACES_AT + p * PLACE_WORDS] = 0;
         p += 1;
     }
 }

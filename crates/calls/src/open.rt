@@ -5,16 +5,28 @@ ghost use mathlib.Core.Bool.{true};
 ghost use Prim.Native.Nat.{_+_, _/_, _≤_, _<_};
 ghost use lib.ListN.{length};
 ghost use Rattle.word.specs.Lists.{every, splice};
+ghost use Rattle.word.specs.Limits.{roomCount, placeCount, coreMost, ioMost};
 ghost use Rattle.lists.specs.Obey.{tablesOf, listsObey};
 ghost use Rattle.lists.specs.Keep.{numbersKept, wordsKept};
-ghost use Rattle.layout.specs.Layout.{deskWords, coreLength, places};
+ghost use Rattle.layout.specs.Layout.{deskWords, placeWords, iosWords, coreLength, places};
 ghost use Rattle.desk.specs.Sound.{sound};
 ghost use Rattle.calls.specs.Outcome.{Meets};
 ghost use Rattle.calls.specs.Open.{besideOwn, areaFits, openedDesk, grantOf, openOf};
 use crate::Answer;
+use layout::AREA_AT;
+use layout::HOLDER_AT;
+use layout::IOS_AT;
+use layout::IOS_WORDS;
+use layout::PLACE_WORDS;
+use layout::PLACES_AT;
+use layout::RANKS_AT;
+use layout::SIZE_AT;
+use layout::WORDS_AT;
 use lists::Taken;
 use word::Area;
 use word::Fault;
+use word::limits::PLACES;
+use word::limits::TABLES_MOST;
 
 // A place for the room, with this area and these lists.
 pub fn open_load(
@@ -27,14 +39,9 @@ pub fn open_load(
 ) -> Answer
     ensures { λ a. ⌜ Meets (openOf (now (desk .entry)) (now (core .entry)) room area (now (ios .entry)) (now (tables .entry))) a (now (desk .exit)) (now (core .exit)) ⌝ }
 {
-    if !desk::is_sound(desk) {
-        return Answer::Refused(Fault { number: 1 });
-    }
-    if core.len() as u64 != desk[0] {
-        return Answer::Refused(Fault { number: 2 });
-    }
-    if 7 < room {
-        return Answer::Refused(Fault { number: 4 });
+    let n = crate::entry_refusal(desk, core.len() as u64, room);
+    if n != 0 {
+        return Answer::Refused(Fault { number: n });
     }
     grant(desk, core, room, area, ios, tables)
 }
@@ -48,7 +55,7 @@ fn grant(
     ios: &[u64],
     tables: &[u64],
 ) -> Answer
-    requires { ⌜ (sound (now desk) ≡ true) × (length (now core) ≡ coreLength (now desk)) × (room < 8) ⌝ }
+    requires { ⌜ (sound (now desk) ≡ true) × (length (now core) ≡ coreLength (now desk)) × (room < roomCount) ⌝ }
     ensures { λ a. ⌜ Meets (grantOf (now (desk .entry)) (now (core .entry)) room area (now (ios .entry)) (now (tables .entry))) a (now (desk .exit)) (now (core .exit)) ⌝ }
 {
     let h = layout::read_holders(desk);
@@ -59,7 +66,7 @@ fn grant(
     if !area_fits(desk, room, area) {
         return Answer::Refused(Fault { number: 7 });
     }
-    let mut words = [0u64; 128];
+    let mut words = [0u64; TABLES_MOST];
     match lists::take_lists(area, ios, tables, &mut words) {
         Taken::Words(n) => {
             let p = rooms::lowest_free(&h);
@@ -73,7 +80,7 @@ fn grant(
 
 // Whether the area is not empty, lies in the room's stretch and shares no word with one the room holds.
 fn area_fits(desk: &[u64], room: u64, area: Area) -> bool
-    requires { ⌜ (length (now desk) ≡ deskWords) × (room < 8) ⌝ }
+    requires { ⌜ (length (now desk) ≡ deskWords) × (room < roomCount) ⌝ }
     ensures { λ r. ⌜ r ≡ areaFits (now (desk .entry)) room area ⌝ }
 {
     let m = map::read_map(layout::map_numbers(desk));
@@ -84,13 +91,13 @@ fn area_fits(desk: &[u64], room: u64, area: Area) -> bool
     all_beside(desk, room, area)
 }
 
-// Whether the area shares no word with one the room holds, at any of the twelve places.
+// Whether the area shares no word with one the room holds, at any place.
 fn all_beside(desk: &[u64], room: u64, area: Area) -> bool
-    requires { ⌜ (length (now desk) ≡ deskWords) × (room < 8) ⌝ }
+    requires { ⌜ (length (now desk) ≡ deskWords) × (room < roomCount) ⌝ }
     ensures { λ r. ⌜ r ≡ every (besideOwn room area) (places (now (desk .entry))) ⌝ }
 {
     let mut p: usize = 0;
-    while p < 12 {
+    while p < PLACES {
         if !beside_own(layout::place_at(desk, p), room, area) {
             return false;
         }
@@ -100,13 +107,13 @@ fn all_beside(desk: &[u64], room: u64, area: Area) -> bool
 }
 
 fn beside_own(place: &[u64], room: u64, area: Area) -> bool
-    requires { ⌜ (length (now place) ≡ 303) × (room < 8) ⌝ }
+    requires { ⌜ (length (now place) ≡ placeWords) × (room < roomCount) ⌝ }
     ensures { λ r. ⌜ r ≡ besideOwn room area (now (place .entry)) ⌝ }
 {
-    if place[0] != room + 1 {
+    if place[HOLDER_AT] != room + 1 {
         return true;
     }
-    word::runs_apart(place[1], place[2], area.at.0, area.size)
+    word::runs_apart(place[AREA_AT], place[SIZE_AT], area.at.0, area.size)
 }
 
 // The numbers of place p: its own, the stage of a load that waits for its label, and the lists, of whose tables these words are
@@ -120,7 +127,7 @@ fn write_place(
     tables: &[u64],
     words: &[u64],
 )
-    requires { ⌜ (length (now desk) ≡ deskWords) × (p < 12) × (room < 8) × (area .at .0 + area .size ≤ 65536) × (listsObey area (now ios) (now tables) ≡ true) × (now words ≡ wordsKept (tablesOf (now tables))) ⌝ }
+    requires { ⌜ (length (now desk) ≡ deskWords) × (p < placeCount) × (room < roomCount) × (area .at .0 + area .size ≤ coreMost) × (listsObey area (now ios) (now tables) ≡ true) × (now words ≡ wordsKept (tablesOf (now tables))) ⌝ }
     ensures { λ _. ⌜ now (desk .exit) ≡ openedDesk (now (desk .entry)) p room area (now (ios .entry)) (now (tables .entry)) ⌝ }
 {
     let n = tables.len() / 2;
@@ -141,20 +148,20 @@ fn write_place(
         0,
         0,
     ];
-    let b = 17 + p * 303;
+    let b = PLACES_AT + p * PLACE_WORDS;
     word::slices::copy_in(desk, b, &own);
-    write_numbers(desk, b + 15, ios);
-    word::slices::copy_in(desk, b + 47, words);
-    let r = b + 175;
-    lists::keep_ranks(tables, words, &mut desk[r..r + 128]);
+    write_numbers(desk, b + IOS_AT, ios);
+    word::slices::copy_in(desk, b + WORDS_AT, words);
+    let r = b + RANKS_AT;
+    lists::keep_ranks(tables, words, &mut desk[r..r + TABLES_MOST]);
 }
 
 // The I/O numbers as they are kept, in the desk from place a on.
 fn write_numbers(desk: &mut [u64], a: usize, ios: &[u64])
-    requires { ⌜ (length (now ios) ≤ 128) × (a + 32 ≤ length (now desk)) ⌝ }
+    requires { ⌜ (length (now ios) ≤ ioMost) × (a + iosWords ≤ length (now desk)) ⌝ }
     ensures { λ _. ⌜ now (desk .exit) ≡ splice (now (desk .entry)) a (numbersKept (now (ios .entry))) ⌝ }
 {
-    let mut numbers = [0u64; 32];
+    let mut numbers = [0u64; IOS_WORDS];
     lists::keep_numbers(ios, &mut numbers);
     word::slices::copy_in(desk, a, &numbers[..(ios.len() + 3) / 4]);
 }

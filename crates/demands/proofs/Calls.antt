@@ -7,22 +7,24 @@ use mathlib.Core.List.{List, []}
 use mathlib.Core.Logic.{_⊎_, inl, inr, ⊎-elim}
 use native.Mathlib.Omega.{arith}
 use lib.ListN.{length, set}
-use lib.Dec.{eqb, leb}
+use lib.Dec.{eqb}
 use borrow.Author.Tests.{eq-eqb}
 use Rattle.word.specs.declared.Area.{Area}
 use Rattle.word.proofs.Cases.{when}
 use Rattle.word.proofs.Stretch.{length-cleared, getD-cleared-beside}
 use Rattle.rooms.specs.Rooms.{lowestFree}
-use Rattle.layout.specs.Layout.{base, coreLength, placeIn, holderOf, holders}
-use Rattle.layout.proofs.Places.{holder-at}
+use Rattle.layout.specs.Layout.{base, placeIn, holderOf, holders, holds}
+use Rattle.layout.proofs.Places.{holder-at, holds-inside}
 use Rattle.desk.specs.Sound.{sound}
 use Rattle.desk.proofs.Facts.{sound-long}
 use Rattle.calls.specs.declared.Answer.the-variants.{Released}
 use Rattle.calls.specs.Outcome.{Outcome}
 use Rattle.calls.specs.Open.{openedDesk, opened}
-use Rattle.calls.specs.Release.{holds, releaseOf}
-use Rattle.calls.proofs.Opened.{area-in-core, given-free, opened-replaced, opened-sound}
-use Rattle.calls.proofs.Freed.{held-inside as holds-place, freed-core, freed-other, release-sound}
+use Rattle.calls.specs.Release.{releaseOf}
+use Rattle.calls.proofs.Grant.{area-in-core}
+use Rattle.calls.proofs.Opened.{given-free, opened-replaced, opened-sound}
+use Rattle.calls.proofs.Freed.{freed-core, freed-other, release-sound}
+use Rattle.calls.proofs.Entry.{entered-cases}
 use Rattle.feed.proofs.Laws.{BlockLaws}
 use Rattle.demands.specs.History.{State, Call, answerTo, call, isReleased}
 use Rattle.demands.specs.History.Call.{Open, Feed, Release}
@@ -102,12 +104,8 @@ module _ (d : List ℕ) (n r p : ℕ) where
   release-sorted : Frees (releaseOf d n r p)
   unfolding releaseOf
   release-sorted =
-      when Frees (sound d)
-      (λ s. when Frees (eqb n (coreLength d))
-      (λ e. when Frees (leb r 7)
-      (λ h. when Frees (holds d r p)
-      (λ q. inr (s, q, refl))
-      (λ q. inl (_, refl))) (λ h. inl (_, refl))) (λ e. inl (_, refl))) (λ s. inl (_, refl))
+      entered-cases d n r [] _ Frees (λ m h. inl (_, refl))
+      (λ k. when Frees (holds d r p) (λ q. inr (k .desk, q, refl)) (λ q. inl (_, refl)))
 
 module _ (n q k : ℕ) (s : State) where
   abbrev without : Outcome → State
@@ -120,7 +118,7 @@ module _ (n q k : ℕ) (s : State) where
       (λ x. rw (x .1) m)
       (λ x. record {
         desk = release-sound (s .desk) n q k (m .desk);
-        core = rw (x .2) (m .core ∙ sym (freed-core (s .desk) (sound-long (s .desk) (x .0)) k (holds-place (s .desk) q k (x .1))));
+        core = rw (x .2) (m .core ∙ sym (freed-core (s .desk) (sound-long (s .desk) (x .0)) k (holds-inside (s .desk) q k (x .1))));
       })
       (release-sorted (s .desk) n q k)
 
@@ -140,7 +138,7 @@ module _ (n q k : ℕ) (s : State) where
         ⊎-elim
         (λ x. ap (λ (o : Outcome). view p (without o)) (x .1))
         (λ x. ap (λ (o : Outcome). view p (without o)) (x .2)
-        ∙ view-by s _ p (freed-other (s .desk) (sound-long (s .desk) (x .0)) k (holds-place (s .desk) q k (x .1)) p
+        ∙ view-by s _ p (freed-other (s .desk) (sound-long (s .desk) (x .0)) k (holds-inside (s .desk) q k (x .1)) p
         (not-freed (x .1) (ap (λ (o : Outcome). o .answer) (x .2)))) refl (λ z j a b. refl))
         (release-sorted (s .desk) n q k)
 

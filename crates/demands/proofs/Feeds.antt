@@ -1,23 +1,22 @@
 -- A call seen from one load: it changes nothing of it, or it is a feed of its room whose block it takes; and a load that is over takes none. Given
 -- the laws of a block's step, and that feed keeps a desk sound.
-use Prim.Native.Nat.{ℕ, _+_, _-_}
+use Prim.Native.Nat.{ℕ, _+_}
 use mathlib.Core.Path.{_≡_, refl, sym, ap, _∙_}
 use mathlib.Core.Bool.{Bool, true, false, cond, _&&_, true≢false}
 use mathlib.Core.List.{List, [], _∷_}
 use mathlib.Core.Logic.{_⊎_, inl, inr, ⊎-elim}
 use native.Mathlib.Omega.{arith}
 use lib.ListN.{length}
-use lib.Dec.{eqb, leb}
+use lib.Dec.{eqb}
 use borrow.Author.Tests.{eq-eqb, ne-eqb}
 use Rattle.word.specs.declared.Absolute.{Absolute}
 use Rattle.word.proofs.Cases.{by-eq, when}
 use Rattle.block.specs.declared.Verdict.{Verdict}
 use Rattle.block.specs.declared.Verdict.the-variants.{Pass, Refused as refused-block}
 use Rattle.stage.specs.Record.{isOver}
-use Rattle.layout.specs.Layout.{coreLength, placeIn, holderOf, stageIn}
-use Rattle.desk.specs.Sound.{sound}
+use Rattle.layout.specs.Layout.{placeIn, holderOf, stageIn, holds}
 use Rattle.calls.specs.Outcome.{Outcome}
-use Rattle.calls.specs.Release.{holds}
+use Rattle.calls.proofs.Entry.{entered-cases}
 use Rattle.feed.specs.Feed.{takenOf, checkedOf, heldOf, feedOf}
 use Rattle.feed.proofs.Laws.{BlockLaws}
 use Rattle.demands.specs.Orders.{run}
@@ -44,12 +43,10 @@ module _ (d core : List ℕ) (r p : ℕ) (block : List ℕ) where
   feed-sorted : Takings (feedOf d core r p block)
   unfolding feedOf heldOf
   feed-sorted =
-      when Takings (sound d)
-      (λ s. when Takings (eqb (length core) (coreLength d))
-      (λ e. when Takings (leb r 7)
-      (λ h. when Takings (holds d r p)
+      entered-cases d (length core) r core _ Takings (λ m h. inl (_, refl))
+      (λ k. when Takings (holds d r p)
       (λ q. when Takings (isOver (stageIn (placeIn d p))) (λ o. inl (_, refl)) (λ o. checked-sorted o _))
-      (λ q. inl (_, refl))) (λ h. inl (_, refl))) (λ e. inl (_, refl))) (λ s. inl (_, refl))
+      (λ q. inl (_, refl)))
 
 -- ---- a call seen from the load of room r at place p: it changes nothing of it, or it is a feed whose block it takes
 pub record Idle (r p : ℕ) (c : Call) (s : State) : Type 0 where
@@ -88,12 +85,10 @@ module _ (laws : BlockLaws) (r p : ℕ) (s : State) (ready : Ready s) (held : ho
   unfolding call feedOf
   wrong-room q block n =
       let P : Outcome → Type 0 = λ o. leftBy o ≡ s in
-      when P (sound (s .desk))
-      (λ a. when P (eqb (length (s .core)) (coreLength (s .desk)))
-      (λ b. when P (leb q 7)
-      (λ e. when P (holds (s .desk) q p)
+      entered-cases (s .desk) (length (s .core)) q (s .core) _ P (λ m h. refl)
+      (λ k. when P (holds (s .desk) q p)
       (λ h. absurd (n (omega (arith, held-by (s .desk) q p h))))
-      (λ h. refl)) (λ e. refl)) (λ b. refl)) (λ a. refl)
+      (λ h. refl))
 
   feed-call : (q k : ℕ) (block : List ℕ) → Idle r p (Feed q k block) s ⊎ Steps r p (Feed q k block) s
   feed-call q k block =

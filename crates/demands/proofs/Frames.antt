@@ -8,19 +8,20 @@ use native.Mathlib.Omega.{arith}
 use native.Mathlib.Nat.{zero-add}
 use lib.ListN.{length, getD}
 use lib.Seq.{ext-getD}
-use lib.Dec.{eqb, leb, ltb}
-use borrow.Author.Tests.{eq-eqb, leb-true, ltb-true, le-leb, lt-ltb, le-ltb}
-use Rattle.word.specs.Fault.{fault}
+use lib.Dec.{leb, ltb}
+use borrow.Author.Tests.{leb-true, ltb-true, le-leb, lt-ltb, le-ltb}
+use Rattle.word.specs.Fault.{fault, unless}
 use Rattle.word.specs.Lists.{range}
-use Rattle.word.proofs.Cases.{by-test, by-eq, by-lt, when}
+use Rattle.word.proofs.Cases.{by-test, by-eq, by-lt}
 use Rattle.word.proofs.Lists.{getD-range}
-use Rattle.layout.specs.Layout.{base, coreLength, placeIn, ownOf}
+use Rattle.word.specs.Limits.{roomCount}
+use Rattle.layout.specs.Layout.{base, coreLength, placeIn, ownOf, holds}
 use Rattle.layout.specs.declared.Place.{Place}
 use Rattle.desk.specs.Sound.{sound}
 use Rattle.calls.specs.declared.Answer.{Answer}
 use Rattle.calls.specs.declared.Answer.the-variants.{Refused}
 use Rattle.calls.specs.Outcome.{Outcome}
-use Rattle.calls.specs.Release.{holds}
+use Rattle.calls.proofs.Entry.{entered-cases, entered-room}
 use Rattle.feed.specs.Feed.{feedOf}
 use Rattle.feed.proofs.Laws.{BlockLaws}
 use Rattle.demands.specs.Orders.{inTurn}
@@ -171,17 +172,13 @@ module _ (r p : ℕ) (block : List ℕ) (past : 12 ≤ p) where
   unfolding call feedOf holds
   past-same s =
       let P : Outcome → Type 0 = λ o. leftBy o ≡ s in
-      rw (le-ltb p 12 past)
-      (when P (sound (s .desk))
-      (λ a. when P (eqb (length (s .core)) (coreLength (s .desk)))
-      (λ b. when P (leb r 7) (λ c. refl) (λ c. refl)) (λ b. refl)) (λ a. refl))
+      rw (le-ltb p 12 past) (entered-cases (s .desk) (length (s .core)) r (s .core) _ P (λ m h. refl) (λ k. refl))
 
   past-refused : (d core : List ℕ) → sound d ≡ true → length core ≡ coreLength d
-      → feedOf d core r p block .answer ≡ cond (leb r 7) (Refused (fault 9)) (Refused (fault 4))
+      → feedOf d core r p block .answer ≡ unless (ltb r roomCount) (Refused (fault 4)) (Refused (fault 9))
   unfolding feedOf holds
   past-refused d core k e =
-      rw (k, eq-eqb _ _ e, le-ltb p 12 past)
-      (by-test (leb r 7) (λ q. rw q) (λ q. rw q))
+      rw (entered-room d _ r _ _ k e, le-ltb p 12 past) (by-test (ltb r roomCount) (λ q. rw q) (λ q. rw q))
 
   past-answer : (s t : State) → Ready s → Ready t → answerTo (Feed r p block) s ≡ answerTo (Feed r p block) t
   unfolding answerTo

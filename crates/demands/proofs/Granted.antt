@@ -3,13 +3,13 @@
 use Prim.Native.Nat.{ℕ, _+_, _≤_, _<_}
 use mathlib.Core.Path.{_≡_, refl, sym, _∙_}
 use mathlib.Core.Bool.{true, cond}
-use mathlib.Core.List.{List}
+use mathlib.Core.List.{List, []}
 use native.Mathlib.Omega.{arith}
 use lib.ListN.{length, getD, set}
-use lib.Dec.{eqb, leb, ltb}
-use borrow.Author.Tests.{eq-eqb, ne-eqb, eqb-true, leb-true}
+use lib.Dec.{eqb}
+use borrow.Author.Tests.{eq-eqb, ne-eqb, eqb-true}
 use Rattle.word.specs.declared.Area.{Area}
-use Rattle.word.proofs.Cases.{by-eq, and-right, both, when}
+use Rattle.word.proofs.Cases.{by-eq, both, when}
 use Rattle.word.proofs.Stretch.{length-cleared}
 use Rattle.block.specs.declared.Verdict.{Verdict}
 use Rattle.block.specs.declared.Verdict.the-variants.{Pass, Refused as refused-block}
@@ -25,15 +25,17 @@ use Rattle.rooms.specs.Rooms.{hit, held, lowestFree, placeRefusal}
 use Rattle.rooms.proofs.Count.{hit-yes, hit-no, lowest-is-free}
 use Rattle.rooms.proofs.Rooms.{held-set, given-place}
 use Rattle.lists.specs.Obey.{listsObey}
-use Rattle.layout.specs.Layout.{coreLength, placeIn, holderIn, stageIn, holders}
-use Rattle.layout.proofs.Places.{length-holders, getD-holders, holders-kept, core-kept}
+use Rattle.layout.specs.Layout.{coreLength, placeIn, stageIn, holders, holds}
+use Rattle.layout.proofs.Places.{length-holders, getD-holders, holders-kept, core-kept, holds-inside, holds-holder}
 use Rattle.desk.specs.Sound.{sound}
 use Rattle.desk.proofs.Facts.{sound-long, sound-fair}
 use Rattle.calls.specs.Outcome.{Outcome}
 use Rattle.calls.specs.Open.{areaFits, opened, grantOf, openOf}
-use Rattle.calls.specs.Release.{holds, releaseOf}
-use Rattle.calls.proofs.Freed.{held-inside, freed-core, freed-holders}
-use Rattle.calls.proofs.Opened.{area-in-core, opened-replaced, opened-holders}
+use Rattle.calls.specs.Release.{releaseOf}
+use Rattle.calls.proofs.Freed.{freed-core, freed-holders}
+use Rattle.calls.proofs.Grant.{area-in-core}
+use Rattle.calls.proofs.Opened.{opened-replaced, opened-holders}
+use Rattle.calls.proofs.Entry.{entered-cases}
 use Rattle.feed.specs.Feed.{staged, settledOf, takenOf, checkedOf, heldOf, feedOf}
 use Rattle.demands.specs.History.Call.{Open, Release}
 use Rattle.demands.specs.Grants.{grantIn, releaseIn}
@@ -80,10 +82,7 @@ module _ (d core : List ℕ) (s : sound d ≡ true) (q : ℕ) (a : Area) (ios ta
   pub open-counts : (r : ℕ) → Grants r (openOf d core q a ios tables)
   unfolding openOf
   open-counts r =
-      both (Grants r) (sound d)
-      (both (Grants r) (eqb (length core) (coreLength d))
-      (when (Grants r) (leb q 7) (λ h. grant-counts r (omega (arith, leb-true q 7 h))) (λ h. omega arith))
-      (omega arith)) (omega arith)
+      entered-cases d (length core) q core _ (Grants r) (λ m h. omega arith) (λ k. grant-counts r (k .room))
 
   -- the core has still the desk's core length
   abbrev Fits : Outcome → Type 0
@@ -102,19 +101,12 @@ module _ (d core : List ℕ) (s : sound d ≡ true) (q : ℕ) (a : Area) (ios ta
 
   pub open-fits : length core ≡ coreLength d → Fits (openOf d core q a ios tables)
   unfolding openOf
-  open-fits e =
-      both Fits (sound d)
-      (both Fits (eqb (length core) (coreLength d))
-      (when Fits (leb q 7) (λ h. grant-fits e (omega (arith, leb-true q 7 h))) (λ h. e))
-      e) e
+  open-fits e = entered-cases d (length core) q core _ Fits (λ m h. e) (λ k. grant-fits e (k .room))
 
 -- ---- release, of room q and place p
 module _ (d : List ℕ) (s : sound d ≡ true) (n q p : ℕ) where
   pub held-by : holds d q p ≡ true → getD (holders d) p 0 ≡ q + 1
-  unfolding holds
-  held-by h =
-      getD-holders d p (held-inside d q p h)
-      ∙ eqb-true (holderIn d p) (q + 1) (and-right (ltb p 12) (eqb (holderIn d p) (q + 1)) h)
+  held-by h = getD-holders d p (holds-inside d q p h) ∙ holds-holder d q p h
 
   abbrev Releases : ℕ → Outcome → Type 0
   Releases r o = held r (holders (o .desk)) + releaseIn r (Release n q p) (o .answer) ≡ held r (holders d)
@@ -122,14 +114,11 @@ module _ (d : List ℕ) (s : sound d ≡ true) (n q p : ℕ) where
   pub release-counts : (r : ℕ) → Releases r (releaseOf d n q p)
   unfolding releaseOf
   release-counts r =
-      both (Releases r) (sound d)
-      (both (Releases r) (eqb n (coreLength d))
-      (both (Releases r) (leb q 7)
-      (when (Releases r) (holds d q p)
-      (λ h. let i = held-inside d q p h in
+      entered-cases d n q [] _ (Releases r) (λ m h. omega arith)
+      (λ k. when (Releases r) (holds d q p)
+      (λ h. let i = holds-inside d q p h in
       rw (freed-holders d (sound-long d s) p i) (one-less (holders d) p q r (omega (arith, length-holders d)) (held-by h)))
       (λ h. omega arith))
-      (omega arith)) (omega arith)) (omega arith)
 
   abbrev CoreKept : Outcome → Type 0
   CoreKept o = coreLength (o .desk) ≡ coreLength d
@@ -137,11 +126,8 @@ module _ (d : List ℕ) (s : sound d ≡ true) (n q p : ℕ) where
   pub release-core : CoreKept (releaseOf d n q p)
   unfolding releaseOf
   release-core =
-      both CoreKept (sound d)
-      (both CoreKept (eqb n (coreLength d))
-      (both CoreKept (leb q 7)
-      (when CoreKept (holds d q p) (λ h. freed-core d (sound-long d s) p (held-inside d q p h)) (λ h. refl))
-      refl) refl) refl
+      entered-cases d n q [] _ CoreKept (λ m h. refl)
+      (λ k. when CoreKept (holds d q p) (λ h. freed-core d (sound-long d s) p (holds-inside d q p h)) (λ h. refl))
 
 -- ---- feed: it writes a stage and nothing else on the desk
 pub record Same (d e : List ℕ) : Type 0 where
@@ -179,11 +165,8 @@ module _ (d : List ℕ) where
     pub feed-same : (r : ℕ) → Alike (feedOf d core r p block)
     unfolding feedOf heldOf
     feed-same r =
-        both Alike (sound d)
-        (both Alike (eqb (length core) (coreLength d))
-        (both Alike (leb r 7)
-        (when Alike (holds d r p)
+        entered-cases d (length core) r core _ Alike (λ m h. unchanged)
+        (λ k. when Alike (holds d r p)
         (λ h. both Alike (isOver (stageIn (placeIn d p))) unchanged
-        (checked-same (held-inside d r p h) (verdict (recordDue (stageIn (placeIn d p))) block)))
+        (checked-same (holds-inside d r p h) (verdict (recordDue (stageIn (placeIn d p))) block)))
         (λ h. unchanged))
-        unchanged) unchanged) unchanged

@@ -6,17 +6,15 @@ use mathlib.Core.Bool.{true}
 use mathlib.Core.List.{List}
 use native.Mathlib.Omega.{arith}
 use lib.ListN.{List·getD-eq-default}
-use lib.Dec.{ltb}
-use borrow.Author.Tests.{ne-eqb, eqb-true}
+use borrow.Author.Tests.{ne-eqb}
 use Rattle.word.specs.Runs.{Apart}
 use Rattle.word.specs.declared.Area.{Area}
-use Rattle.word.proofs.Cases.{by-lt, and-right}
+use Rattle.word.proofs.Cases.{by-lt}
 use Rattle.word.proofs.Says.{says-apart}
-use Rattle.layout.specs.Layout.{coreLength, placeIn, holderIn, holderOf, ownOf, stageIn}
-use Rattle.layout.proofs.Places.{holder-at}
+use Rattle.layout.specs.Layout.{coreLength, placeIn, holderIn, holderOf, ownOf, stageIn, holds}
+use Rattle.layout.proofs.Places.{holder-at, holds-holder}
 use Rattle.desk.specs.Sound.{areasApart, sound}
 use Rattle.desk.proofs.Facts.{sound-says, sound-long}
-use Rattle.calls.specs.Release.{holds}
 use Rattle.feed.specs.Feed.{loadIn}
 use Rattle.feed.proofs.Laws.{Fit}
 use Rattle.feed.proofs.Held as feeding
@@ -26,8 +24,7 @@ areaOf l = ownOf l .area
 
 -- what the test of the holder has shown
 pub held-by : (d : List ℕ) (r p : ℕ) → holds d r p ≡ true → holderOf (placeIn d p) ≡ r + 1
-unfolding holds
-held-by d r p q = sym (holder-at d p) ∙ eqb-true (holderIn d p) (r + 1) (and-right (ltb p 12) _ q)
+held-by d r p q = sym (holder-at d p) ∙ holds-holder d r p q
 
 module _ (d : List ℕ) (s : sound d ≡ true) where
   pub free-past : (p : ℕ) → 12 ≤ p → holderOf (placeIn d p) ≡ 0

@@ -7,8 +7,8 @@ use mathlib.Core.List.{List}
 use mathlib.Core.Logic.{_⊎_, inl, inr}
 use native.Mathlib.Omega.{arith}
 use lib.ListN.{length}
-use lib.Dec.{eqb, leb}
-use borrow.Author.Tests.{eqb-true, leb-true}
+use lib.Dec.{eqb}
+use borrow.Author.Tests.{eqb-true}
 use Rattle.word.specs.Lists.{range, splice}
 use Rattle.word.specs.declared.Area.{Area}
 use Rattle.word.specs.declared.Fault.{Fault}
@@ -29,7 +29,9 @@ use Rattle.desk.proofs.Facts.{sound-long}
 use Rattle.calls.specs.declared.Answer.the-variants.{Refused}
 use Rattle.calls.specs.Outcome.{Outcome}
 use Rattle.calls.specs.Open.{areaFits, openedOwn, openedDesk, opened, grantOf, openOf}
-use Rattle.calls.proofs.Opened.{area-small, long-2, long-3, filled-words, holder-opened, own-opened, stage-opened, in-desk, own-length, numbers-few, words-most, ranks-most, opened-replaced, own-is}
+use Rattle.calls.proofs.Grant.{area-small}
+use Rattle.calls.proofs.Opened.{long-2, long-3, filled-words, holder-opened, own-opened, stage-opened, in-desk, own-length, numbers-few, words-most, ranks-most, opened-replaced, own-is}
+use Rattle.calls.proofs.Entry.{entered-cases}
 use Rattle.feed.specs.Feed.{loadIn, loadBy}
 use Rattle.demands.proofs.Held.{areaOf}
 
@@ -157,8 +159,4 @@ module _ (d core : List ℕ) (r : ℕ) (a : Area) (ios tables : List ℕ) where
   pub open-sorted : Sorted (openOf d core r a ios tables)
   unfolding openOf
   open-sorted =
-      when Sorted (sound d)
-      (λ s. when Sorted (eqb (length core) (coreLength d))
-      (λ e. when Sorted (leb r 7)
-      (λ h. grant-sorted s (eqb-true _ _ e) (omega (arith, leb-true r 7 h)))
-      (λ h. inl (_, refl))) (λ e. inl (_, refl))) (λ s. inl (_, refl))
+      entered-cases d (length core) r core _ Sorted (λ m h. inl (_, refl)) (λ k. grant-sorted (k .desk) (k .core) (k .room))

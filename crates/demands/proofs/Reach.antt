@@ -1,15 +1,15 @@
 -- A feed changes its own load's view alone, and what it does to it, and its answer, hang on that view alone. Given the laws of a block's step.
-use Prim.Native.Nat.{ℕ, _+_, _-_, _≤_, _<_}
+use Prim.Native.Nat.{ℕ, _+_, _≤_, _<_}
 use mathlib.Core.Path.{_≡_, refl, sym, ap, _∙_}
 use mathlib.Core.Bool.{Bool, true, false, cond, true≢false, false≢true}
 use mathlib.Core.List.{List}
 use native.Mathlib.Omega.{arith}
 use lib.ListN.{length, getD}
-use lib.Dec.{eqb, leb}
-use borrow.Author.Tests.{eq-eqb, eqb-true}
+use lib.Dec.{ltb}
 use Rattle.word.specs.Lists.{range}
 use Rattle.word.proofs.Cases.{when}
 use Rattle.word.proofs.Stretch.{Beside, length-cleared, getD-cleared-beside}
+use Rattle.word.specs.Limits.{roomCount}
 use Rattle.block.specs.declared.Verdict.{Verdict}
 use Rattle.block.specs.declared.Verdict.the-variants.{Pass, Refused as refused-block}
 use Rattle.stage.specs.declared.Stage.{Stage}
@@ -17,12 +17,11 @@ use Rattle.stage.specs.declared.Stage.the-variants.{Complete, Broken}
 use Rattle.stage.specs.declared.Step.{Step}
 use Rattle.stage.specs.declared.Step.the-variants.{More as step-more, Done as step-done, Refused as step-refused}
 use Rattle.stage.specs.Record.{isOver}
-use Rattle.layout.specs.Layout.{coreLength, placeIn, holderIn, holderOf, ownOf, stageIn}
-use Rattle.layout.proofs.Places.{holder-at}
+use Rattle.layout.specs.Layout.{coreLength, placeIn, holderIn, holderOf, ownOf, stageIn, holds}
+use Rattle.layout.proofs.Places.{holder-at, holds-inside}
 use Rattle.desk.specs.Sound.{sound}
 use Rattle.calls.specs.Outcome.{Outcome}
-use Rattle.calls.specs.Release.{holds}
-use Rattle.calls.proofs.Freed.{held-inside as holds-place}
+use Rattle.calls.proofs.Entry.{entered-room, entered-cases}
 use Rattle.feed.specs.Block.{blockStep}
 use Rattle.feed.specs.Feed.{loadIn, staged, wiped, settledOf, takenOf, checkedOf, heldOf, feedOf}
 use Rattle.feed.proofs.Laws.{BlockLaws}
@@ -80,12 +79,10 @@ module _ (laws : BlockLaws) (s : State) (p : ℕ) (block : List ℕ) where
   pub feed-confined : (r : ℕ) → Confined p s (call (Feed r p block) s)
   unfolding call feedOf
   feed-confined r =
-      when Kept (sound (s .desk))
-      (λ ok. when Kept (eqb (length (s .core)) (coreLength (s .desk)))
-      (λ e. when Kept (leb r 7)
-      (λ h. when Kept (holds (s .desk) r p)
-      (λ q. held-confined ok (eqb-true _ _ e) (holds-place (s .desk) r p q) (λ z. omega (arith, held-by (s .desk) r p q)))
-      (λ q. confined-same p s)) (λ h. confined-same p s)) (λ e. confined-same p s)) (λ ok. confined-same p s)
+      entered-cases (s .desk) (length (s .core)) r (s .core) _ Kept (λ m h. confined-same p s)
+      (λ k. when Kept (holds (s .desk) r p)
+      (λ q. held-confined (k .desk) (k .core) (holds-inside (s .desk) r p q) (λ z. omega (arith, held-by (s .desk) r p q)))
+      (λ q. confined-same p s))
 
 -- ---- two states with the same view of a place, fed the same
 module _ {X : Type 0} (R : X → X → Type 0) {x y z w : X} where
@@ -172,9 +169,9 @@ module _ (laws : BlockLaws) (s t : State) (p : ℕ) (same : view p s ≡ view p 
     pub feed-match : (r : ℕ) → Match (feedOf (s .desk) (s .core) r p block) (feedOf (t .desk) (t .core) r p block)
     unfolding feedOf
     feed-match r =
-        rw (ok, ot, eq-eqb _ _ es, eq-eqb _ _ et)
-        (both-when Match (leb r 7) (leb r 7) refl
+        rw (entered-room (s .desk) _ r _ _ ok es, entered-room (t .desk) _ r _ _ ot et)
+        (both-when Match (ltb r roomCount) (ltb r roomCount) refl
         (λ h. both-when Match (holds (s .desk) r p) (holds (t .desk) r p) (holds-same r)
-        (λ q. held-match (holds-place (s .desk) r p q) (λ z. omega (arith, held-by (s .desk) r p q)))
+        (λ q. held-match (holds-inside (s .desk) r p q) (λ z. omega (arith, held-by (s .desk) r p q)))
         (λ q. (refl, same)))
         (λ h. (refl, same)))

@@ -19,7 +19,7 @@ use Rattle.stage.proofs.Back.{stage-length}
 use Rattle.map.specs.Map.{mapOf, mapObeys}
 use Rattle.rooms.specs.Rooms.{held, free, idle, placeRefusal}
 use Rattle.lists.specs.Obey.{listsObey}
-use Rattle.layout.specs.Layout.{deskWords, coreLength, base, placeIn, ownOf, stageIn, holders}
+use Rattle.layout.specs.Layout.{deskWords, coreLength, base, placeIn, ownOf, stageIn, holders, holds}
 use Rattle.desk.specs.Sound.{coreFits, sound}
 use Rattle.desk.proofs.Facts.{sound-long}
 use Rattle.calls.specs.Answer.{codeOf, valueOf, packed, Small}
@@ -29,10 +29,11 @@ use Rattle.calls.proofs.Packed.{packed-apart}
 use Rattle.calls.specs.Outcome.{Outcome}
 use Rattle.calls.specs.Make.{makeOf}
 use Rattle.calls.specs.Open.{areaFits, opened, grantOf, openOf}
-use Rattle.calls.specs.Release.{holds, releaseOf}
+use Rattle.calls.specs.Release.{releaseOf}
 use Rattle.calls.proofs.Made.{make-small}
 use Rattle.calls.proofs.Opened.{open-small}
 use Rattle.calls.proofs.Freed.{release-small}
+use Rattle.calls.proofs.Entry.{entered-cases}
 use Rattle.feed.specs.Feed.{loadIn, staged, wiped, feedOf}
 use Rattle.feed.proofs.Blocked.{block-laws}
 use Rattle.feed.proofs.Fed.{holds-place, feed-cases, feed-sound, feed-small}
@@ -122,29 +123,19 @@ open-refuses : (d core : List ℕ) (r : ℕ) (a : Area) (ios tables : List ℕ) 
 unfolding openOf grantOf opened
 open-refuses d core r a ios tables =
     let P = Refuses 8 d core in
-    both P (sound d)
-    (both P (eqb (length core) (coreLength d))
-    (both P (leb r 7)
-    (both P (eqb (placeRefusal r (holders d)) 0)
+    entered-cases d (length core) r core _ P (λ m h. refuses 8 m d core (omega arith))
+    (λ k. both P (eqb (placeRefusal r (holders d)) 0)
     (both P (areaFits d r a)
     (both P (listsObey a ios tables) (λ f q. let z : _≡_ {A = ℕ} 0 1 = cc in absurd (omega arith)) (refuses 8 8 d core (omega arith)))
     (refuses 8 7 d core (omega arith)))
     (refuses 8 (placeRefusal r (holders d)) d core (omega (arith, refusal-most r (holders d)))))
-    (refuses 8 4 d core (omega arith)))
-    (refuses 8 2 d core (omega arith)))
-    (refuses 8 1 d core (omega arith))
 
 release-refuses : (d : List ℕ) (n r p : ℕ) → Refuses 9 d [] (releaseOf d n r p)
 unfolding releaseOf
 release-refuses d n r p =
     let P = Refuses 9 d [] in
-    both P (sound d)
-    (both P (eqb n (coreLength d))
-    (both P (leb r 7)
-    (both P (holds d r p) (λ f q. let z : _≡_ {A = ℕ} 0 1 = cc in absurd (omega arith)) (refuses 9 9 d [] (omega arith)))
-    (refuses 9 4 d [] (omega arith)))
-    (refuses 9 2 d [] (omega arith)))
-    (refuses 9 1 d [] (omega arith))
+    entered-cases d n r [] _ P (λ m h. refuses 9 m d [] (omega arith))
+    (λ k. both P (holds d r p) (λ f q. let z : _≡_ {A = ℕ} 0 1 = cc in absurd (omega arith)) (refuses 9 9 d [] (omega arith)))
 
 -- ---- a feed that is refused: up to 12 nothing changes, from 13 on the load is broken off
 same-state : (s t : State) → t .desk ≡ s .desk → t .core ≡ s .core → t ≡ s

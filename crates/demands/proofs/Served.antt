@@ -7,7 +7,7 @@ use mathlib.Core.List.{List, [], _∷_}
 use native.Mathlib.Omega.{arith}
 use lib.ListN.{length}
 use lib.Dec.{eqb}
-use borrow.Author.Tests.{eq-eqb, ne-eqb, le-leb}
+use borrow.Author.Tests.{ne-eqb}
 use Rattle.word.specs.Fault.{fault}
 use Rattle.word.specs.declared.Area.{Area}
 use Rattle.word.proofs.Cases.{both}
@@ -26,6 +26,7 @@ use Rattle.calls.proofs.Freed.{release-sound}
 use Rattle.calls.proofs.Made.{make-sound, make-core, make-holders}
 use Rattle.desk.proofs.Facts.{sound-fair}
 use Rattle.calls.proofs.Opened.{open-sound}
+use Rattle.calls.proofs.Entry.{entered-on}
 use Rattle.feed.specs.Feed.{feedOf}
 use Rattle.demands.specs.Orders.{run}
 use Rattle.demands.specs.History.{State, fresh, Call, answerTo, call, Told, told}
@@ -56,7 +57,8 @@ module _ (d core m : List ℕ) (made : makeOf d (length core) m .answer ≡ Made
 module _ (s : State) (g : Ready s) (r : ℕ) (room : r < 8) (a : Area) (ios tables : List ℕ) where
   past-four : openOf (s .desk) (s .core) r a ios tables ≡ grantOf (s .desk) (s .core) r a ios tables
   unfolding openOf
-  past-four = rw (g .desk, eq-eqb (length (s .core)) (coreLength (s .desk)) (g .core), le-leb r 7 (omega arith))
+  past-four =
+      entered-on (s .desk) (length (s .core)) r (s .core) _ (record { desk = g .desk; core = g .core; room = room })
 
   open-grants : answerTo (Open r a ios tables) s ≡ grantOf (s .desk) (s .core) r a ios tables .answer
   unfolding answerTo

@@ -1,13 +1,13 @@
 -- Feed: the desk that it leaves is sound, the core keeps its length, and its answer is small; for any numbers, block, desk and core. Assumes
 -- nothing.
-use Prim.Native.Nat.{ℕ, _+_, _≤_, _<_, _^_}
+use Prim.Native.Nat.{ℕ, _≤_, _<_, _^_}
 use mathlib.Core.Path.{_≡_, refl, ap, _∙_}
 use mathlib.Core.Bool.{true, false}
 use mathlib.Core.List.{List}
 use native.Mathlib.Omega.{arith}
 use lib.ListN.{length, getD}
-use lib.Dec.{eqb, leb, ltb}
-use borrow.Author.Tests.{eqb-true, ltb-true}
+use lib.Dec.{eqb}
+use borrow.Author.Tests.{eqb-true}
 use Rattle.word.specs.Lists.{every}
 use Rattle.word.specs.Fault.{fault}
 use Rattle.word.specs.Sorts.{absoluteOf}
@@ -15,7 +15,7 @@ use Rattle.word.specs.declared.Area.{Area}
 use Rattle.word.specs.declared.Fault.{Fault}
 use Rattle.word.specs.declared.Absolute.{Absolute}
 use Rattle.word.specs.Word.{isWord}
-use Rattle.word.proofs.Cases.{when, both, and-left, and-right}
+use Rattle.word.proofs.Cases.{when, both}
 use Rattle.word.proofs.Stretch.{length-cleared}
 use Rattle.word.proofs.Word.{part-below}
 use Rattle.block.specs.declared.Record.{Record}
@@ -31,14 +31,15 @@ use Rattle.program.specs.Start.{startOf}
 use Rattle.stage.specs.declared.Step.{Step}
 use Rattle.stage.specs.declared.Step.the-variants.{More as step-more, Done as step-done, Refused as step-refused}
 use Rattle.stage.specs.Record.{recordDue, isOver}
-use Rattle.layout.specs.Layout.{coreLength, holderIn, placeIn, stageIn, iosIn}
+use Rattle.layout.specs.Layout.{coreLength, holderIn, placeIn, stageIn, iosIn, holds}
+use Rattle.layout.proofs.Places.{holds-inside, holds-holder}
 use Rattle.desk.specs.Sound.{sound, ownIn}
 use Rattle.desk.proofs.Facts.{core-small}
 use Rattle.desk.proofs.Replaced.{stage-written-sound}
 use Rattle.calls.specs.declared.Answer.the-variants.{Refused, More, Done}
 use Rattle.calls.specs.Answer.{Small}
 use Rattle.calls.specs.Outcome.{Outcome, refused}
-use Rattle.calls.specs.Release.{holds}
+use Rattle.calls.proofs.Entry.{entered-cases}
 use Rattle.feed.specs.Block.{blockStep}
 use Rattle.sections.specs.Load.{Load}
 use Rattle.sections.specs.Program.{StepMeets}
@@ -50,10 +51,7 @@ use Rattle.feed.proofs.Held.{length-numbers, held-inside, held-fit}
 
 -- a place that a room holds is one, and is held
 pub holds-place : (d : List ℕ) (r p : ℕ) → holds d r p ≡ true → (p < 12) × (holderIn d p ≡ 0 → ⊥)
-unfolding holds
-holds-place d r p q =
-    let e = eqb-true (holderIn d p) (r + 1) (and-right (ltb p 12) _ q) in
-    (ltb-true p 12 (and-left (ltb p 12) _ q), λ z. omega arith)
+holds-place d r p q = (holds-inside d r p q, λ z. omega (arith, holds-holder d r p q))
 
 -- a block passes, whole and of words; or it meets 11 or 12
 pub verdict-cases : (r : Record) (block : List ℕ) (P : Verdict → Type 0) → (length block ≡ 256 → every isWord block ≡ true → P Pass)
@@ -79,20 +77,15 @@ module _ (d core block : List ℕ) (r p : ℕ) (P : Outcome → Type 0) (none : 
   pub feed-outcomes : P (feedOf d core r p block)
   unfolding feedOf heldOf checkedOf
   feed-outcomes =
-      when P (sound d)
-      (λ s. when P (eqb (length core) (coreLength d))
-      (λ e. both P (leb r 7)
-      (when P (holds d r p)
+      entered-cases d (length core) r core _ P (λ m h. none m (omega arith))
+      (λ k. when P (holds d r p)
       (λ h. when P (isOver (stageIn (placeIn d p)))
       (λ o. none 10 (omega arith))
       (λ o. verdict-cases (recordDue (stageIn (placeIn d p))) block (λ v. P (checkedOf d core p block v))
-      (λ l w. takes s (eqb-true (length core) (coreLength d) e) h o l w)
+      (λ l w. takes (k .desk) (k .core) h o l w)
       (none 11 (omega arith))
       (none 12 (omega arith))))
       (λ h. none 9 (omega arith)))
-      (none 4 (omega arith)))
-      (λ e. none 2 (omega arith)))
-      (λ s. none 1 (omega arith))
 
 -- a stage in range is written
 written-sound : (d : List ℕ) (p : ℕ) (t : Stage) → sound d ≡ true → p < 12

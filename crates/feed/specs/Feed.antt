@@ -5,8 +5,8 @@ use Prim.Native.Nat.{ℕ, _+_}
 use mathlib.Core.Bool.{cond}
 use mathlib.Core.List.{List}
 use lib.ListN.{length}
-use lib.Dec.{eqb, leb}
 use Rattle.word.specs.Lists.{splice, cleared}
+use Rattle.word.specs.Fault.{unless}
 use Rattle.word.specs.declared.Area.{Area}
 use Rattle.block.specs.declared.Verdict.{Verdict}
 use Rattle.block.specs.declared.Verdict.the-variants.{Pass, Refused as refused-block}
@@ -19,11 +19,10 @@ use Rattle.stage.specs.declared.Step.the-variants.{More as step-more, Done as s
 use Rattle.stage.specs.Record.{recordDue, isOver}
 use Rattle.sections.specs.Load.{Load, loadOf}
 use Rattle.layout.specs.declared.Place.{Place}
-use Rattle.layout.specs.Layout.{coreLength, base, placeIn, ownOf, stageIn, iosIn, wordsIn, ranksIn}
-use Rattle.desk.specs.Sound.{sound}
+use Rattle.layout.specs.Layout.{base, placeIn, ownOf, stageIn, iosIn, wordsIn, ranksIn, holds}
 use Rattle.calls.specs.declared.Answer.the-variants.{Refused, More, Done}
 use Rattle.calls.specs.Outcome.{Outcome, refused}
-use Rattle.calls.specs.Release.{holds}
+use Rattle.calls.specs.Entry.{entered}
 use Rattle.feed.specs.Block.{blockStep}
 
 -- what the load at a place was given, from the place's numbers
@@ -68,12 +67,6 @@ heldOf d core p block =
 
 unfoldable pub feedOf : List ℕ → List ℕ → ℕ → ℕ → List ℕ → Outcome
 feedOf d core r p block =
-    cond (sound d)
-    (cond (eqb (length core) (coreLength d))
-    (cond (leb r 7)
-    (cond (holds d r p)
-    (heldOf d core p block)
-    (refused 9 d core))
-    (refused 4 d core))
-    (refused 2 d core))
-    (refused 1 d core)
+    entered d (length core) r core
+    (unless (holds d r p) (refused 9 d core)
+    (heldOf d core p block))

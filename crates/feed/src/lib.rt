@@ -30,16 +30,11 @@ pub fn feed_block(
 ) -> Answer
     ensures { λ a. ⌜ Meets (feedOf (now (desk .entry)) (now (core .entry)) room place (now (block .entry))) a (now (desk .exit)) (now (core .exit)) ⌝ }
 {
-    if !desk::is_sound(desk) {
-        return Answer::Refused(Fault { number: 1 });
+    let n = calls::entry_refusal(desk, core.len() as u64, room);
+    if n != 0 {
+        return Answer::Refused(Fault { number: n });
     }
-    if core.len() as u64 != desk[0] {
-        return Answer::Refused(Fault { number: 2 });
-    }
-    if 7 < room {
-        return Answer::Refused(Fault { number: 4 });
-    }
-    if !calls::release::holds_place(desk, room, place) {
+    if !layout::holds_place(desk, room, place) {
         return Answer::Refused(Fault { number: 9 });
     }
     feed_held(desk, core, place as usize, block)

@@ -34,12 +34,12 @@ use Rattle.sections.specs.Heads.{banksFit, withSegment, segmentStep}
 use Rattle.sections.specs.Program.{afterLast, afterGroup, itemStep, closes, programFrom, programStep}
 use Rattle.map.specs.Map.{stretchOf, mapOf, inCore, stretchesApart, mapObeys}
 use Rattle.rooms.specs.Rooms.{hit, count, free, held, heldEach, idle, atMost, fair, placeRefusal, lowestFree}
-use Rattle.layout.specs.Layout.{mapNumbers, holders, places, placeIn, ownOf, stageIn, iosIn, wordsIn, ranksIn}
+use Rattle.layout.specs.Layout.{mapNumbers, holders, places, placeIn, ownOf, stageIn, iosIn, wordsIn, ranksIn, holds}
 use Rattle.desk.specs.Sound.{areaIn, countsFit, loadFits, heldFits, placeFits, areasApart, sound}
 use Rattle.calls.specs.declared.Answer.the-variants.{Refused, Made, Opened, More, Done}
+use Rattle.calls.specs.Entry.{entryRefusal, entered}
 use Rattle.calls.specs.Make.{freed, freshDesk, makeOf}
 use Rattle.calls.specs.Open.{besideOwn, areaFits, openedOwn, openedDesk, opened, grantOf, openOf}
-use Rattle.calls.specs.Release.{holds}
 use Rattle.feed.specs.Block.{dueStep, blockStep}
 use Rattle.feed.specs.Feed.{loadIn, staged, settledOf, takenOf, checkedOf, heldOf, feedOf}
 use Rattle.hand_deck.specs.Blocks.{withWords, blank, deckLabel, deckProgram, deckTermination, deckFile}
@@ -61,8 +61,8 @@ unfolding every everyTwo range tab splice cleared within apart characters spelt 
     recordDue isOver afterLabel withLabel labelStep terminationStep banksFit withSegment segmentStep afterLast afterGroup itemStep closes
     programFrom programStep stretchOf mapOf inCore stretchesApart mapObeys hit count free held heldEach idle atMost fair placeRefusal
     lowestFree mapNumbers holders places placeIn ownOf stageIn iosIn wordsIn ranksIn areaIn countsFit loadFits heldFits placeFits areasApart
-    sound freed freshDesk makeOf besideOwn areaFits openedOwn openedDesk opened grantOf openOf holds dueStep blockStep loadIn staged
-    settledOf takenOf checkedOf heldOf feedOf withWords blank deckLabel deckProgram deckTermination run answerTo call told oldDesk oldCore
+    sound freed freshDesk makeOf besideOwn areaFits openedOwn openedDesk opened grantOf openOf entryRefusal entered holds dueStep blockStep
+    loadIn staged settledOf takenOf checkedOf heldOf feedOf withWords blank deckLabel deckProgram deckTermination run answerTo call told oldDesk oldCore
     madeWith answersIn taken starts released
 computed m cs = told cs (madeWith m)
 

@@ -2,7 +2,7 @@
 use mathlib.Core.Path.{sym, ap, _∙_}
 use borrow.Author.Tests.{not-true, not-false}
 use Rattle.map.specs.Map.{mapOf}
-use Rattle.calls.proofs.Opened.{area-outside, area-inside}
+use Rattle.calls.proofs.Grant.{area-outside, area-inside}
 use borrow.Author.Needs.{needs}
 use Rattle.calls.proofs.open.area_fits.Statement.{statement}
 use Rattle.calls.proofs.open.area_fits.Tie as tie

@@ -1,6 +1,6 @@
 -- `calls::open::beside_own` meets its contract: each return by the tests that led to it. Assumes nothing.
 use mathlib.Core.Path.{_∙_}
-use Rattle.calls.proofs.Opened.{beside-others, beside-held}
+use Rattle.calls.proofs.Grant.{beside-others, beside-held}
 use borrow.Author.Needs.{needs}
 use Rattle.calls.proofs.open.beside_own.Statement.{statement}
 use Rattle.calls.proofs.open.beside_own.Tie as tie

@@ -9,7 +9,7 @@ use Rattle.layout.specs.Layout.{holders}
 use Rattle.rooms.specs.Rooms.{placeRefusal, lowestFree}
 use Rattle.rooms.proofs.Rooms.{given-place}
 use Rattle.desk.proofs.Facts.{sound-long, sound-fair}
-use Rattle.calls.proofs.Opened.{area-in-core, area-small, words-inside, words-lent, grant-denied, grant-outside, grant-unlisted, grant-given}
+use Rattle.calls.proofs.Grant.{area-in-core, area-small, words-inside, words-lent, grant-denied, grant-outside, grant-unlisted, grant-given}
 use borrow.Author.Needs.{needs}
 use Rattle.calls.proofs.open.grant.Statement.{statement}
 use Rattle.calls.proofs.open.grant.Tie as tie

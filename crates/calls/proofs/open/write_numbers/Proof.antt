@@ -5,7 +5,7 @@ use denote.Ref.{now}
 use lib.ListN.{length}
 use Rattle.word.specs.Lists.{splice}
 use Rattle.lists.proofs.Numbers.{numbers-kept-length}
-use Rattle.calls.proofs.Opened.{numbers-lent}
+use Rattle.calls.proofs.Grant.{numbers-lent}
 use borrow.Author.Needs.{needs}
 use Rattle.calls.proofs.open.write_numbers.Statement.{statement}
 use Rattle.calls.proofs.open.write_numbers.Tie as tie

@@ -6,7 +6,7 @@ use lib.ListN.{length}
 use Rattle.lists.specs.Obey.{tablesOf}
 use Rattle.lists.proofs.Keep.{lists-obey, tables-ranking}
 use Rattle.lists.proofs.Ranks.{words-few}
-use Rattle.calls.proofs.Opened.{desk-written}
+use Rattle.calls.proofs.Grant.{desk-written}
 use borrow.Author.Needs.{needs}
 use Rattle.calls.proofs.open.write_place.Statement.{statement}
 use Rattle.calls.proofs.open.write_place.Tie as tie
