@@ -6,7 +6,8 @@ ghost use Rattle.calls.specs.Make.{makeOf};
 ghost use Rattle.calls.specs.Open.{openOf};
 ghost use Rattle.calls.specs.Release.{releaseOf};
 ghost use Rattle.feed.specs.Feed.{feedOf};
-ghost use Rattle.clamp.specs.Told.{Told};
+ghost use Rattle.clamp.specs.Returned.{Returned};
+use layout::DESK_WORDS;
 use word::Absolute;
 use word::Area;
 
@@ -15,13 +16,13 @@ use word::Area;
 pub extern "C" fn clamp_desk_words() -> u64
     ensures { λ r. ⌜ r ≡ deskWords ⌝ }
 {
-    3653
+    DESK_WORDS as u64
 }
 
 // A fresh desk, from the core length and the map's numbers.
 #[no_mangle]
 pub extern "C" fn clamp_make(desk: &mut [u64], core: u64, numbers: &[u64]) -> u64
-    ensures { λ r. ⌜ Told (makeOf (now (desk .entry)) core (now (numbers .entry))) r (now (desk .exit)) [] ⌝ }
+    ensures { λ r. ⌜ Returned (makeOf (now (desk .entry)) core (now (numbers .entry))) r (now (desk .exit)) [] ⌝ }
 {
     calls::pack(calls::make::make_desk(desk, core, numbers))
 }
@@ -37,7 +38,7 @@ pub extern "C" fn clamp_open(
     io: &[u64],
     tables: &[u64],
 ) -> u64
-    ensures { λ r. ⌜ Told (openOf (now (desk .entry)) (now (core .entry)) room (record { at = record { 0 = area }; size = size }) (now (io .entry)) (now (tables .entry))) r (now (desk .exit)) (now (core .exit)) ⌝ }
+    ensures { λ r. ⌜ Returned (openOf (now (desk .entry)) (now (core .entry)) room (record { at = record { 0 = area }; size = size }) (now (io .entry)) (now (tables .entry))) r (now (desk .exit)) (now (core .exit)) ⌝ }
 {
     let a = Area {
         at: Absolute(area),
@@ -49,7 +50,7 @@ pub extern "C" fn clamp_open(
 // A place given back.
 #[no_mangle]
 pub extern "C" fn clamp_release(desk: &mut [u64], core: u64, room: u64, place: u64) -> u64
-    ensures { λ r. ⌜ Told (releaseOf (now (desk .entry)) core room place) r (now (desk .exit)) [] ⌝ }
+    ensures { λ r. ⌜ Returned (releaseOf (now (desk .entry)) core room place) r (now (desk .exit)) [] ⌝ }
 {
     calls::pack(calls::release::release_place(desk, core, room, place))
 }
@@ -63,7 +64,7 @@ pub extern "C" fn clamp_feed(
     place: u64,
     block: &[u64],
 ) -> u64
-    ensures { λ r. ⌜ Told (feedOf (now (desk .entry)) (now (core .entry)) room place (now (block .entry))) r (now (desk .exit)) (now (core .exit)) ⌝ }
+    ensures { λ r. ⌜ Returned (feedOf (now (desk .entry)) (now (core .entry)) room place (now (block .entry))) r (now (desk .exit)) (now (core .exit)) ⌝ }
 {
     calls::pack(feed::feed_block(desk, core, room, place, block))
 }

@@ -48,7 +48,7 @@ use Rattle.demands.proofs.Calls.{call-ready}
 use Rattle.demands.proofs.Served.{made-ready}
 
 pub one : Demand1One
-one o r q d e core other p t = (p .told ∙ sym (t .told), (p .desk-left ∙ sym (t .desk-left), p .core-left ∙ sym (t .core-left)))
+one o r q d e core other p t = (p .number ∙ sym (t .number), (p .desk-left ∙ sym (t .desk-left), p .core-left ∙ sym (t .core-left)))
 
 -- ---- the answer, read back from its code and value
 abbrev answerOf : ℕ → ℕ → Answer

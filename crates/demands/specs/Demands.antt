@@ -19,7 +19,7 @@ use Rattle.calls.specs.declared.Answer.{Answer}
 use Rattle.calls.specs.declared.Answer.the-variants.{Refused, Made, Opened, More, Done}
 use Rattle.calls.specs.Outcome.{Outcome}
 use Rattle.calls.specs.Make.{makeOf}
-use Rattle.clamp.specs.Told.{Told as ToldC}
+use Rattle.clamp.specs.Returned.{Returned}
 use Rattle.demands.specs.Image.{imageOf, fileStart}
 use Rattle.demands.specs.Orders.{run, only, answersOf, inTurn}
 use Rattle.demands.specs.History.{State, fresh, Call, answerTo, call, Told, told, taken, starts, released}
@@ -36,10 +36,10 @@ pub record Ready (s : State) : Type 0 where
 abbrev pub Outside : Area → ℕ → Type 0
 Outside area j = area .at .0 ≤ j → j < area .at .0 + area .size → ⊥
 
--- ---- Demand 1, one outcome: "it is proved that two outcomes meeting it are equal". `ToldC` is the form of every exported contract.
+-- ---- Demand 1, one outcome: "it is proved that two outcomes meeting it are equal". `Returned` is the form of every exported contract.
 abbrev pub Demand1One : Type 0
 Demand1One =
-    (o : Outcome) (r q : ℕ) (d e core other : List ℕ) → ToldC o r d core → ToldC o q e other → (r ≡ q) × ((d ≡ e) × (core ≡ other))
+    (o : Outcome) (r q : ℕ) (d e core other : List ℕ) → Returned o r d core → Returned o q e other → (r ≡ q) × ((d ≡ e) × (core ≡ other))
 
 -- the number that C is told tells the answer: each call's answer is small, and two small answers with one number are one
 abbrev pub Demand1Number : Type 0

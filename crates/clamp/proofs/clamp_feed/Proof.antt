@@ -21,7 +21,7 @@ same-length-2 c = search needs
 returns : tie.Need-returns
 returns c =
     let m = c .before .before .before .before .before .feed-block .ensures in
-    record { told = c .pack .ensures ∙ ap packed (m .told); desk-left = m .desk-left; core-left = m .core-left }
+    record { number = c .pack .ensures ∙ ap packed (m .told); desk-left = m .desk-left; core-left = m .core-left }
 
 pub clamp-feed-spec : {M : Type 1} → statement M
 clamp-feed-spec = tie.close (tie.spec feed-block-requires pack-requires same-length same-length-2 returns)

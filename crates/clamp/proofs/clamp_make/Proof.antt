@@ -19,7 +19,7 @@ same-length c = search needs
 returns : tie.Need-returns
 returns c =
     let m = c .before .before .before .make-desk .ensures in
-    record { told = c .pack .ensures ∙ ap packed (m .told); desk-left = m .desk-left; core-left = m .core-left }
+    record { number = c .pack .ensures ∙ ap packed (m .told); desk-left = m .desk-left; core-left = m .core-left }
 
 pub clamp-make-spec : {M : Type 1} → statement M
 clamp-make-spec = tie.close (tie.spec make-desk-requires pack-requires same-length returns)

@@ -19,7 +19,7 @@ same-length c = search needs
 returns : tie.Need-returns
 returns c =
     let m = c .before .before .before .release-place .ensures in
-    record { told = c .pack .ensures ∙ ap packed (m .told); desk-left = m .desk-left; core-left = m .core-left }
+    record { number = c .pack .ensures ∙ ap packed (m .told); desk-left = m .desk-left; core-left = m .core-left }
 
 pub clamp-release-spec : {M : Type 1} → statement M
 clamp-release-spec = tie.close (tie.spec release-place-requires pack-requires same-length returns)
