@@ -6,13 +6,14 @@ use mathlib.Core.Bool.{true, false}
 use mathlib.Core.List.{List, [], _∷_, _++_}
 use lib.ListN.{length, getD, replicate}
 use Rattle.word.specs.Fault.{fault}
+use Rattle.word.specs.Limits.{roomCount, placeCount}
 use Rattle.word.specs.Lists.{range, splice, cleared}
 use Rattle.word.specs.declared.Absolute.{Absolute}
 use Rattle.word.specs.declared.Area.{Area}
 use Rattle.word.specs.declared.Fault.{Fault}
 use Rattle.lists.specs.Obey.{tablesOf}
 use Rattle.stage.specs.declared.Stage.the-variants.{Broken}
-use Rattle.layout.specs.Layout.{coreLength, base, placeIn, ownOf, stageIn}
+use Rattle.layout.specs.Layout.{stageAt, iosAt, coreLength, base, placeIn, ownOf, stageIn}
 use Rattle.desk.specs.Sound.{sound}
 use Rattle.calls.specs.Answer.{packed, Small}
 use Rattle.calls.specs.declared.Answer.{Answer}
@@ -36,10 +37,12 @@ pub record Ready (s : State) : Type 0 where
 abbrev pub Outside : Area → ℕ → Type 0
 Outside area j = area .at .0 ≤ j → j < area .at .0 + area .size → ⊥
 
--- ---- Demand 1, one outcome: "it is proved that two outcomes meeting it are equal". `Returned` is the form of every exported contract.
+-- ---- Demand 1, one outcome: "it is proved that two outcomes meeting it are equal". `Returned` is the form of every exported
+-- contract.
 abbrev pub Demand1One : Type 0
 Demand1One =
-    (o : Outcome) (r q : ℕ) (d e core other : List ℕ) → Returned o r d core → Returned o q e other → (r ≡ q) × ((d ≡ e) × (core ≡ other))
+    (o : Outcome) (r q : ℕ) (d e core other : List ℕ) → Returned o r d core → Returned o q e other
+    → (r ≡ q) × ((d ≡ e) × (core ≡ other))
 
 -- the number that C is told tells the answer: each call's answer is small, and two small answers with one number are one
 abbrev pub Demand1Number : Type 0
@@ -62,7 +65,7 @@ pub record BrokenOff (p : ℕ) (area : Area) (s after : State) : Type 0 where
   pub beside : (j : ℕ) → Outside area j → getD (after .core) j 0 ≡ getD (s .core) j 0
   pub core-long : length (after .core) ≡ length (s .core)
   pub stage : stageIn (placeIn (after .desk) p) ≡ Broken
-  pub others : (i : ℕ) → (base p + 6 ≤ i → i < base p + 15 → ⊥) → getD (after .desk) i 0 ≡ getD (s .desk) i 0
+  pub others : (i : ℕ) → (base p + stageAt ≤ i → i < base p + iosAt → ⊥) → getD (after .desk) i 0 ≡ getD (s .desk) i 0
   pub desk-long : length (after .desk) ≡ length (s .desk)
 
 -- feed alone gives them
@@ -119,7 +122,7 @@ fedAnswer e s = answerTo (Feed (e .room) (e .place) (e .block)) s
 
 -- the load that a feed names, 0 to 11; all numbers that name none are one
 abbrev pub loadOf : Fed → ℕ
-loadOf e = min (e .place) 12
+loadOf e = min (e .place) placeCount
 
 -- any two orders that keep each load's own give the same desk and core, and each load the same answers
 abbrev pub Demand3Orders : Type 0
@@ -174,7 +177,7 @@ pub record Counted (ts : List Told) (s : State) (r : ℕ) : Type 0 where
 
 abbrev pub Demand3Rooms : Type 0
 Demand3Rooms =
-    (d core m : List ℕ) → makeOf d (length core) m .answer ≡ Made → (cs : List Call) (r : ℕ) → r < 8
+    (d core m : List ℕ) → makeOf d (length core) m .answer ≡ Made → (cs : List Call) (r : ℕ) → r < roomCount
     → Counted (told cs (fresh d core m)) (run call cs (fresh d core m)) r
 
 -- ---- Not empty: the lives of specs/Examples.antt, computed whole (`not-empty`, crate witness). The hand deck; two rooms by turns; a broken

@@ -3,6 +3,7 @@ use Prim.Native.Nat.{ℕ}
 use mathlib.Core.List.{List, [], _∷_}
 use lib.ListN.{replicate}
 use Rattle.word.specs.declared.Area.{Area}
+use Rattle.layout.specs.Layout.{deskWords}
 use Rattle.calls.specs.declared.Answer.{Answer}
 use Rattle.hand_deck.specs.Blocks.{deckLabel, deckProgram, deckTermination}
 use Rattle.demands.specs.HandDeck.{deckGiven}
@@ -11,7 +12,7 @@ use Rattle.demands.specs.History.Call.{Open, Feed}
 
 -- what C lends for a desk, and a core of 4,096 words, with something in each
 unfoldable pub oldDesk : List ℕ
-oldDesk = replicate 3653 9
+oldDesk = replicate deskWords 9
 
 unfoldable pub oldCore : List ℕ
 oldCore = replicate 4096 5

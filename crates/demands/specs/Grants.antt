@@ -4,6 +4,7 @@ use Prim.Native.Nat.{ℕ, zero, suc, _+_, _-_}
 use mathlib.Core.Bool.{cond}
 use mathlib.Core.List.{List, [], _∷_}
 use lib.Dec.{eqb}
+use Rattle.word.specs.Limits.{roomCount, placeCount}
 use Rattle.calls.specs.declared.Answer.{Answer}
 use Rattle.calls.specs.declared.Answer.the-variants.{Refused, Made, Opened, More, Done, Released}
 use Rattle.demands.specs.History.{Call, Told}
@@ -54,7 +55,7 @@ noneOf (suc r) ts = noneOf r ts + cond (eqb (heldBy r ts) 0) 1 0
 
 -- F and H
 unfoldable pub freePlaces : List Told → ℕ
-freePlaces ts = 12 - heldByAll 8 ts
+freePlaces ts = placeCount - heldByAll roomCount ts
 
 unfoldable pub idleRooms : List Told → ℕ
-idleRooms ts = noneOf 8 ts
+idleRooms ts = noneOf roomCount ts
