@@ -3,10 +3,12 @@
 ghost use mathlib.Core.Path.{_≡_};
 ghost use lib.ListN.{length};
 use calls::Answer;
+use layout::DESK_WORDS;
 use libc::STDIN_FILENO;
 use libc::STDOUT_FILENO;
 use word::Absolute;
 use word::Area;
+use word::limits::MAP_WORDS;
 
 // What comes next on standard input.
 pub enum Input {
@@ -81,9 +83,9 @@ fn feed_all(desk: &mut [u64], core: &mut [u64], place: u64) {
 
 // "core 4,096 words, room 0's stretch all of them, other stretches empty, area 512 of size 64, no lists"
 fn main() {
-    let mut desk = [0u64; 3653];
+    let mut desk = [0u64; DESK_WORDS];
     let mut core = [0u64; 4096];
-    let mut map = [0u64; 16];
+    let mut map = [0u64; MAP_WORDS];
     map[1] = 4096;
     calls::make::make_desk(&mut desk, 4096, &map);
     let area = Area {
