@@ -7,6 +7,7 @@ pub mod release;
 ghost use mathlib.Core.Path.{_≡_};
 ghost use Rattle.calls.specs.Answer.{packed, Small};
 ghost use Rattle.calls.specs.Entry.{entryRefusal};
+use layout::CORE_AT;
 use word::Absolute;
 use word::Fault;
 use word::limits::ROOMS;
@@ -31,7 +32,7 @@ pub fn entry_refusal(desk: &[u64], core: u64, room: u64) -> u64
     if !desk::is_sound(desk) {
         return 1;
     }
-    if core != desk[0] {
+    if core != desk[CORE_AT] {
         return 2;
     }
     if ROOMS as u64 <= room {

@@ -7,6 +7,7 @@ ghost use Rattle.layout.specs.Layout.{deskWords};
 ghost use Rattle.calls.specs.Make.{freed, freshDesk, makeOf};
 ghost use Rattle.calls.specs.Outcome.{Meets};
 use crate::Answer;
+use layout::CORE_AT;
 use layout::DESK_WORDS;
 use layout::MAP_AT;
 use layout::PLACE_WORDS;
@@ -44,7 +45,7 @@ fn write_fresh(desk: &mut [u64], core: u64, numbers: &[u64])
     requires { ⌜ (length (now desk) ≡ deskWords) × (length (now numbers) ≡ mapWords) ⌝ }
     ensures { λ _. ⌜ now (desk .exit) ≡ freshDesk (now (desk .entry)) core (now (numbers .entry)) ⌝ }
 {
-    desk[0] = core;
+    desk[CORE_AT] = core;
     word::slices::copy_in(desk, MAP_AT, numbers);
     free_places(desk);
 }

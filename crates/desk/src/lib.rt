@@ -9,6 +9,7 @@ ghost use Rattle.rooms.specs.Rooms.{fair, heldPlaces};
 ghost use Rattle.layout.specs.Layout.{deskWords, placeWords, placeIn, holderOf, holders};
 ghost use Rattle.desk.specs.Sound.{areaIn, countsFit, loadFits, heldFits, areasApart, SmallStretch, MapTested, placesFit, sound};
 use layout::AREA_AT;
+use layout::CORE_AT;
 use layout::DESK_WORDS;
 use layout::HOLDER_AT;
 use layout::Place;
@@ -28,7 +29,7 @@ pub fn is_sound(desk: &[u64]) -> bool
     if desk.len() != DESK_WORDS {
         return false;
     }
-    let core = desk[0];
+    let core = desk[CORE_AT];
     if core < 1 {
         return false;
     }

@@ -13,8 +13,14 @@ use Rattle.stage.specs.declared.Stage.{Stage}
 use Rattle.layout.specs.declared.Place.{Place}
 
 -- the core length and the map come first
+abbrev pub coreAt : ℕ
+coreAt = 0
+
+abbrev pub mapAt : ℕ
+mapAt = 1
+
 abbrev pub fixedWords : ℕ
-fixedWords = 1 + mapWords
+fixedWords = mapAt + mapWords
 
 -- where a place's own numbers stand in it
 abbrev pub holderAt : ℕ
@@ -61,11 +67,11 @@ abbrev pub deskWords : ℕ
 deskWords = fixedWords + placeCount * placeWords
 
 abbrev pub coreLength : List ℕ → ℕ
-coreLength d = getD d 0 0
+coreLength d = getD d coreAt 0
 
 -- start, length, start, length, .. of the rooms' stretches
 unfoldable pub mapNumbers : List ℕ → List ℕ
-mapNumbers d = range d 1 mapWords
+mapNumbers d = range d mapAt mapWords
 
 -- where place p begins, and its numbers
 abbrev pub base : ℕ → ℕ

@@ -3,7 +3,8 @@ ghost use mathlib.Core.Path.{_≡_};
 ghost use Prim.Native.Nat.{_+_, _≤_, _<_};
 ghost use lib.ListN.{length, getD};
 ghost use Rattle.word.specs.Limits.{roomCount, placeCount, tablesMost};
-ghost use Rattle.layout.specs.Layout.{deskWords, placeWords, mapNumbers, placeIn, ownOf, stageIn, iosIn, wordsIn, ranksIn, holders, holds};
+ghost use Rattle.layout.specs.Layout.{deskWords, placeWords, mapNumbers, placeIn, holders, holds};
+ghost use Rattle.layout.specs.Layout.{ownOf, stageIn, iosIn, wordsIn, ranksIn};
 use stage::Stage;
 use word::Absolute;
 use word::Area;
@@ -13,6 +14,8 @@ use word::limits::PLACES;
 use word::limits::TABLES_MOST;
 
 // A desk: its core length, the map's numbers, the places.
+pub const CORE_AT: usize = 0;
+
 pub const MAP_AT: usize = 1;
 
 pub const PLACES_AT: usize = MAP_AT + MAP_WORDS;
