@@ -39,7 +39,8 @@ module _ (d : List ℕ) (n r : ℕ) where
   entry-shows m q z = entry-tells .1 (sym q ∙ z)
 
   module _ (core : List ℕ) (rest : Outcome) where
-    pub entered-refused : (m : ℕ) → m ≡ entryRefusal d n r → (m ≡ 0 → ⊥) → Meets (entered d n r core rest) (Refused (fault m)) d core
+    pub entered-refused : (m : ℕ) → m ≡ entryRefusal d n r → (m ≡ 0 → ⊥)
+        → Meets (entered d n r core rest) (Refused (fault m)) d core
     unfolding entered
     entered-refused m q h = rw (← q, ne-eqb m 0 h) (record { told = refl; desk-left = refl; core-left = refl })
 
@@ -48,12 +49,14 @@ module _ (d : List ℕ) (n r : ℕ) where
     entered-on k = rw (entry-none k)
 
     -- where 1 and 2 are not due, 4 or the rest
-    pub entered-room : sound d ≡ true → n ≡ coreLength d → entered d n r core rest ≡ unless (ltb r roomCount) (refused 4 d core) rest
+    pub entered-room : sound d ≡ true → n ≡ coreLength d
+        → entered d n r core rest ≡ unless (ltb r roomCount) (refused 4 d core) rest
     unfolding entered entryRefusal
     entered-room s e = rw (s, eq-eqb n (coreLength d) e) (by-test (ltb r roomCount) (λ q. rw q) (λ q. rw q))
 
     -- what holds of each refusal of the three, and of the rest where none is due, holds of the whole
-    pub entered-cases : (P : Outcome → Type 0) → ((m : ℕ) → m ≤ 4 → P (refused m d core)) → (Entered d n r → P rest) → P (entered d n r core rest)
+    pub entered-cases : (P : Outcome → Type 0) → ((m : ℕ) → m ≤ 4 → P (refused m d core))
+        → (Entered d n r → P rest) → P (entered d n r core rest)
     unfolding entered
     entered-cases P none on =
         when P (eqb (entryRefusal d n r) 0)

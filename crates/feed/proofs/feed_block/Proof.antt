@@ -22,7 +22,8 @@ returns c = entered-refused _ _ _ _ _ _ (c .before .entry-refusal .ensures) (c .
 
 holds-place-requires : tie.Need-holds-place-requires
 holds-place-requires c κs =
-    let k = entry-shows _ _ _ _ (c .before .before .entry-refusal .ensures) (c .before .if1 .left) in (sound-long _ (k .desk), k .room)
+    let k = entry-shows _ _ _ _ (c .before .before .entry-refusal .ensures) (c .before .if1 .left) in
+    (sound-long _ (k .desk), k .room)
 
 same-length-2 : tie.Need-same-length-2
 same-length-2 c = search needs
@@ -32,7 +33,8 @@ unfolding feedOf
 returns-2 c =
     let b = c .before .before .before in
     let k = entry-shows _ _ _ _ (b .before .entry-refusal .ensures) (b .if1 .left) in
-    rw (entered-on _ _ _ _ _ k, sym (c .before .holds-place .ensures) ∙ not-true _ (c .if2 .taken)) (record { told = refl; desk-left = refl; core-left = refl })
+    rw (entered-on _ _ _ _ _ k, sym (c .before .holds-place .ensures) ∙ not-true _ (c .if2 .taken))
+    (record { told = refl; desk-left = refl; core-left = refl })
 
 feed-held-requires : tie.Need-feed-held-requires
 feed-held-requires c κs =
@@ -54,7 +56,8 @@ returns-3 c =
     let a = c .before .before .before .before .before .before .before in
     let b = a .before .before .before in
     let k = entry-shows _ _ _ _ (b .before .entry-refusal .ensures) (b .if1 .left) in
-    rw (entered-on _ _ _ _ _ k, sym (a .before .holds-place .ensures) ∙ not-false _ (a .if2 .left)) (c .before .before .before .before .feed-held .ensures)
+    rw (entered-on _ _ _ _ _ k, sym (a .before .holds-place .ensures) ∙ not-false _ (a .if2 .left))
+    (c .before .before .before .before .feed-held .ensures)
 
 pub feed-block-spec : {M : Type 1} → statement M
 feed-block-spec =

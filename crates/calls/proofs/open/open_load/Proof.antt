@@ -17,7 +17,8 @@ returns c = entered-refused _ _ _ _ _ _ (c .before .entry-refusal .ensures) (c .
 
 grant-requires : tie.Need-grant-requires
 grant-requires c κs =
-    let k = entry-shows _ _ _ _ (c .before .before .before .entry-refusal .ensures) (c .before .before .if1 .left) in (k .desk, k .core, k .room)
+    let b = c .before .before in
+    let k = entry-shows _ _ _ _ (b .before .entry-refusal .ensures) (b .if1 .left) in (k .desk, k .core, k .room)
 
 same-length-2 : tie.Need-same-length-2
 same-length-2 c = search needs
@@ -29,7 +30,8 @@ returns-2 : tie.Need-returns-2
 unfolding openOf
 returns-2 c =
     let b = c .before .before .before .before .before .before .before in
-    rw (entered-on _ _ _ _ _ (entry-shows _ _ _ _ (b .before .entry-refusal .ensures) (b .if1 .left))) (c .before .before .before .before .grant .ensures)
+    let k = entry-shows _ _ _ _ (b .before .entry-refusal .ensures) (b .if1 .left) in
+    rw (entered-on _ _ _ _ _ k) (c .before .before .before .before .grant .ensures)
 
 pub open-load-spec : {M : Type 1} → statement M
 open-load-spec =

@@ -22,7 +22,8 @@ returns c = entered-refused _ _ _ _ _ _ (c .before .entry-refusal .ensures) (c .
 
 holds-place-requires : tie.Need-holds-place-requires
 holds-place-requires c κs =
-    let k = entry-shows _ _ _ _ (c .before .before .entry-refusal .ensures) (c .before .if1 .left) in (sound-long _ (k .desk), k .room)
+    let k = entry-shows _ _ _ _ (c .before .before .entry-refusal .ensures) (c .before .if1 .left) in
+    (sound-long _ (k .desk), k .room)
 
 same-length-2 : tie.Need-same-length-2
 same-length-2 c = search needs
@@ -32,7 +33,8 @@ unfolding releaseOf
 returns-2 c =
     let b = c .before .before .before in
     let k = entry-shows _ _ _ _ (b .before .entry-refusal .ensures) (b .if1 .left) in
-    rw (entered-on _ _ _ _ _ k, sym (c .before .holds-place .ensures) ∙ not-true _ (c .if2 .taken)) (record { told = refl; desk-left = refl; core-left = refl })
+    rw (entered-on _ _ _ _ _ k, sym (c .before .holds-place .ensures) ∙ not-true _ (c .if2 .taken))
+    (record { told = refl; desk-left = refl; core-left = refl })
 
 mul-desk : tie.Need-mul-desk
 mul-desk c = omega (arith, holds-inside _ _ _ (sym (c .before .holds-place .ensures) ∙ not-false _ (c .if2 .left)))
@@ -57,7 +59,8 @@ unfolding releaseOf
 returns-3 c =
     let b = c .before .before .before in
     let k = entry-shows _ _ _ _ (b .before .entry-refusal .ensures) (b .if1 .left) in
-    rw (entered-on _ _ _ _ _ k, sym (c .before .holds-place .ensures) ∙ not-false _ (c .if2 .left)) (record { told = refl; desk-left = refl; core-left = refl })
+    rw (entered-on _ _ _ _ _ k, sym (c .before .holds-place .ensures) ∙ not-false _ (c .if2 .left))
+    (record { told = refl; desk-left = refl; core-left = refl })
 
 pub release-place-spec : {M : Type 1} → statement M
 release-place-spec =
