@@ -5,7 +5,7 @@ use mathlib.Core.List.{List, [], _∷_, reverse, flatMap}
 use lib.ListN.{length, getD}
 use lib.Dec.{ltb, leb, eqb}
 use Rattle.word.specs.declared.Half.the-variants.{Left, Right}
-use Rattle.word.specs.Word.{bit, isSet, fieldOf}
+use Rattle.word.specs.Word.{wordBits, bit, isSet, fieldOf}
 use Rattle.word.specs.Lists.{range}
 use Rattle.indicator.specs.declared.Indicator.{Indicator}
 use Rattle.indicator.specs.declared.Indicator.the-variants.{Same, Change, Long}
@@ -18,7 +18,7 @@ bitsOf (suc n) w = bit n w ∷ bitsOf n w
 -- of a group's indicator words, in their order in the block: "Indicators are read from the last word of the group, most
 -- significant bit first, and run on into the word before it."
 unfoldable pub indicatorBits : List ℕ → List ℕ
-indicatorBits words = flatMap (bitsOf 36) (reverse words)
+indicatorBits words = flatMap (bitsOf wordBits) (reverse words)
 
 -- the bits of the n indicator words that stand before place `end` of a block
 unfoldable pub bitsBefore : List ℕ → ℕ → ℕ → List ℕ
@@ -64,4 +64,4 @@ afterAll bits p (w ∷ ws) = afterAll bits (afterWord bits p w) ws
 -- "The group has just as many indicator words as the bits need": room for all, and not a word more. What is left over in the
 -- first of them are the spare bits, which nothing reads
 abbrev pub justEnough : ℕ → ℕ → Bool
-justEnough bits words = leb bits (36 * words) && ltb (36 * words) (bits + 36)
+justEnough bits words = leb bits (wordBits * words) && ltb (wordBits * words) (bits + wordBits)

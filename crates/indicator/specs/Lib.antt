@@ -1,1 +1,2 @@
 pub mod Indicator
+pub mod HowCursor

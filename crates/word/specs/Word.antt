@@ -8,8 +8,11 @@ use Rattle.word.specs.declared.Half.{Half}
 use Rattle.word.specs.declared.Half.the-variants.{Left, Right}
 
 -- "A core word is 36 bits"
+abbrev pub wordBits : ℕ
+wordBits = 36
+
 abbrev pub wordLimit : ℕ
-wordLimit = 2 ^ 36
+wordLimit = 2 ^ wordBits
 
 abbrev pub isWord : ℕ → Bool
 isWord w = ltb w wordLimit

@@ -1,7 +1,7 @@
 -- `start`: from what `edge_of` ensures. Assumes nothing.
 use borrow.Author.Needs.{needs}
-use Rattle.cursor.proofs.start.Statement.{statement}
-use Rattle.cursor.proofs.start.Tie as tie
+use Rattle.indicator.proofs.start.Statement.{statement}
+use Rattle.indicator.proofs.start.Tie as tie
 
 edge-of-requires : tie.Need-edge-of-requires
 edge-of-requires c κs = search needs

@@ -1,4 +1,4 @@
--- A cursor reads the indicators that crate indicator defines, and sees on after each of its moves. Assumes nothing.
+-- A cursor reads the indicators that specs/Indicator.antt defines, and sees on after each of its moves. Assumes nothing.
 use mathlib.Core.Path.{_≡_, refl, sym, ap, _∙_}
 use mathlib.Core.Logic.{⊎-elim}
 use mathlib.Core.List.{List}
@@ -12,12 +12,12 @@ use borrow.Author.Tests.{eq-eqb, ne-eqb, lt-ltb, le-ltb, le-leb, lt-leb, ltb-tru
 use Rattle.word.specs.declared.Half.the-variants.{Left, Right}
 use Rattle.word.specs.Word.{fieldOf}
 use Rattle.word.proofs.Cases.{by-lt, both, when}
 use Rattle.indicator.specs.declared.Indicator.{Indicator}
 use Rattle.indicator.specs.Indicator.{InBlock, bitsBefore, indicatorAt, widthOf, afterField, afterWord}
 use Rattle.indicator.proofs.Places.{width-most}
-use Rattle.cursor.specs.declared.Cursor.{Cursor}
-use Rattle.cursor.specs.Cursor.{never, Sees, edgeOf, startOf, lookOf, pastOf, pastField, pastWord, refilled}
-use Rattle.cursor.proofs.Numbers.{N, number-high, number-low, number-one, number-past, number-moved, number-fewer, number-more}
+use Rattle.indicator.specs.declared.Cursor.{Cursor}
+use Rattle.indicator.specs.HowCursor.{never, Sees, edgeOf, startOf, lookOf, pastOf, pastField, pastWord, refilled}
+use Rattle.indicator.proofs.Numbers.{N, number-high, number-low, number-one, number-past, number-moved, number-fewer, number-more}
 
 pub past-at-most : (c : Cursor) (f : ℕ) → pastField c f .at ≤ c .at + 13
 unfolding pastField pastOf

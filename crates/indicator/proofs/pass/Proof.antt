@@ -1,10 +1,10 @@
 -- `pass`: from what `width` ensures; no indicator is over 13 bits. Assumes nothing.
 use native.Mathlib.Omega.{arith}
 use Rattle.indicator.proofs.Places.{width-most}
-use Rattle.cursor.specs.Cursor.{pastOf}
+use Rattle.indicator.specs.HowCursor.{pastOf}
 use borrow.Author.Needs.{needs}
-use Rattle.cursor.proofs.pass.Statement.{statement}
-use Rattle.cursor.proofs.pass.Tie as tie
+use Rattle.indicator.proofs.pass.Statement.{statement}
+use Rattle.indicator.proofs.pass.Tie as tie
 
 width-requires : tie.Need-width-requires
 width-requires c κs = search needs

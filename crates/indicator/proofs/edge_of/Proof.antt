@@ -1,9 +1,9 @@
 -- `edge_of`: the test of the code is that of the definition. Assumes nothing.
 use Rattle.word.proofs.Tests.{tests}
-use Rattle.cursor.specs.Cursor.{edgeOf}
+use Rattle.indicator.specs.HowCursor.{edgeOf}
 use borrow.Author.Needs.{needs}
-use Rattle.cursor.proofs.edge_of.Statement.{statement}
-use Rattle.cursor.proofs.edge_of.Tie as tie
+use Rattle.indicator.proofs.edge_of.Statement.{statement}
+use Rattle.indicator.proofs.edge_of.Tie as tie
 
 returns : tie.Need-returns
 unfolding edgeOf

@@ -1,8 +1,8 @@
 -- `pass_field`: from what its callees ensure. Assumes nothing.
-use Rattle.cursor.specs.Cursor.{pastField}
+use Rattle.indicator.specs.HowCursor.{pastField}
 use borrow.Author.Needs.{needs}
-use Rattle.cursor.proofs.pass_field.Statement.{statement}
-use Rattle.cursor.proofs.pass_field.Tie as tie
+use Rattle.indicator.proofs.pass_field.Statement.{statement}
+use Rattle.indicator.proofs.pass_field.Tie as tie
 
 look-requires : tie.Need-look-requires
 look-requires c κs = search needs

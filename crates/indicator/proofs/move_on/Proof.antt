@@ -3,11 +3,11 @@ use mathlib.Core.Path.{sym}
 use native.Mathlib.Omega.{arith}
 use Prim.Native.Nat.{_-_}
 use borrow.Author.Tests.{eq-eqb, ne-eqb}
-use Rattle.cursor.specs.Cursor.{turnOf}
-use Rattle.cursor.proofs.Turns.{plain-words}
+use Rattle.indicator.specs.HowCursor.{turnOf}
+use Rattle.indicator.proofs.Turns.{plain-words}
 use borrow.Author.Needs.{needs}
-use Rattle.cursor.proofs.move_on.Statement.{statement}
-use Rattle.cursor.proofs.move_on.Tie as tie
+use Rattle.indicator.proofs.move_on.Statement.{statement}
+use Rattle.indicator.proofs.move_on.Tie as tie
 
 sub-unchanged : tie.Need-sub-unchanged
 sub-unchanged c = search needs

@@ -1,5 +1,6 @@
+-- how the code goes, not a rule of 01
 -- Reading a group's indicators with the next 64 bits at hand as one number. What a cursor sees is said by `Sees`, in terms of the
--- bits that crate indicator defines; that it reads the same indicators is proved in proofs/Reading.antt.
+-- bits that specs/Indicator.antt defines; that it reads the same indicators is proved in proofs/Reading.antt.
 use Prim.Native.Nat.{ℕ, _+_, _-_, _*_, _/_, _%_, _^_, _≤_, _<_}
 use mathlib.Core.Path.{_≡_}
 use mathlib.Core.Bool.{cond, _&&_}
@@ -8,11 +9,11 @@ use lib.ListN.{getD}
 use lib.Dec.{ltb, leb, eqb}
 use Rattle.word.specs.declared.Half.the-variants.{Left, Right}
 use Rattle.word.specs.Word.{wordLimit, bits, isSet, fieldOf}
 use Rattle.indicator.specs.declared.Indicator.{Indicator}
 use Rattle.indicator.specs.declared.Indicator.the-variants.{Same, Change, Long}
 use Rattle.indicator.specs.Indicator.{bitsBefore, numberAt, widthOf}
-use Rattle.cursor.specs.declared.Cursor.{Cursor}
-use Rattle.cursor.specs.declared.Turn.{Turn}
+use Rattle.indicator.specs.declared.Cursor.{Cursor}
+use Rattle.indicator.specs.declared.Turn.{Turn}
 
 -- a place that no bits of a group reach
 abbrev pub never : ℕ

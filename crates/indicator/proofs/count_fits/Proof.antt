@@ -7,13 +7,13 @@ use borrow.Author.Tests.{le-leb, lt-leb}
 use borrow.Author.Needs.{needs}
 use denote.Ref.{now}
 use Rattle.word.specs.Lists.{range}
 use Rattle.indicator.specs.Indicator.{bitsBefore, afterAll}
 use Rattle.indicator.proofs.Places.{after-all-end}
-use Rattle.cursor.specs.Cursor.{Sees}
-use Rattle.cursor.proofs.Reading.{start-sees, refill-sees, refill-at}
-use Rattle.cursor.proofs.Turns.{turn-refilled}
-use Rattle.cursor.proofs.count_fits.Statement.{statement}
-use Rattle.cursor.proofs.count_fits.Tie as tie
+use Rattle.indicator.specs.HowCursor.{Sees}
+use Rattle.indicator.proofs.Reading.{start-sees, refill-sees, refill-at}
+use Rattle.indicator.proofs.Turns.{turn-refilled}
+use Rattle.indicator.proofs.count_fits.Statement.{statement}
+use Rattle.indicator.proofs.count_fits.Tie as tie
 
 abbrev Inv-loop : tie.InvT-loop
 Inv-loop block first last end n c₀ i₀ c i =

@@ -1,10 +1,10 @@
 -- `pass_word`: from what its callees ensure. Assumes nothing.
 use native.Mathlib.Omega.{arith}
-use Rattle.cursor.specs.Cursor.{pastWord}
-use Rattle.cursor.proofs.Reading.{past-at-most}
+use Rattle.indicator.specs.HowCursor.{pastWord}
+use Rattle.indicator.proofs.Reading.{past-at-most}
 use borrow.Author.Needs.{needs}
-use Rattle.cursor.proofs.pass_word.Statement.{statement}
-use Rattle.cursor.proofs.pass_word.Tie as tie
+use Rattle.indicator.proofs.pass_word.Statement.{statement}
+use Rattle.indicator.proofs.pass_word.Tie as tie
 
 field-requires : tie.Need-field-requires
 field-requires c κs = search needs

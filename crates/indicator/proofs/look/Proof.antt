@@ -1,10 +1,10 @@
 -- `look`: the tests of the code are those of the definition, of the bits read. Assumes nothing.
 use mathlib.Core.Path.{sym, _∙_}
 use Rattle.word.proofs.Tests.{tests}
-use Rattle.cursor.specs.Cursor.{lookOf}
+use Rattle.indicator.specs.HowCursor.{lookOf}
 use borrow.Author.Needs.{needs}
-use Rattle.cursor.proofs.look.Statement.{statement}
-use Rattle.cursor.proofs.look.Tie as tie
+use Rattle.indicator.proofs.look.Statement.{statement}
+use Rattle.indicator.proofs.look.Tie as tie
 
 returns : tie.Need-returns
 unfolding lookOf

@@ -1,9 +1,9 @@
 -- `unchanged`: the tests of the code are those of the definition. Assumes nothing.
 use Rattle.word.proofs.Tests.{tests}
-use Rattle.cursor.specs.Cursor.{plainWords}
+use Rattle.indicator.specs.HowCursor.{plainWords}
 use borrow.Author.Needs.{needs}
-use Rattle.cursor.proofs.unchanged.Statement.{statement}
-use Rattle.cursor.proofs.unchanged.Tie as tie
+use Rattle.indicator.proofs.unchanged.Statement.{statement}
+use Rattle.indicator.proofs.unchanged.Tie as tie
 
 returns : tie.Need-returns
 unfolding plainWords

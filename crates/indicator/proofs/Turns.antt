@@ -10,14 +10,14 @@ use lib.ListN.{length, getD}
 use borrow.Author.Tests.{eq-eqb, ne-eqb, ltb-true, ltb-false, eqb-true, eqb-false}
 use Rattle.word.specs.Lists.{range}
 use Rattle.word.proofs.Cases.{by-lt, when}
 use Rattle.indicator.specs.Indicator.{InBlock, bitsBefore, indicatorAt, afterField, afterWord, afterAll}
 use Rattle.indicator.proofs.Bits.{bits-past}
 use Rattle.indicator.proofs.Places.{after-all-turn}
-use Rattle.cursor.specs.declared.Cursor.{Cursor}
-use Rattle.cursor.specs.declared.Turn.{Turn}
-use Rattle.cursor.specs.Cursor.{never, Sees, pastWord, refilled, plainWords, pastPlain, turnOf}
-use Rattle.cursor.proofs.Numbers.{zero-bits, number-zero, bits-fewer}
-use Rattle.cursor.proofs.Reading.{word-sees, word-past, past-word-most, refill-sees, refill-at}
+use Rattle.indicator.specs.declared.Cursor.{Cursor}
+use Rattle.indicator.specs.declared.Turn.{Turn}
+use Rattle.indicator.specs.HowCursor.{never, Sees, pastWord, refilled, plainWords, pastPlain, turnOf}
+use Rattle.indicator.proofs.Numbers.{zero-bits, number-zero, bits-fewer}
+use Rattle.indicator.proofs.Reading.{word-sees, word-past, past-word-most, refill-sees, refill-at}
 
 -- r words without change: no more than are left, and two 0s at hand for each
 pub record Plain (c : Cursor) (left r : ℕ) : Type 0 where

@@ -4,12 +4,12 @@ use Prim.Native.Nat.{_+_}
 use denote.Ref.{now}
 use borrow.Author.Tests.{le-ltb}
 use Rattle.word.proofs.Tests.{tests}
 use Rattle.indicator.proofs.Bits.{number-below}
-use Rattle.cursor.specs.Cursor.{refilled}
-use Rattle.cursor.proofs.Reading.{edge-wants, refill-number}
+use Rattle.indicator.specs.HowCursor.{refilled}
+use Rattle.indicator.proofs.Reading.{edge-wants, refill-number}
 use borrow.Author.Needs.{needs}
-use Rattle.cursor.proofs.refill.Statement.{statement}
-use Rattle.cursor.proofs.refill.Tie as tie
+use Rattle.indicator.proofs.refill.Statement.{statement}
+use Rattle.indicator.proofs.refill.Tie as tie
 
 add-if1 : tie.Need-add-if1
 add-if1 c = search needs
