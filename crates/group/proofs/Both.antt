@@ -19,9 +19,9 @@ use Rattle.field.proofs.Field.{step-word, step-across}
 use Rattle.indicator.specs.declared.Indicator.{Indicator}
 use Rattle.indicator.specs.declared.Indicator.the-variants.{Same, Change, Long}
 use Rattle.indicator.specs.Indicator.{InBlock, bitsBefore}
-use Rattle.cursor.specs.declared.Cursor.{Cursor}
-use Rattle.cursor.specs.Cursor.{Sees, lookOf, pastOf, pastField, pastWord}
-use Rattle.cursor.proofs.Reading.{look-is, field-sees, field-past}
+use Rattle.indicator.specs.declared.Cursor.{Cursor}
+use Rattle.indicator.specs.HowCursor.{Sees, lookOf, pastOf, pastField, pastWord}
+use Rattle.indicator.proofs.Reading.{look-is, field-sees, field-past}
 use Rattle.group.specs.declared.halves.Stepped.{Stepped}
 use Rattle.group.specs.declared.halves.Stepped.the-variants.{Next, Stop}
 use Rattle.group.specs.Group.{halfStep, thenHalf, wordStep}

@@ -24,10 +24,10 @@ use Rattle.field.specs.declared.Changed.the-variants.{Word, Refused as RefusedW
 use Rattle.field.specs.Field.{Assignments}
 use Rattle.indicator.specs.Indicator.{InBlock, bitsBefore, indicatorAt, afterField, afterWord, afterAll}
 use Rattle.indicator.proofs.Bits.{bits-at, bits-past}
-use Rattle.cursor.specs.declared.Cursor.{Cursor}
-use Rattle.cursor.specs.Cursor.{never, Sees, startOf, pastWord, refilled, plainWords, pastPlain}
-use Rattle.cursor.proofs.Reading.{start-sees, word-sees, word-past, past-word-most, refill-sees, refill-at}
-use Rattle.cursor.proofs.Turns.{Plain, plain-words, after-zeros, after-all-plain, plain-bits, plain-sees}
+use Rattle.indicator.specs.declared.Cursor.{Cursor}
+use Rattle.indicator.specs.HowCursor.{never, Sees, startOf, pastWord, refilled, plainWords, pastPlain}
+use Rattle.indicator.proofs.Reading.{start-sees, word-sees, word-past, past-word-most, refill-sees, refill-at}
+use Rattle.indicator.proofs.Turns.{Plain, plain-words, after-zeros, after-all-plain, plain-bits, plain-sees}
 use Rattle.group.specs.declared.words.Moved.{Moved}
 use Rattle.group.specs.declared.words.Moved.the-variants.{On, Off}
 use Rattle.group.specs.declared.words.Ran.the-variants.{Through, Fails}

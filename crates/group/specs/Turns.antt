@@ -18,9 +18,9 @@ use Rattle.field.specs.declared.Changed.the-variants.{Word, Refused}
 use Rattle.field.specs.Field.{Assignments}
 use Rattle.indicator.specs.declared.Indicator.{Indicator}
 use Rattle.indicator.specs.declared.Indicator.the-variants.{Same, Change, Long}
-use Rattle.cursor.specs.declared.Cursor.{Cursor}
+use Rattle.indicator.specs.declared.Cursor.{Cursor}
 use Rattle.indicator.specs.Indicator.{InBlock, afterAll}
-use Rattle.cursor.specs.Cursor.{lookOf, pastField, plainWords, pastPlain}
+use Rattle.indicator.specs.HowCursor.{lookOf, pastField, plainWords, pastPlain}
 use Rattle.group.specs.declared.words.Moved.{Moved}
 use Rattle.group.specs.declared.words.Moved.the-variants.{On, Off}
 use Rattle.group.specs.declared.words.Ran.{Ran}

@@ -2,11 +2,11 @@
 ghost use mathlib.Core.Path.{_≡_};
 ghost use Prim.Native.Nat.{_+_, _<_, _≤_, _^_};
 ghost use Rattle.field.specs.Field.{assigned};
-ghost use Rattle.cursor.specs.Cursor.{pastOf};
+ghost use Rattle.indicator.specs.HowCursor.{pastOf};
 ghost use Rattle.group.specs.Turns.{sameIn, typeIn, moreIn, onward, halfOf, bothOf};
-use cursor::Cursor;
 use field::Changed;
 use field::Setting;
+use indicator::Cursor;
 use indicator::Indicator;
 use word::Fault;
 use word::Half;
@@ -40,9 +40,9 @@ fn left_half(s: Setting, words: &[u64], ranks: &[u64], ios: &[u64], c: Cursor, w
     requires { ⌜ (s .area .at .0 + s .area .size ≤ 65536) × (w < 2 ^ 36) × (c .at + 13 < 2 ^ 64) ⌝ }
     ensures { λ r. ⌜ r ≡ halfOf (assigned s (now (words .entry)) (now (ranks .entry)) (now (ios .entry))) Half.Left w c ⌝ }
 {
-    let m = cursor::look(c.ahead, word::field(w, Half::Left));
+    let m = indicator::look(c.ahead, word::field(w, Half::Left));
     if same_in(m) {
-        return Stepped::Next(w, cursor::pass(c, m));
+        return Stepped::Next(w, indicator::pass(c, m));
     }
     passed(
         c,
@@ -55,9 +55,9 @@ fn right_half(s: Setting, words: &[u64], ranks: &[u64], ios: &[u64], c: Cursor, 
     requires { ⌜ (s .area .at .0 + s .area .size ≤ 65536) × (w < 2 ^ 36) × (c .at + 13 < 2 ^ 64) ⌝ }
     ensures { λ r. ⌜ r ≡ halfOf (assigned s (now (words .entry)) (now (ranks .entry)) (now (ios .entry))) Half.Right w c ⌝ }
 {
-    let m = cursor::look(c.ahead, word::field(w, Half::Right));
+    let m = indicator::look(c.ahead, word::field(w, Half::Right));
     if same_in(m) {
-        return Stepped::Next(w, cursor::pass(c, m));
+        return Stepped::Next(w, indicator::pass(c, m));
     }
     passed(
         c,
@@ -72,7 +72,7 @@ fn passed(c: Cursor, m: Indicator, r: Changed) -> Stepped
     ensures { λ x. ⌜ x ≡ onward r (λ v. Stepped.Next v (pastOf c m)) ⌝ }
 {
     match r {
-        Changed::Word(v) => Stepped::Next(v, cursor::pass(c, m)),
+        Changed::Word(v) => Stepped::Next(v, indicator::pass(c, m)),
         Changed::Refused(f) => Stepped::Stop(f),
     }
 }

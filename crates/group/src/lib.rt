@@ -164,7 +164,7 @@ fn count_group(
         }
         Ran::Fails(f) => {
             word::slices::clear(core, base, count);
-            if cursor::count_fits(block, first, first + count, end, n) {
+            if indicator::count_fits(block, first, first + count, end, n) {
                 return GroupStep::Refused(f);
             }
             GroupStep::Refused(Fault { number: 18 })

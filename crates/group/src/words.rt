@@ -9,8 +9,8 @@ ghost use Rattle.indicator.specs.Indicator.{bitsBefore};
 ghost use Rattle.group.specs.Turns.{movedWord, Moves, plainOf, moveOf, oneMove, Runs, Standing, isZero};
 use crate::halves;
 use crate::halves::Stepped;
-use cursor::Cursor;
 use field::Setting;
+use indicator::Cursor;
 use word::Area;
 use word::Fault;
 
@@ -78,10 +78,10 @@ fn change_words(
     ensures { λ r. ⌜ Runs (assigned s (now (words .entry)) (now (ranks .entry)) (now (ios .entry))) (bitsBefore (now (block .entry)) end n) base count (now (core .entry)) r (now (core .exit)) ⌝ }
 {
     let stop = base + count;
-    let mut c = cursor::start(n);
+    let mut c = indicator::start(n);
     let mut p = base;
     while p < stop {
-        let full = cursor::refill(block, end, n, c);
+        let full = indicator::refill(block, end, n, c);
         match move_on(s, words, ranks, ios, full, p, stop, core) {
             Moved::On(d, q) => {
                 c = d;
@@ -125,9 +125,9 @@ fn plain_move(c: Cursor, p: usize, stop: usize) -> Moved
     requires { ⌜ (p < stop) × (stop < 2 ^ 32) × (36 * c .words < 2 ^ 32) × (c .at + 26 * (stop - p) < 2 ^ 32) ⌝ }
     ensures { λ r. ⌜ r ≡ plainOf c p stop ⌝ }
 {
-    let k = cursor::unchanged(c, stop - p);
+    let k = indicator::unchanged(c, stop - p);
     if k != 0 {
-        return Moved::On(cursor::pass_plain(c, k), p + k);
+        return Moved::On(indicator::pass_plain(c, k), p + k);
     }
     let next = Cursor {
         at: c.at + 2,

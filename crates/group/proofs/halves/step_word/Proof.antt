@@ -5,7 +5,7 @@ use denote.Ref.{now}
 use Rattle.word.specs.declared.Half.the-variants.{Left}
 use Rattle.word.specs.Word.{fieldOf}
 use Rattle.field.specs.Field.{assigned}
-use Rattle.cursor.proofs.Reading.{past-at-most}
+use Rattle.indicator.proofs.Reading.{past-at-most}
 use Rattle.group.specs.Turns.{bothOf}
 use Rattle.group.proofs.Both.{half-fits, half-reach}
 use borrow.Author.Needs.{needs}

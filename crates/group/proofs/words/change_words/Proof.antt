@@ -2,7 +2,7 @@
 use Prim.Native.Nat.{_+_, _-_}
 use native.Mathlib.Omega.{arith}
 use Rattle.field.specs.Field.{assigned}
-use Rattle.cursor.specs.Cursor.{startOf}
+use Rattle.indicator.specs.HowCursor.{startOf}
 use Rattle.group.proofs.Turns.{Went, went-start, turn-near, turn-ready, turn-goes, turn-fails, run-through}
 use borrow.Author.Needs.{needs}
 use Rattle.group.proofs.words.change_words.Statement.{statement}

@@ -6,7 +6,7 @@ use lib.ListN.{getD}
 use borrow.Author.Tests.{eq-eqb}
 use denote.Ref.{now}
 use Rattle.field.specs.Field.{assigned}
-use Rattle.cursor.proofs.Turns.{plain-none}
+use Rattle.indicator.proofs.Turns.{plain-none}
 use Rattle.group.specs.Turns.{moveOf}
 use Rattle.group.proofs.Both.{moved-both}
 use Rattle.group.proofs.Turns.{plain-move-is}

@@ -3,7 +3,7 @@ use Prim.Native.Nat.{_-_}
 use mathlib.Core.Path.{sym}
 use native.Mathlib.Omega.{arith}
 use borrow.Author.Tests.{eq-eqb, ne-eqb}
-use Rattle.cursor.proofs.Turns.{plain-words}
+use Rattle.indicator.proofs.Turns.{plain-words}
 use Rattle.group.specs.Turns.{plainOf}
 use borrow.Author.Needs.{needs}
 use Rattle.group.proofs.words.plain_move.Statement.{statement}
