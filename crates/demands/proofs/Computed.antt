@@ -4,11 +4,11 @@ use mathlib.Core.Path.{_≡_, refl, _∙_}
 use native.Mathlib.Omega.{arith}
 use mathlib.Core.List.{List, _∷_, flatMap}
 use lib.ListN.{replicate, getD-replicate}
-use Rattle.word.specs.Lists.{every, range, tab}
+use Rattle.word.specs.Lists.{every, everyTwo, range, tab}
 use Rattle.word.specs.Runs.{within, apart}
 use Rattle.block.specs.Fieldata.{characters, spelt}
 use Rattle.label.specs.Name.{isName, isRest, letterOrDigit}
-use Rattle.label.specs.Tally.{tableTally, tallied}
+use Rattle.label.specs.Tables.{tableWordsIn, tableWords, tablesInOrder, entriesOf, countsOf, withinLimits}
 use Rattle.label.specs.Label.{labelOf, finished, programWordFits}
 use Rattle.program.specs.Sections.{bankOf, segmentOf, tableSectionOf}
 use Rattle.program.specs.Groups.{groupOf}
@@ -36,7 +36,9 @@ use Rattle.demands.proofs.Imaged.{image-is}
 -- the one program word is 7, with the area's address added to its right field
 pub deck-image : imageOf (deckGiven .area) (deckGiven .tables) (deckGiven .ios) deckFile ≡ 519 ∷ replicate 63 0
 unfolding deckLabel deckProgram deckTermination withWords blank imageOf storesOf storesBeyond labelOf isName isRest letterOrDigit every
-    characters tableTally tallied range finished programWordFits pieces piecesFrom headAt groupOf tableSectionOf segmentOf bankOf groupsFrom upToLast storesFrom
+    characters
+    tableWordsIn tableWords tablesInOrder entriesOf countsOf withinLimits everyTwo
+    range finished programWordFits pieces piecesFrom headAt groupOf tableSectionOf segmentOf bankOf groupsFrom upToLast storesFrom
     storeOf homeOf homeIn within changedWords wordStep halfStep fieldStep becomes movedField valued putBack bitsOf flatMap indicatorBits
     bitsBefore numberAt indicatorAt afterField afterWord wordFrom reached tab
 deck-image = refl
@@ -54,7 +56,8 @@ abbrev afterwards : List ℕ
 afterwards = blockStep deckGiven (Program (record { near = 0; sections = 0 }) Segment) deckProgram core .core
 
 pub deck-taken : Takes deckGiven Label core deckFile Complete afterwards
-unfolding deckLabel deckProgram deckTermination withWords blank labelOf isName isRest letterOrDigit every characters tableTally tallied
+unfolding deckLabel deckProgram deckTermination withWords blank labelOf isName isRest letterOrDigit every characters
+    tableWordsIn tableWords tablesInOrder entriesOf countsOf withinLimits everyTwo tab
     range finished programWordFits groupOf tableSectionOf segmentOf bankOf homeOf homeIn within changedWords wordStep halfStep fieldStep
     becomes movedField valued putBack bitsOf flatMap indicatorBits bitsBefore numberAt indicatorAt afterField afterWord Takes isOver blockStep
     dueStep recordDue labelStep withLabel afterLabel assignmentsFit programStep programFrom closes itemStep segmentStep withSegment banksFit

@@ -13,7 +13,7 @@ use Rattle.block.specs.Records.{ofRecord}
 use Rattle.label.specs.declared.Label.{Label as LabelWords}
 use Rattle.label.specs.declared.LabelRead.{LabelRead}
 use Rattle.label.specs.declared.LabelRead.the-variants.{Good as label-read, Bad as no-label}
-use Rattle.label.specs.Label.{labelOf, nearCount, ioCount}
+use Rattle.label.specs.Label.{labelOf, channelCount, ioCount}
 use Rattle.modification.specs.Assignments.{assignmentsFit}
 use Rattle.modification.specs.Entries.{entryBlocks}
 use Rattle.program.specs.declared.Bank.{Bank}
@@ -143,26 +143,26 @@ module _ (x : Load) (after : List ℕ) where
 
     -- the lists have as many entries as the label says
     beyond : (l : LabelWords) → assignmentsFit l (x .ios) (length (x .tables)) ≡ true
-        → Reads x (nearCount l) after (Program (courseOf l) segment-due) core (pieces (drop (many (nearCount l) tables) blocks)) → Whole (label-read l)
+        → Reads x (channelCount l) after (Program (courseOf l) segment-due) core (pieces (drop (many (channelCount l) tables) blocks)) → Whole (label-read l)
     unfolding assignmentsFit storesBeyond
     beyond l q h =
         let a : length (x .ios) ≡ ioCount l = eqb-true _ _ (and-left (eqb (length (x .ios)) (ioCount l)) _ q) in
         let b : length (x .tables) ≡ l .tables =
         eqb-true _ _ (and-left (eqb (length (x .tables)) (l .tables)) _ (and-right (eqb (length (x .ios)) (ioCount l)) _ q)) in
         let e : 1 + l .sections ≡ suc (l .sections) = omega arith in
-        rw (← a, ← b, e, drop-one (many (nearCount l) tables) block blocks) (h noSection refl)
+        rw (← a, ← b, e, drop-one (many (channelCount l) tables) block blocks) (h noSection refl)
 
     label-by : (l : LabelWords) → assignmentsFit l (x .ios) (length (x .tables)) ≡ true
         → Takes x (afterLabel (length (x .ios)) (length (x .tables)) l) core blocks Complete after → Whole (label-read l)
     unfolding afterLabel
     label-by l f =
-        when (λ (s : Stage). Takes x s core blocks Complete after → Whole (label-read l)) (eqb (many (nearCount l) tables) 0)
-        (λ q k. beyond l f (rw (eqb-true (many (nearCount l) tables) 0 q) (run (nearCount l) tables (Program (courseOf l) segment-due) core blocks k)))
-        (λ q k. let e : many (nearCount l) tables - 0 ≡ many (nearCount l) tables = omega arith in
-        beyond l f (rw e at (entry-run (nearCount l) tables (courseOf l) (l .strict) 0 core blocks (some q) k)))
+        when (λ (s : Stage). Takes x s core blocks Complete after → Whole (label-read l)) (eqb (many (channelCount l) tables) 0)
+        (λ q k. beyond l f (rw (eqb-true (many (channelCount l) tables) 0 q) (run (channelCount l) tables (Program (courseOf l) segment-due) core blocks k)))
+        (λ q k. let e : many (channelCount l) tables - 0 ≡ many (channelCount l) tables = omega arith in
+        beyond l f (rw e at (entry-run (channelCount l) tables (courseOf l) (l .«no_longer_tables») 0 core blocks (some q) k)))
       where
-        some : eqb (many (nearCount l) tables) 0 ≡ false → 0 < many (nearCount l) tables
-        some q = omega (arith, eqb-false (many (nearCount l) tables) 0 q)
+        some : eqb (many (channelCount l) tables) 0 ≡ false → 0 < many (channelCount l) tables
+        some q = omega (arith, eqb-false (many (channelCount l) tables) 0 q)
 
     label-run : (r : LabelRead) → Then blocks (only (withLabel (x .ios) (length (x .tables)) r) core) → Whole r
     unfolding withLabel

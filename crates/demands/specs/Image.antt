@@ -14,7 +14,7 @@ use Rattle.word.specs.declared.Area.{Area}
 use Rattle.label.specs.declared.Label.{Label}
 use Rattle.label.specs.declared.LabelRead.{LabelRead}
 use Rattle.label.specs.declared.LabelRead.the-variants.{Good as label-read, Bad as no-label}
-use Rattle.label.specs.Label.{labelOf, nearCount, ioCount}
+use Rattle.label.specs.Label.{labelOf, channelCount, ioCount}
 use Rattle.modification.specs.Entries.{entryBlocks}
 use Rattle.program.specs.declared.Segment.{Segment}
 use Rattle.program.specs.declared.SegmentRead.{SegmentRead}
@@ -177,7 +177,7 @@ lastBlock file = getD file (length file - 1) []
 
 abbrev pub assignmentsOf : Area → List CoreTable → List ℕ → Label → Assignments
 assignmentsOf area tables ios l =
-    record { area = area; tables = tables; ios = ios; near = nearCount l; all = ioCount l }
+    record { area = area; tables = tables; ios = ios; near = channelCount l; all = ioCount l }
 
 -- one segment section and as many table sections as the label says
 unfoldable pub storesBeyond : Area → List CoreTable → List ℕ → LabelRead → List (List ℕ) → List Store

@@ -2,7 +2,7 @@
 use mathlib.Core.Path.{_≡_, refl}
 use mathlib.Core.Bool.{true, false}
 use lib.ListN.{getD}
-use Rattle.word.specs.Lists.{every, range}
+use Rattle.word.specs.Lists.{every, everyTwo, tab}
 use Rattle.block.specs.Fieldata.{spelt, characters}
 use Rattle.block.specs.Records.{modification, program, termination, ofRecord}
 use Rattle.block.specs.Checksum.{sumOf}
@@ -10,7 +10,7 @@ use Rattle.block.specs.Block.{verdict, sealVerdict}
 use Rattle.block.specs.declared.Record.the-variants.{Label, Program, Termination}
 use Rattle.block.specs.declared.Verdict.the-variants.{Pass}
 use Rattle.label.specs.Name.{isName, isRest, letterOrDigit}
-use Rattle.label.specs.Tally.{tableTally, tallied}
+use Rattle.label.specs.Tables.{tableWordsIn, tableWords, tablesInOrder, entriesOf, countsOf, withinLimits}
 use Rattle.label.specs.Label.{labelOf, finished, programWordFits}
 use Rattle.label.specs.declared.LabelRead.the-variants.{Good as label-read}
 use Rattle.program.specs.Sections.{segmentOf, bankOf}
@@ -43,8 +43,10 @@ termination-known = refl
 
 -- the label of a program named A: no tables, no table sections
 pub label-read-whole : labelOf deckLabel
-    ≡ label-read (record { switches = 0; channels = 0; units = 0; tables = 0; strict = false; sections = 0 })
-unfolding deckLabel withWords blank labelOf isName isRest letterOrDigit every characters tableTally tallied range finished programWordFits
+    ≡ label-read (record { switches = 0; channels = 0; units = 0; tables = 0; «no_longer_tables» = false; sections = 0 })
+unfolding deckLabel withWords blank labelOf isName isRest letterOrDigit every characters
+    tableWordsIn tableWords tablesInOrder entriesOf countsOf withinLimits everyTwo tab
+    finished programWordFits
 label-read-whole = refl
 
 -- an IBANK of one word at relative 0, no DBANK

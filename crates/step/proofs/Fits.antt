@@ -17,7 +17,7 @@ use Rattle.word.proofs.Cases.{when, both, and-both, and-left, and-right}
 use Rattle.label.specs.declared.Label.{Label}
 use Rattle.label.specs.declared.LabelRead.{LabelRead}
 use Rattle.label.specs.declared.LabelRead.the-variants.{Good, Bad}
-use Rattle.label.specs.Label.{labelOf, nearCount, ioCount, Carried}
+use Rattle.label.specs.Label.{labelOf, channelCount, ioCount, Carried}
 use Rattle.label.proofs.Carried.{label-carried}
 use Rattle.label.proofs.Faults.{label-faults}
 use Rattle.lists.specs.declared.Table.{Table as CoreTable}
@@ -69,7 +69,7 @@ course-fits l ios tables k q =
     let a = eqb-true (length ios) (ioCount l) (and-left (eqb (length ios) (ioCount l)) _ q) in
     let b = eqb-true tables (l .tables) (and-left (eqb tables (l .tables)) _ (and-right (eqb (length ios) (ioCount l)) _ q)) in
     let s = k .sections in
-    and-both _ _ (le-leb (nearCount l) (length ios) (omega arith)) (le-leb (l .sections) tables (omega arith))
+    and-both _ _ (le-leb (channelCount l) (length ios) (omega arith)) (le-leb (l .sections) tables (omega arith))
 
 after-label-fits : (area : Area) (ts : List CoreTable) (io : ℕ) (l : Label) → courseFits io (length ts) (courseOf l) ≡ true
     → stageFits area ts io (afterLabel io (length ts) l) ≡ true

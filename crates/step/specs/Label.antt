@@ -8,7 +8,7 @@ use Rattle.word.specs.Fault.{fault}
 use Rattle.label.specs.declared.Label.{Label}
 use Rattle.label.specs.declared.LabelRead.{LabelRead}
 use Rattle.label.specs.declared.LabelRead.the-variants.{Good, Bad}
-use Rattle.label.specs.Label.{labelOf, nearCount}
+use Rattle.label.specs.Label.{labelOf, channelCount}
 use Rattle.modification.specs.Assignments.{assignmentsFit}
 use Rattle.modification.specs.Entries.{entryBlocks}
 use Rattle.stage.specs.declared.Course.{Course}
@@ -20,11 +20,11 @@ use Rattle.stage.specs.declared.Step.the-variants.{More, Refused}
 
 -- what of the label is still needed
 abbrev pub courseOf : Label → Course
-courseOf l = record { near = nearCount l; sections = l .sections }
+courseOf l = record { near = channelCount l; sections = l .sections }
 
 -- "With no entries there is no modification block."
 unfoldable pub afterLabel : ℕ → ℕ → Label → Stage
-afterLabel io tables l = cond (eqb (entryBlocks io tables) 0) (Program (courseOf l) Segment) (Entry (courseOf l) (l .strict) 0)
+afterLabel io tables l = cond (eqb (entryBlocks io tables) 0) (Program (courseOf l) Segment) (Entry (courseOf l) (l .«no_longer_tables») 0)
 
 unfoldable pub withLabel : List ℕ → ℕ → LabelRead → Step
 withLabel ios tables (Good l) =

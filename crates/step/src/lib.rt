@@ -46,7 +46,7 @@ fn take_label(ios: &[u64], n: u64, tables: u64, l: Label) -> Step
     if modification::entry_blocks(n, tables) == 0 {
         return Step::More(Stage::Program(c, Due::Segment));
     }
-    Step::More(Stage::Entry(c, l.strict, 0))
+    Step::More(Stage::Entry(c, l.no_longer_tables, 0))
 }
 
 // Modification block b, counted from 0: words and ranks are the load's kept tables, io counts its I/O references.

@@ -11,7 +11,7 @@ use Rattle.block.specs.Records.{modification, program, termination}
 use Rattle.block.specs.Checksum.{sumOf}
 use Rattle.block.specs.Block.{verdict, sealVerdict}
 use Rattle.label.specs.Name.{isName, isRest, letterOrDigit}
-use Rattle.label.specs.Tally.{tableTally, tallied}
+use Rattle.label.specs.Tables.{tableWordsIn, tableWords, tablesInOrder, entriesOf, countsOf, withinLimits}
 use Rattle.label.specs.Label.{labelOf, finished, programWordFits}
 use Rattle.modification.specs.Assignments.{assignmentsFit}
 use Rattle.program.specs.Sections.{bankOf, segmentOf, tableSectionOf}
@@ -54,7 +54,9 @@ use Rattle.demands.proofs.Demands.{demand-2}
 -- a history, with every definition that computing it opens; a proof that unfolds it opens them all
 computed : List ℕ → List Call → List Told
 unfolding every everyTwo range tab splice cleared within apart characters spelt modification program termination sumOf verdict sealVerdict
-    isName isRest letterOrDigit tableTally tallied labelOf finished programWordFits assignmentsFit bankOf segmentOf tableSectionOf groupOf inBank
+    isName isRest letterOrDigit
+    tableWordsIn tableWords tablesInOrder entriesOf countsOf withinLimits
+    labelOf finished programWordFits assignmentsFit bankOf segmentOf tableSectionOf groupOf inBank
     bitsOf flatMap indicatorBits bitsBefore numberAt indicatorAt afterField afterWord afterAll listsObey tablesObey tablesOf numbersKept
     wordsKept ranksKept wordsFrom sorted ranked numbersIn tablesIn chain chainFrom valued movedField becomes putBack fieldStep halfStep
     wordStep changedWords homeIn homeOf settled counted homed fitted grouped groupStep numbersOf stageOf courseFits bankFits dueFits stageFits
