@@ -17,7 +17,8 @@ use Rattle.indicator.specs.Indicator.{InBlock, bitsBefore, indicatorAt, 
 use Rattle.indicator.proofs.Places.{width-most}
 use Rattle.indicator.specs.declared.Cursor.{Cursor}
 use Rattle.indicator.specs.HowCursor.{never, Sees, edgeOf, startOf, lookOf, pastOf, pastField, pastWord, refilled}
-use Rattle.indicator.proofs.Numbers.{N, number-high, number-low, number-one, number-past, number-moved, number-fewer, number-more}
+use Rattle.indicator.proofs.Numbers.{N, number-high, number-low, number-one, number-past}
+use Rattle.indicator.proofs.Numbers.{number-moved, number-fewer, number-more}
 
 pub past-at-most : (c : Cursor) (f : ℕ) → pastField c f .at ≤ c .at + 13
 unfolding pastField pastOf

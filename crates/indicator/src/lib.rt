@@ -1,5 +1,5 @@
-// An indicator: what is to be done with a half of a program word; and the indicators of a group read fast: the next 64 bits are held
-// in one number, and where all of them are 0 many words without change are passed at once.
+// An indicator: what is to be done with a half of a program word; and the indicators of a group read fast: the next 64 bits are
+// held in one number, and where all of them are 0 many words without change are passed at once.
 ghost use mathlib.Core.Path.{_≡_};
 ghost use Prim.Native.Nat.{_+_, _-_, _*_, _<_, _≤_, _^_};
 ghost use lib.ListN.{length};

@@ -38,10 +38,14 @@ module _ (c : Counts) (q : withinLimits c ≡ true) where
   few-channels = leb-true (c .switches + c .channels) channelsMost (and-left (leb (c .switches + c .channels) channelsMost) _ q)
 
   few-io : c .switches + c .channels + c .units ≤ ioMost
-  few-io = leb-true (c .switches + c .channels + c .units) ioMost (and-left (leb (c .switches + c .channels + c .units) ioMost) (leb (c .tables) tablesMost) rest)
+  few-io =
+      leb-true (c .switches + c .channels + c .units) ioMost
+      (and-left (leb (c .switches + c .channels + c .units) ioMost) (leb (c .tables) tablesMost) rest)
 
   few-tables : c .tables ≤ tablesMost
-  few-tables = leb-true (c .tables) tablesMost (and-right (leb (c .switches + c .channels + c .units) ioMost) (leb (c .tables) tablesMost) rest)
+  few-tables =
+      leb-true (c .tables) tablesMost
+      (and-right (leb (c .switches + c .channels + c .units) ioMost) (leb (c .tables) tablesMost) rest)
 
 finished-holds : (block : List ℕ) (c : Counts) → Holds (finished block c)
 unfolding finished

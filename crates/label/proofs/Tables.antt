@@ -15,7 +15,8 @@ use Rattle.word.specs.Lists.{every, everyTwo}
 use Rattle.word.proofs.Cases.{by-lt, both, and-left, and-right, and-both}
 use Rattle.word.proofs.Every.{every-then, every-by}
 use Rattle.word.proofs.Lists.{length-tab, getD-tab}
-use Rattle.label.specs.Tables.{TableWord, tableWord, tableWordsIn, tableWords, isCarried, carries, rises, hasEntries, tablesInOrder, entriesIf, entriesOf, countsOf}
+use Rattle.label.specs.Tables.{TableWord, tableWord, tableWordsIn, tableWords, isCarried, carries, rises, hasEntries}
+use Rattle.label.specs.Tables.{tablesInOrder, entriesIf, entriesOf, countsOf}
 use Rattle.label.specs.HowTables.{mayFollow, allFollow, FewEntries}
 
 -- ---- one after another is all in order
@@ -42,6 +43,16 @@ module _ (k : ℕ) (x : TableWord) (q : mayFollow k x ≡ true) where
   unfolding mayFollow
   of-type = and-right (hasEntries x) (carries x) (and-right (atLeast k x) (hasEntries x && carries x) q)
 
+-- above one type and above another
+above-then : (k : ℕ) (x : TableWord) → k ≤ x .type → (y : TableWord) → atLeast (x .type + 1) y ≡ true → atLeast k y ≡ true
+above-then k x l y h = let m = leb-true (x .type + 1) (y .type) h in le-leb k (y .type) (omega arith)
+
+above-rises : (x y : TableWord) → atLeast (x .type + 1) y ≡ true → rises x y ≡ true
+above-rises x y h = let m = leb-true (x .type + 1) (y .type) h in lt-ltb (x .type) (y .type) (omega arith)
+
+rises-above : (x y : TableWord) → rises x y ≡ true → atLeast (x .type + 1) y ≡ true
+rises-above x y h = let m = ltb-true (x .type) (y .type) h in le-leb (x .type + 1) (y .type) (omega arith)
+
 ordered : (k : ℕ) (ts : List TableWord) → allFollow k ts ≡ true → Ordered k ts
 unfolding allFollow every everyTwo
 ordered k [] q = record { least = refl; carried = refl; rising = refl; some = refl }
@@ -51,10 +62,10 @@ ordered k (x ∷ xs) q =
     let o = ordered (x .type + 1) xs (and-right (mayFollow k x) (allFollow (x .type + 1) xs) q) in
     record {
       least = and-both (atLeast k x) (every (atLeast k) xs) (le-leb k (x .type) l)
-          (every-then (atLeast (x .type + 1)) (atLeast k) (λ y h. le-leb k (y .type) (let m = leb-true (x .type + 1) (y .type) h in omega arith)) xs (o .least));
+          (every-then (atLeast (x .type + 1)) (atLeast k) (above-then k x l) xs (o .least));
       carried = and-both (carries x) (every carries xs) (of-type k x a) (o .carried);
       rising = and-both (every (rises x) xs) (everyTwo rises xs)
-          (every-then (atLeast (x .type + 1)) (rises x) (λ y h. lt-ltb (x .type) (y .type) (let m = leb-true (x .type + 1) (y .type) h in omega arith)) xs (o .least))
+          (every-then (atLeast (x .type + 1)) (rises x) (above-rises x) xs (o .least))
           (o .rising);
       some = and-both (hasEntries x) (every hasEntries xs) (entered k x a) (o .some);
     }
@@ -68,7 +79,7 @@ follows k (x ∷ xs) o =
     (and-both (hasEntries x) (carries x) (and-left (hasEntries x) (every hasEntries xs) (o .some))
     (and-left (carries x) (every carries xs) (o .carried))))
     (follows (x .type + 1) xs (record {
-      least = every-then (rises x) (atLeast (x .type + 1)) (λ y h. le-leb (x .type + 1) (y .type) (let m = ltb-true (x .type) (y .type) h in omega arith)) xs
+      least = every-then (rises x) (atLeast (x .type + 1)) (rises-above x) xs
           (and-left (every (rises x) xs) (everyTwo rises xs) (o .rising));
       carried = and-right (carries x) (every carries xs) (o .carried);
       rising = and-right (every (rises x) xs) (everyTwo rises xs) (o .rising);
@@ -102,7 +113,12 @@ pub carried-most : (t : ℕ) → isCarried t ≡ true → t ≤ 12
 unfolding isCarried
 carried-most t q = by-lt 12 t
     (λ l.
-    let z = rw (ne-eqb t 0 (λ e. omega arith), ne-eqb t 2 (λ e. omega arith), ne-eqb t 3 (λ e. omega arith), ne-eqb t 12 (λ e. omega arith)) at q in
+    let z = rw (
+      ne-eqb t 0 (λ e. omega arith),
+      ne-eqb t 2 (λ e. omega arith),
+      ne-eqb t 3 (λ e. omega arith),
+      ne-eqb t 12 (λ e. omega arith),
+    ) at q in
     absurd (false≢true z))
     (λ h. h)
 
@@ -129,7 +145,8 @@ module _ (block : List ℕ) (n : ℕ) where
   unfolding tableWordsIn
   table-at i h = getD-tab (λ j. tableWord (getD block (4 + j) 0)) n i none h
 
-  table-first : (i : ℕ) → i < n → drop i (tableWordsIn block n) ≡ tableWord (getD block (4 + i) 0) ∷ drop (i + 1) (tableWordsIn block n)
+  table-first : (i : ℕ) → i < n
+      → drop i (tableWordsIn block n) ≡ tableWord (getD block (4 + i) 0) ∷ drop (i + 1) (tableWordsIn block n)
   table-first i h =
       let e = tables-length in
       drop-cons (tableWordsIn block n) i none (omega arith) ∙ rw (table-at i h, add-one)
@@ -140,12 +157,14 @@ module _ (block : List ℕ) (n : ℕ) where
       drop-of-length-le (tableWordsIn block n) l
 
   module _ (least i : ℕ) (b : Bool) where
-    pub follow-more : i < n → mayFollow least (tableWord (getD block (4 + i) 0)) ≡ true → b ≡ allFollow least (drop i (tableWordsIn block n))
+    pub follow-more : i < n → mayFollow least (tableWord (getD block (4 + i) 0)) ≡ true
+        → b ≡ allFollow least (drop i (tableWordsIn block n))
         → b ≡ allFollow (bits 35 32 (getD block (4 + i) 0) + 1) (drop (i + 1) (tableWordsIn block n))
     unfolding allFollow
     follow-more h t q = q ∙ rw (table-first i h, t)
 
-    pub follow-fails : i < n → mayFollow least (tableWord (getD block (4 + i) 0)) ≡ false → b ≡ allFollow least (drop i (tableWordsIn block n)) → false ≡ b
+    pub follow-fails : i < n → mayFollow least (tableWord (getD block (4 + i) 0)) ≡ false
+        → b ≡ allFollow least (drop i (tableWordsIn block n)) → false ≡ b
     unfolding allFollow
     follow-fails h t q = sym (q ∙ rw (table-first i h, t))
 
@@ -191,7 +210,8 @@ module _ (block : List ℕ) (q : tablesInOrder (tableWords block) ≡ true) wher
   all-short =
       let n = bits 28 18 (getD block 3 0) in
       every-by none short (tableWordsIn block n)
-      (λ i h. rw (table-at block n i (omega (arith, tables-length block n))) (le-leb (bits 8 0 (getD block (4 + i) 0)) 511 (omega arith)))
+      (λ i h. rw (table-at block n i (omega (arith, tables-length block n)))
+      (le-leb (bits 8 0 (getD block (4 + i) 0)) 511 (omega arith)))
 
   each-few : (t : ℕ) → entriesOf t (tableWords block) ≤ 6643
   each-few t =

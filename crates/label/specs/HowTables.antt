@@ -1,6 +1,6 @@
 -- how the code goes, not a rule of 01
--- The tables of a label taken one after another: each is carried, has entries, and its type is above the one before. That this tells
--- what `tablesInOrder` tells is `order-follows` in proofs/Tables.antt.
+-- The tables of a label taken one after another: each is carried, has entries, and its type is above the one before. That this
+-- tells what `tablesInOrder` tells is `order-follows` in proofs/Tables.antt.
 use Prim.Native.Nat.{ℕ, _+_, _≤_, _^_}
 use mathlib.Core.Bool.{Bool, true, _&&_}
 use mathlib.Core.List.{List, [], _∷_}

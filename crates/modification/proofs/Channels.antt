@@ -16,11 +16,15 @@ module _ (ws : List ℕ) (m k : ℕ) (b : Bool) where
   long : k < m → k < length (numbersIn ws m)
   long h = omega (arith, numbers-length ws m)
 
-  pub channels-more : (r : ℕ) → k < m → r ≡ numberIn ws k → r ≤ channelMost → b ≡ every isChannel (drop k (numbersIn ws m)) → b ≡ every isChannel (drop (k + 1) (numbersIn ws m))
-  channels-more r h e l = every-more isChannel 0 (numbersIn ws m) k b (long h) (rw (numbers-at ws m k h, ← e) (le-leb r channelMost l))
+  pub channels-more : (r : ℕ) → k < m → r ≡ numberIn ws k → r ≤ channelMost
+      → b ≡ every isChannel (drop k (numbersIn ws m)) → b ≡ every isChannel (drop (k + 1) (numbersIn ws m))
+  channels-more r h e l =
+      every-more isChannel 0 (numbersIn ws m) k b (long h) (rw (numbers-at ws m k h, ← e) (le-leb r channelMost l))
 
-  pub channels-fails : (r : ℕ) → k < m → r ≡ numberIn ws k → channelMost < r → b ≡ every isChannel (drop k (numbersIn ws m)) → false ≡ b
-  channels-fails r h e l = every-fails isChannel 0 (numbersIn ws m) k b (long h) (rw (numbers-at ws m k h, ← e) (lt-leb r channelMost l))
+  pub channels-fails : (r : ℕ) → k < m → r ≡ numberIn ws k → channelMost < r
+      → b ≡ every isChannel (drop k (numbersIn ws m)) → false ≡ b
+  channels-fails r h e l =
+      every-fails isChannel 0 (numbersIn ws m) k b (long h) (rw (numbers-at ws m k h, ← e) (lt-leb r channelMost l))
 
   pub channels-ends : m ≤ k → b ≡ every isChannel (drop k (numbersIn ws m)) → true ≡ b
   channels-ends h = every-ends isChannel 0 (numbersIn ws m) k b (omega (arith, numbers-length ws m))

@@ -67,7 +67,8 @@ all c =
     any-end 36 _ (l .any) (l .i) (omega arith) (l .inv .3) ∙ lt-ltb (l .any) wordLimit (c .if1 .left)
 
 ended : (c : tie.Else1 Inv-loop μ-loop) →
-    Taken (now (c .before .before .before .before .args .block)) (c .before .before .before .before .args .p) (c .before .before .loop .sum)
+    Taken (now (c .before .before .before .before .args .block)) (c .before .before .before .before .args .p)
+    (c .before .before .loop .sum)
 ended c =
     let l = c .before .before .loop in
     let a = c .before .before .before .before .args in

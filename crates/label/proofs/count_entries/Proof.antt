@@ -15,18 +15,31 @@ entries-of-requires : tie.Need-entries-of-requires
 entries-of-requires c κs = (search needs, rw (c .bits .ensures) (few _ (c .before .before .before .pre .1)))
 
 entries-of-requires-2 : tie.Need-entries-of-requires-2
-entries-of-requires-2 c κs = (search needs, rw (c .before .bits .ensures) (few _ (c .before .before .before .before .pre .1)))
+entries-of-requires-2 c κs =
+    let d = c .before in
+    (search needs, rw (d .bits .ensures) (few _ (d .before .before .before .pre .1)))
 
 entries-of-requires-3 : tie.Need-entries-of-requires-3
-entries-of-requires-3 c κs = (search needs, rw (c .before .before .bits .ensures) (few _ (c .before .before .before .before .before .pre .1)))
+entries-of-requires-3 c κs =
+    let d = c .before .before in
+    (search needs, rw (d .bits .ensures) (few _ (d .before .before .before .pre .1)))
 
 entries-of-requires-4 : tie.Need-entries-of-requires-4
-entries-of-requires-4 c κs = (search needs, rw (c .before .before .before .bits .ensures) (few _ (c .before .before .before .before .before .before .pre .1)))
+entries-of-requires-4 c κs =
+    let d = c .before .before .before in
+    (search needs, rw (d .bits .ensures) (few _ (d .before .before .before .pre .1)))
 
 returns : tie.Need-returns
 unfolding countsOf tableWords
 returns c =
-    rw (c .entries-of4 .ensures, c .before .entries-of3 .ensures, c .before .before .entries-of2 .ensures, c .before .before .before .entries-of .ensures, c .before .before .before .before .bits .ensures)
+    let d = c .before .before in
+    rw (
+      c .entries-of4 .ensures,
+      c .before .entries-of3 .ensures,
+      d .entries-of2 .ensures,
+      d .before .entries-of .ensures,
+      d .before .before .bits .ensures,
+    )
 
 pub count-entries-spec : {M : Type 1} → statement M
 count-entries-spec =

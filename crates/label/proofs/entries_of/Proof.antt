@@ -50,7 +50,8 @@ loop-again c =
     let l = c .before .before .before .loop in
     let a = c .before .before .before .before .before .args in
     let w = getD (now (a .block)) (4 + l .i) 0 in
-    (omega arith, omega (arith, counted-most (a .t) w), rw (c .entries-if .ensures) (entries-more (now (a .block)) (a .n) (a .t) (l .i) (l .sum) _ (omega arith) (l .inv .2)))
+    let e = entries-more (now (a .block)) (a .n) (a .t) (l .i) (l .sum) _ (omega arith) (l .inv .2) in
+    (omega arith, omega (arith, counted-most (a .t) w), rw (c .entries-if .ensures) e)
 
 returns : tie.Need-returns Inv-loop μ-loop
 returns c =

@@ -36,9 +36,10 @@ bits-requires c κs = search needs
 returns-2 : tie.Need-returns-2
 unfolding finished
 returns-2 c =
+    let d = c .before .before .before .before .before .before in
     search (
       tests,
-      sym (c .before .before .before .before .before .before .before .within-limits .ensures) ∙ not-false _ (c .before .before .before .before .before .before .if1 .left),
+      sym (d .before .within-limits .ensures) ∙ not-false _ (d .if1 .left),
       ← c .before .bits .ensures,
     )
 
@@ -51,9 +52,10 @@ program-word-fits-requires c κs = search needs
 returns-3 : tie.Need-returns-3
 unfolding finished
 returns-3 c =
+    let d = c .before .before .before .before .before .before .before .before .before in
     search (
       tests,
-      sym (c .before .before .before .before .before .before .before .before .before .before .within-limits .ensures) ∙ not-false _ (c .before .before .before .before .before .before .before .before .before .if1 .left),
+      sym (d .before .within-limits .ensures) ∙ not-false _ (d .if1 .left),
       ← c .before .before .before .before .bits .ensures,
       sym (c .before .program-word-fits .ensures) ∙ not-true _ (c .if3 .taken),
     )
@@ -67,11 +69,13 @@ shared-slice-read-if4-2 c = search needs
 returns-4 : tie.Need-returns-4
 unfolding finished
 returns-4 c =
+    let p = c .before .before .before in
+    let d = p .before .before .before .before .before .before .before .before .before in
     search (
       tests,
-      sym (c .before .before .before .before .before .before .before .before .before .before .before .before .before .within-limits .ensures) ∙ not-false _ (c .before .before .before .before .before .before .before .before .before .before .before .before .if1 .left),
-      ← c .before .before .before .before .before .before .before .bits .ensures,
-      sym (c .before .before .before .before .program-word-fits .ensures) ∙ not-false _ (c .before .before .before .if3 .left),
+      sym (d .before .within-limits .ensures) ∙ not-false _ (d .if1 .left),
+      ← p .before .before .before .before .bits .ensures,
+      sym (p .before .program-word-fits .ensures) ∙ not-false _ (p .if3 .left),
     )
 
 is-set-requires : tie.Need-is-set-requires
@@ -83,11 +87,13 @@ bits-requires-2 c κs = search needs
 returns-5 : tie.Need-returns-5
 unfolding finished
 returns-5 c =
+    let p = c .before .before .before .before .before in
+    let d = p .before .before .before .before .before .before .before .before .before in
     rw (
-      sym (c .before .before .before .before .before .before .before .before .before .before .before .before .before .before .before .within-limits .ensures) ∙ not-false _ (c .before .before .before .before .before .before .before .before .before .before .before .before .before .before .if1 .left),
-      ← c .before .before .before .before .before .before .before .before .before .bits .ensures,
-      eq-eqb _ _ (c .before .before .before .before .before .before .before .before .if2 .left),
-      sym (c .before .before .before .before .before .before .program-word-fits .ensures) ∙ not-false _ (c .before .before .before .before .before .if3 .left),
+      sym (d .before .within-limits .ensures) ∙ not-false _ (d .if1 .left),
+      ← p .before .before .before .before .bits .ensures,
+      eq-eqb _ _ (p .before .before .before .if2 .left),
+      sym (p .before .program-word-fits .ensures) ∙ not-false _ (p .if3 .left),
       eq-eqb _ _ (c .before .before .if4 .left),
       c .bits2 .ensures,
       c .before .is-set .ensures,

@@ -34,9 +34,10 @@ bits-requires c κs = search needs
 returns-2 : tie.Need-returns-2
 unfolding labelOf
 returns-2 c =
+    let d = c .before .before .before in
     search (
       tests,
-      sym (c .before .before .before .before .is-name .ensures) ∙ not-false _ (c .before .before .before .if1 .left),
+      sym (d .before .is-name .ensures) ∙ not-false _ (d .if1 .left),
       ← c .before .bits .ensures,
     )
 
@@ -46,9 +47,10 @@ tables-in-order-requires c κs = search needs
 returns-3 : tie.Need-returns-3
 unfolding labelOf
 returns-3 c =
+    let d = c .before .before .before .before .before in
     search (
       tests,
-      sym (c .before .before .before .before .before .before .is-name .ensures) ∙ not-false _ (c .before .before .before .before .before .if1 .left),
+      sym (d .before .is-name .ensures) ∙ not-false _ (d .if1 .left),
       ← c .before .before .before .bits .ensures,
       sym (c .before .tables-in-order .ensures) ∙ not-true _ (c .if3 .taken),
     )
@@ -58,16 +60,19 @@ count-entries-requires c κs = (search needs, sym (c .before .tables-in-order .e
 
 finish-requires : tie.Need-finish-requires
 finish-requires c κs =
-    (search needs, rw (c .count-entries .ensures) (counts-small _ (sym (c .before .before .tables-in-order .ensures) ∙ not-false _ (c .before .if3 .left))))
+    let t = sym (c .before .before .tables-in-order .ensures) ∙ not-false _ (c .before .if3 .left) in
+    (search needs, rw (c .count-entries .ensures) (counts-small _ t))
 
 returns-4 : tie.Need-returns-4
 unfolding labelOf
 returns-4 c =
+    let t = c .before .before in
+    let d = t .before .before .before .before .before in
     rw (
-      sym (c .before .before .before .before .before .before .before .before .is-name .ensures) ∙ not-false _ (c .before .before .before .before .before .before .before .if1 .left),
-      ← c .before .before .before .before .before .bits .ensures,
-      eq-eqb _ _ (c .before .before .before .before .if2 .left),
-      sym (c .before .before .before .tables-in-order .ensures) ∙ not-false _ (c .before .before .if3 .left),
+      sym (d .before .is-name .ensures) ∙ not-false _ (d .if1 .left),
+      ← t .before .before .before .bits .ensures,
+      eq-eqb _ _ (t .before .before .if2 .left),
+      sym (t .before .tables-in-order .ensures) ∙ not-false _ (t .if3 .left),
       ← c .before .count-entries .ensures,
     )
     (c .finish .ensures)

@@ -47,7 +47,8 @@ may-follow-requires c κs = search needs
 returns : tie.Need-returns Inv-loop μ-loop
 returns c =
     let l = c .before .before .before .before .loop in
-    follow-fails _ _ (l .least) (l .i) _ (omega arith) (sym (c .before .may-follow .ensures) ∙ not-true _ (c .if1 .taken)) (l .inv .3)
+    let t = sym (c .before .may-follow .ensures) ∙ not-true _ (c .if1 .taken) in
+    follow-fails _ _ (l .least) (l .i) _ (omega arith) t (l .inv .3)
 
 bits-requires-2 : tie.Need-bits-requires-2 Inv-loop μ-loop
 bits-requires-2 c κs = search needs
@@ -67,7 +68,8 @@ loop-again c =
     let t = sym (c .before .before .may-follow .ensures) ∙ not-false _ (c .before .if1 .left) in
     let k = above _ _ t in
     let m = carried-most _ (of-type _ _ t) in
-    (omega arith, omega arith, omega arith, rw (c .bits2 .ensures) (follow-more _ _ (l .least) (l .i) _ (omega arith) t (l .inv .3)))
+    let f = follow-more _ _ (l .least) (l .i) _ (omega arith) t (l .inv .3) in
+    (omega arith, omega arith, omega arith, rw (c .bits2 .ensures) f)
 
 returns-2 : tie.Need-returns-2 Inv-loop μ-loop
 returns-2 c =

@@ -35,7 +35,13 @@ returns-3 : tie.Need-returns-3
 unfolding assignmentsFit
 returns-3 c =
     let a = c .before .before .before .before .before .before .before .before .args in
-    rw (numbers-length (now (a .ios)) (a .n), eq-eqb _ _ (c .before .before .before .before .if1 .left), eq-eqb _ _ (c .before .before .if2 .left), take-numbers (now (a .ios)) (a .l .switches + a .l .channels) (a .n) (omega arith)) (c .channels-fit .ensures)
+    rw (
+      numbers-length (now (a .ios)) (a .n),
+      eq-eqb _ _ (c .before .before .before .before .if1 .left),
+      eq-eqb _ _ (c .before .before .if2 .left),
+      take-numbers (now (a .ios)) (a .l .switches + a .l .channels) (a .n) (omega arith),
+    )
+    (c .channels-fit .ensures)
 
 pub assignments-fit-spec : {M : Type 1} → statement M
 assignments-fit-spec =
