@@ -3,11 +3,11 @@ pub mod limits;
 pub mod slices;
 
 ghost use mathlib.Core.Path.{_≡_};
-ghost use Prim.Native.Nat.{_+_, _<_, _≤_, _^_};
+ghost use Prim.Native.Nat.{_+_, _<_, _≤_, _^_, _%_};
 ghost use lib.ListN.{getD};
 ghost use Rattle.word.specs.Word.{bits, isSet, fieldOf, fieldStored, aField, aStored};
 ghost use Rattle.word.specs.Runs.{within, apart};
-ghost use Rattle.word.specs.Sorts.{absoluteOf};
+ghost use Rattle.word.specs.Sorts.{absoluteOf, fromTable, rightMoved};
 
 // "A core word is 36 bits": a word is below 2^36.
 pub const WORD_BITS: usize = 36;
@@ -50,12 +50,28 @@ pub struct Fault {
     pub number: u64,
 }
 
-// The only way from a relative address to an absolute one: by an area's address.
+// The only way from an address relative to the Program Name to an absolute one: by an area's address.
 pub fn placed(area: Area, r: Relative) -> Absolute
     requires { ⌜ area .at .0 + r .0 < 2 ^ 64 ⌝ }
     ensures { λ a. ⌜ a ≡ absoluteOf area r ⌝ }
 {
     Absolute(area.at.0 + r.0)
+}
+
+// An address that counts from a table's first word, as those of a table section's groups do.
+pub fn from_table(at: Absolute, r: Relative) -> Absolute
+    requires { ⌜ at .0 + r .0 < 2 ^ 64 ⌝ }
+    ensures { λ a. ⌜ a ≡ fromTable at r ⌝ }
+{
+    Absolute(at.0 + r.0)
+}
+
+// The word whose right field, a relative address, is made absolute by the area's address: one sum, where the field does not overflow.
+pub fn move_right(area: Area, w: u64) -> u64
+    requires { ⌜ (w < 2 ^ 36) × (area .at .0 + w % 65536 < 65536) ⌝ }
+    ensures { λ r. ⌜ r ≡ rightMoved area w ⌝ }
+{
+    w + area.at.0
 }
 
 // The word at place i; 0 past the end, as in the definitions.
