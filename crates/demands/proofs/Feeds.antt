@@ -17,7 +17,7 @@ use Rattle.stage.specs.Record.{isOver}
 use Rattle.layout.specs.Layout.{placeIn, holderOf, stageIn, holds}
 use Rattle.calls.specs.Outcome.{Outcome}
 use Rattle.calls.proofs.Entry.{entered-cases}
-use Rattle.feed.specs.Feed.{takenOf, checkedOf, heldOf, feedOf}
+use Rattle.feed.specs.Feed.{takenOf, checkedOf, heldOf, feedOf, loadIn}
 use Rattle.feed.proofs.Laws.{BlockLaws}
 use Rattle.demands.specs.Orders.{run}
 use Rattle.demands.specs.History.{State, Call, answerTo, call, told, takenIn, taken, startsIn, starts, releasedIn, released}
@@ -33,9 +33,9 @@ use Rattle.demands.proofs.Calls.{open-view, release-view, call-ready}
 -- ---- feed: it is refused and changes nothing, or it takes the block
 module _ (d core : List ℕ) (r p : ℕ) (block : List ℕ) where
   abbrev Takings : Outcome → Type 0
-  Takings o = Denies d core o ⊎ ((isOver (stageIn (placeIn d p)) ≡ false) × (o ≡ takenOf d core p block))
+  Takings o = Denies d core o ⊎ ((isOver (stageIn (placeIn d p)) ≡ false) × (o ≡ takenOf d core p (loadIn (placeIn d p)) (stageIn (placeIn d p)) block))
 
-  checked-sorted : isOver (stageIn (placeIn d p)) ≡ false → (v : Verdict) → Takings (checkedOf d core p block v)
+  checked-sorted : isOver (stageIn (placeIn d p)) ≡ false → (v : Verdict) → Takings (checkedOf d core (takenOf d core p (loadIn (placeIn d p)) (stageIn (placeIn d p)) block) v)
   unfolding checkedOf
   checked-sorted o Pass = inr (o, refl)
   checked-sorted o (refused-block f) = inl (f, refl)
@@ -57,7 +57,7 @@ pub record Idle (r p : ℕ) (c : Call) (s : State) : Type 0 where
 abbrev Steps : ℕ → ℕ → Call → State → Type 0
 Steps r p c s =
     (block : List ℕ) × (c ≡ Feed r p block) × (isOver (stageIn (placeIn (s .desk) p)) ≡ false)
-    × (feedOf (s .desk) (s .core) r p block ≡ takenOf (s .desk) (s .core) p block)
+    × (feedOf (s .desk) (s .core) r p block ≡ takenOf (s .desk) (s .core) p (loadIn (placeIn (s .desk) p)) (stageIn (placeIn (s .desk) p)) block)
 
 not-released : (b rest : Bool) → cond b true rest ≡ false → (b ≡ false) × (rest ≡ false)
 not-released true rest q = absurd (true≢false q)

@@ -27,6 +27,7 @@ use Rattle.rooms.proofs.Rooms.{held-set, given-place}
 use Rattle.lists.specs.Obey.{listsObey}
 use Rattle.layout.specs.Layout.{coreLength, placeIn, stageIn, holders, holds}
 use Rattle.layout.proofs.Places.{length-holders, getD-holders, holders-kept, core-kept, holds-inside, holds-holder}
+use Rattle.sections.specs.Load.{Load}
 use Rattle.desk.specs.Sound.{sound}
 use Rattle.desk.proofs.Facts.{sound-long, sound-fair}
 use Rattle.calls.specs.Outcome.{Outcome}
@@ -157,10 +158,10 @@ module _ (d : List ℕ) where
     settled-same h a (step-done x) after = staged-same h Complete
     settled-same h a (step-refused f) after = staged-same h Broken
 
-    checked-same : p < 12 → (v : Verdict) → Alike (checkedOf d core p block v)
+    checked-same : p < 12 → (x : Load) (t : Stage) (v : Verdict) → Alike (checkedOf d core (takenOf d core p x t block) v)
     unfolding checkedOf takenOf
-    checked-same h Pass = settled-same h _ _ _
-    checked-same h (refused-block f) = unchanged
+    checked-same h x t Pass = settled-same h _ _ _
+    checked-same h x t (refused-block f) = unchanged
 
     pub feed-same : (r : ℕ) → Alike (feedOf d core r p block)
     unfolding feedOf heldOf
@@ -168,5 +169,5 @@ module _ (d : List ℕ) where
         entered-cases d (length core) r core _ Alike (λ m h. unchanged)
         (λ k. when Alike (holds d r p)
         (λ h. both Alike (isOver (stageIn (placeIn d p))) unchanged
-        (checked-same (holds-inside d r p h) (verdict (recordDue (stageIn (placeIn d p))) block)))
+        (checked-same (holds-inside d r p h) _ _ (verdict (recordDue (stageIn (placeIn d p))) block)))
         (λ h. unchanged))

@@ -80,7 +80,8 @@ module _ (laws : BlockLaws) (kept : FeedKeeps) (r p : ℕ) (x : Load) (a : Absol
   -- the block is taken
   module _ (cs : List Call) (next : Life cs) (s : State) (core : List ℕ) (g : Stage) (k : Ready s) (h : holderOf (placeIn (s .desk) p) ≡ r + 1)
       (lx : loadIn (placeIn (s .desk) p) ≡ x) (sg : stageIn (placeIn (s .desk) p) ≡ g) (hc : Holds x core) (al : Alike x (s .core) core)
-      (block : List ℕ) (over : isOver g ≡ false) (fed : feedOf (s .desk) (s .core) r p block ≡ takenOf (s .desk) (s .core) p block) where
+      (block : List ℕ) (over : isOver g ≡ false)
+      (fed : feedOf (s .desk) (s .core) r p block ≡ takenOf (s .desk) (s .core) p (loadIn (placeIn (s .desk) p)) (stageIn (placeIn (s .desk) p)) block) where
     abbrev held : holderOf (placeIn (s .desk) p) ≡ 0 → ⊥
     held z = omega (arith, h)
 

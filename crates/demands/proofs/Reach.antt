@@ -59,7 +59,7 @@ module _ (laws : BlockLaws) (s : State) (p : ℕ) (block : List ℕ) where
         (length-cleared (s .core) _ _ area-inside)
         (rw (extent-held numbers held) (λ j o. getD-cleared-beside (s .core) _ _ j area-inside o))
 
-    taken-confined : Kept (takenOf (s .desk) (s .core) p block)
+    taken-confined : Kept (takenOf (s .desk) (s .core) p (loadIn numbers) (stageIn numbers) block)
     unfolding takenOf loadIn
     taken-confined =
         let f = held-fit (s .desk) ok p held in
@@ -67,7 +67,7 @@ module _ (laws : BlockLaws) (s : State) (p : ℕ) (block : List ℕ) where
         (laws .long (loadIn numbers) (stageIn numbers) block (s .core) f area-inside)
         (laws .beside (loadIn numbers) (stageIn numbers) block (s .core) f area-inside)
 
-    checked-confined : (v : Verdict) → Kept (checkedOf (s .desk) (s .core) p block v)
+    checked-confined : (v : Verdict) → Kept (checkedOf (s .desk) (s .core) (takenOf (s .desk) (s .core) p (loadIn numbers) (stageIn numbers) block) v)
     unfolding checkedOf
     checked-confined Pass = taken-confined
     checked-confined (refused-block f) = confined-same p s
@@ -146,12 +146,14 @@ module _ (laws : BlockLaws) (s t : State) (p : ℕ) (same : view p s ≡ view p 
           range-inside _ _ _ _ (rw (n (s .core) f inside-s) inside-s) (rw (n (t .core) f inside-t) inside-t)
           (laws .same-words (loadIn l) (stageIn l) block (s .core) (t .core) f inside-s inside-t (alike-range (s .core) (t .core) _ _ w))
 
-      taken-match : Match (takenOf (s .desk) (s .core) p block) (takenOf (t .desk) (t .core) p block)
+      taken-match : Match (takenOf (s .desk) (s .core) p (loadIn l) (stageIn l) block) (takenOf (t .desk) (t .core) p (loadIn l) (stageIn l) block)
       unfolding takenOf loadIn
       taken-match =
-          rw (place-same, laws .same-step (loadIn l) (stageIn l) block (t .core) (s .core) (held-fit (s .desk) ok p held) inside-t inside-s) (settled-match _ _ _ after-alike)
+          rw (laws .same-step (loadIn l) (stageIn l) block (t .core) (s .core) (held-fit (s .desk) ok p held) inside-t inside-s) (settled-match _ _ _ after-alike)
 
-      checked-match : (v : Verdict) → Match (checkedOf (s .desk) (s .core) p block v) (checkedOf (t .desk) (t .core) p block v)
+      checked-match : (v : Verdict)
+          → Match (checkedOf (s .desk) (s .core) (takenOf (s .desk) (s .core) p (loadIn l) (stageIn l) block) v)
+          (checkedOf (t .desk) (t .core) (takenOf (t .desk) (t .core) p (loadIn l) (stageIn l) block) v)
       unfolding checkedOf
       checked-match Pass = taken-match
       checked-match (refused-block f) = (refl, same)

@@ -41,13 +41,12 @@ use Rattle.calls.specs.Answer.{Small}
 use Rattle.calls.specs.Outcome.{Outcome, refused}
 use Rattle.calls.proofs.Entry.{entered-cases}
 use Rattle.feed.specs.Block.{blockStep}
-use Rattle.sections.specs.Load.{Load}
+use Rattle.sections.specs.Load.{Load, Waits}
 use Rattle.sections.specs.Program.{StepMeets}
 use Rattle.feed.specs.Feed.{loadIn, wiped, staged, settledOf, takenOf, checkedOf, heldOf, feedOf}
-use Rattle.feed.proofs.Laws.{Holds}
 use Rattle.feed.proofs.Blocked.{block-laws}
 use Rattle.feed.proofs.Wiped.{settled-same}
-use Rattle.feed.proofs.Held.{length-numbers, held-inside, held-fit}
+use Rattle.feed.proofs.Held.{length-numbers, held-inside, held-fit, fit-waiting}
 
 -- a place that a room holds is one, and is held
 pub holds-place : (d : List ℕ) (r p : ℕ) → holds d r p ≡ true → (p < 12) × (holderIn d p ≡ 0 → ⊥)
@@ -73,7 +72,7 @@ verdict-pass r block = verdict-cases r block (λ v. v ≡ Pass → (length block
 -- ---- every outcome of feed is a refusal that changes nothing, or what a block leads to at a held place
 module _ (d core block : List ℕ) (r p : ℕ) (P : Outcome → Type 0) (none : (n : ℕ) → n ≤ 12 → P (refused n d core))
     (takes : sound d ≡ true → length core ≡ coreLength d → holds d r p ≡ true → isOver (stageIn (placeIn d p)) ≡ false → length block ≡ 256
-    → every isWord block ≡ true → P (takenOf d core p block)) where
+    → every isWord block ≡ true → P (takenOf d core p (loadIn (placeIn d p)) (stageIn (placeIn d p)) block)) where
   pub feed-outcomes : P (feedOf d core r p block)
   unfolding feedOf heldOf checkedOf
   feed-outcomes =
@@ -81,7 +80,7 @@ module _ (d core block : List ℕ) (r p : ℕ) (P : Outcome → Type 0) (none : 
       (λ k. when P (holds d r p)
       (λ h. when P (isOver (stageIn (placeIn d p)))
       (λ o. none 10 (omega arith))
-      (λ o. verdict-cases (recordDue (stageIn (placeIn d p))) block (λ v. P (checkedOf d core p block v))
+      (λ o. verdict-cases (recordDue (stageIn (placeIn d p))) block (λ v. P (checkedOf d core (takenOf d core p (loadIn (placeIn d p)) (stageIn (placeIn d p)) block) v))
       (λ l w. takes (k .desk) (k .core) h o l w)
       (none 11 (omega arith))
       (none 12 (omega arith))))
@@ -151,16 +150,12 @@ module _ (d core block : List ℕ) (r p : ℕ) where
       (λ f s e h q. omega (arith, block-laws .faults load due block core f q))
 
 -- a block that is taken, from what its step told and left
-pub taken-met : (d core block : List ℕ) (p : ℕ) (s : sound d ≡ true) (h : p < 12) (z : holderIn d p ≡ 0 → ⊥) → length core ≡ coreLength d
-    → (r : Step) (after : List ℕ) → StepMeets (blockStep (loadIn (placeIn d p)) (stageIn (placeIn d p)) block core) r after
-    → settledOf d after p (loadIn (placeIn d p) .area) r after ≡ takenOf d core p block
+pub taken-met : (d core block : List ℕ) (p : ℕ) (x : Load) (s : Stage) → Waits x s block core → (r : Step) (after : List ℕ)
+    → StepMeets (blockStep x s block core) r after → settledOf d after p (x .area) r after ≡ takenOf d core p x s block
 unfolding takenOf
-taken-met d core block p s h z e r after m =
-    let x = loadIn (placeIn d p) in
-    let t = stageIn (placeIn d p) in
-    let f = held-fit d s p h z in
-    let i : Holds x core = rw e (held-inside d s p h z) in
-    settled-same d core after p (x .area) r i (ap length (m .left) ∙ block-laws .long x t block core f i)
-    (λ j b. ap (λ (l : List ℕ). getD l j 0) (m .left) ∙ block-laws .beside x t block core f i j b)
+taken-met d core block p x s w r after m =
+    let f = fit-waiting x s block core w in
+    settled-same d core after p (x .area) r (w .inside) (ap length (m .left) ∙ block-laws .long x s block core f (w .inside))
+    (λ j b. ap (λ (l : List ℕ). getD l j 0) (m .left) ∙ block-laws .beside x s block core f (w .inside) j b)
     ∙ ap (λ (q : Step). settledOf d core p (x .area) q after) (m .told)
-    ∙ ap (settledOf d core p (x .area) (blockStep x t block core .step)) (m .left)
+    ∙ ap (settledOf d core p (x .area) (blockStep x s block core .step)) (m .left)

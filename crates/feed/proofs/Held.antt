@@ -10,10 +10,11 @@ use Rattle.word.proofs.Cases.{and-left}
 use Rattle.word.proofs.Lists.{length-tab}
 use Rattle.lists.specs.Kept.{numberIn, numbersIn}
 use Rattle.lists.specs.Obey.{tableInside, tablesObey}
+use Rattle.stage.specs.declared.Stage.{Stage}
 use Rattle.layout.specs.Layout.{coreLength, holderIn, placeIn, stageIn, iosIn}
 use Rattle.desk.specs.Sound.{sound, ownIn, HeldFacts}
 use Rattle.desk.proofs.Facts.{held-facts}
-use Rattle.sections.specs.Load.{Waits}
+use Rattle.sections.specs.Load.{Load, Waits}
 use Rattle.feed.specs.Feed.{loadIn}
 use Rattle.feed.proofs.Laws.{Fit}
 
@@ -21,6 +22,10 @@ use Rattle.feed.proofs.Laws.{Fit}
 pub length-numbers : (ws : List ℕ) (n : ℕ) → length (numbersIn ws n) ≡ n
 unfolding numbersIn
 length-numbers ws n = length-tab (numberIn ws) n
+
+-- a load that waits for a block fits
+pub fit-waiting : (x : Load) (s : Stage) (block core : List ℕ) → Waits x s block core → Fit x s
+fit-waiting x s block core w = record { tables = w .tables; stage = w .stage }
 
 module _ (d : List ℕ) (s : sound d ≡ true) (p : ℕ) (h : p < 12) (z : holderIn d p ≡ 0 → ⊥) where
   facts : HeldFacts d p

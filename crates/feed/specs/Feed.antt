@@ -1,7 +1,7 @@
 -- "Feed takes room, place and one block." Refusals 1, 2, 4, 9, 10, 11 and 12 in that order, which change nothing; then 13 to 22, which "set the
 -- whole area to zero and mark the load broken". "An accepted block answers *more*, and the termination block answers *done* with the
 -- absolute start."
-use Prim.Native.Nat.{ℕ, _+_}
+use Prim.Native.Nat.{ℕ, _+_, _≤_}
 use mathlib.Core.Bool.{cond}
 use mathlib.Core.List.{List}
 use lib.ListN.{length}
@@ -18,6 +18,7 @@ use Rattle.stage.specs.declared.Step.{Step}
 use Rattle.stage.specs.declared.Step.the-variants.{More as step-more, Done as step-done, Refused as step-refused}
 use Rattle.stage.specs.Record.{recordDue, isOver}
 use Rattle.sections.specs.Load.{Load, loadOf}
+use Rattle.sections.specs.Program.{StepOutcome}
 use Rattle.layout.specs.declared.Place.{Place}
 use Rattle.layout.specs.Layout.{base, placeIn, ownOf, stageIn, iosIn, wordsIn, ranksIn, holds}
 use Rattle.calls.specs.declared.Answer.the-variants.{Refused, More, Done}
@@ -28,6 +29,10 @@ use Rattle.feed.specs.Block.{blockStep}
 -- what the load at a place was given, from the place's numbers
 abbrev pub loadBy : Place → List ℕ → Load
 loadBy o l = loadOf (o .area) (o .io) (wordsIn l (o .kept)) (ranksIn l (o .tables)) (iosIn l)
+
+-- its kept words and its tables are no more than the place has room for
+abbrev pub Listed : Place → Type 0
+Listed o = (o .kept ≤ 128) × (o .tables ≤ 128)
 
 unfoldable pub loadIn : List ℕ → Load
 loadIn l = loadBy (ownOf l) l
@@ -46,24 +51,25 @@ settledOf d core p area (step-more s) after = record { answer = More; desk = sta
 settledOf d core p area (step-done a) after = record { answer = Done a; desk = staged d p Complete; core = after }
 settledOf d core p area (step-refused f) after = record { answer = Refused f; desk = staged d p Broken; core = wiped area core }
 
--- from refusal 13 on
-unfoldable pub takenOf : List ℕ → List ℕ → ℕ → List ℕ → Outcome
-takenOf d core p block =
-    settledOf d core p (loadIn (placeIn d p) .area)
-    (blockStep (loadIn (placeIn d p)) (stageIn (placeIn d p)) block core .step)
-    (blockStep (loadIn (placeIn d p)) (stageIn (placeIn d p)) block core .core)
+-- from refusal 13 on: the load at place p was given x and waits for s
+abbrev pub settledBy : List ℕ → List ℕ → ℕ → Area → StepOutcome → Outcome
+settledBy d core p area o = settledOf d core p area (o .step) (o .core)
 
--- 11 and 12: the checksum word is where the record that is due has it
-unfoldable pub checkedOf : List ℕ → List ℕ → ℕ → List ℕ → Verdict → Outcome
-checkedOf d core p block Pass = takenOf d core p block
-checkedOf d core p block (refused-block f) = record { answer = Refused f; desk = d; core = core }
+unfoldable pub takenOf : List ℕ → List ℕ → ℕ → Load → Stage → List ℕ → Outcome
+takenOf d core p x s block = settledBy d core p (x .area) (blockStep x s block core)
 
--- from refusal 10 on
+-- 11 and 12 change nothing; a block that passes is taken
+unfoldable pub checkedOf : List ℕ → List ℕ → Outcome → Verdict → Outcome
+checkedOf d core taken Pass = taken
+checkedOf d core taken (refused-block f) = record { answer = Refused f; desk = d; core = core }
+
+-- from refusal 10 on; the checksum word is where the record that is due has it
+abbrev pub heldBy : List ℕ → List ℕ → ℕ → Load → Stage → List ℕ → Outcome
+heldBy d core p x s block =
+    cond (isOver s) (refused 10 d core) (checkedOf d core (takenOf d core p x s block) (verdict (recordDue s) block))
+
 unfoldable pub heldOf : List ℕ → List ℕ → ℕ → List ℕ → Outcome
-heldOf d core p block =
-    cond (isOver (stageIn (placeIn d p)))
-    (refused 10 d core)
-    (checkedOf d core p block (verdict (recordDue (stageIn (placeIn d p))) block))
+heldOf d core p block = heldBy d core p (loadIn (placeIn d p)) (stageIn (placeIn d p)) block
 
 unfoldable pub feedOf : List ℕ → List ℕ → ℕ → ℕ → List ℕ → Outcome
 feedOf d core r p block =

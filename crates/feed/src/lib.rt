@@ -4,17 +4,16 @@ ghost use mathlib.Core.Path.{_≡_};
 ghost use mathlib.Core.Bool.{true};
 ghost use Prim.Native.Nat.{_+_, _≤_, _<_};
 ghost use lib.ListN.{length};
-ghost use Rattle.layout.specs.Layout.{deskWords, coreLength, holderIn, placeIn, ownOf, stageIn};
+ghost use Rattle.layout.specs.Layout.{deskWords, coreLength, holderIn, placeIn, ownOf};
 ghost use Rattle.desk.specs.Sound.{sound};
 ghost use Rattle.calls.specs.Outcome.{Meets};
-ghost use Rattle.word.specs.Lists.{every};
-ghost use Rattle.word.specs.Word.{isWord};
 ghost use Rattle.sections.specs.Load.{loadOf, Waits};
 ghost use Rattle.sections.specs.Program.{StepMeets};
 ghost use Rattle.feed.specs.Block.{dueStep, blockStep};
-ghost use Rattle.feed.specs.Feed.{loadIn, staged, settledOf, takenOf, heldOf, feedOf};
+ghost use Rattle.feed.specs.Feed.{loadIn, staged, settledOf, takenOf, heldOf, feedOf, Listed, loadBy};
 use block::Verdict;
 use calls::Answer;
+use layout::Place;
 use stage::Stage;
 use stage::Step;
 use word::Area;
@@ -50,36 +49,35 @@ fn feed_held(desk: &mut [u64], core: &mut [u64], p: usize, block: &[u64]) -> Ans
         return Answer::Refused(Fault { number: 10 });
     }
     match block::check_block(block, stage::record_due(s)) {
-        Verdict::Pass => take_block(desk, core, p, block),
+        Verdict::Pass => take_block(desk, core, p, s, block),
         Verdict::Refused(f) => Answer::Refused(f),
     }
 }
 
-// A block that is whole and has its checksum.
-fn take_block(desk: &mut [u64], core: &mut [u64], p: usize, block: &[u64]) -> Answer
-    requires { ⌜ (sound (now desk) ≡ true) × (length (now core) ≡ coreLength (now desk)) × (p < 12) × (1 ≤ holderIn (now desk) p) × (length (now block) ≡ 256) × (every isWord (now block) ≡ true) ⌝ }
-    ensures { λ a. ⌜ Meets (takenOf (now (desk .entry)) (now (core .entry)) p (now (block .entry))) a (now (desk .exit)) (now (core .exit)) ⌝ }
+// A block that is whole and has its checksum, for the load at place p, which waits for s.
+fn take_block(desk: &mut [u64], core: &mut [u64], p: usize, s: Stage, block: &[u64]) -> Answer
+    requires { ⌜ (length (now desk) ≡ deskWords) × (p < 12) × (Listed (ownOf (placeIn (now desk) p))) × (Waits (loadIn (placeIn (now desk) p)) s (now block) (now core)) ⌝ }
+    ensures { λ a. ⌜ Meets (takenOf (now (desk .entry)) (now (core .entry)) p (loadIn (placeIn (now (desk .entry)) p)) s (now (block .entry))) a (now (desk .exit)) (now (core .exit)) ⌝ }
 {
-    let r = load_step(layout::place_at(desk, p), block, core);
-    let area = layout::own_of(layout::place_at(desk, p)).area;
-    settle(desk, core, p, area, r)
+    let place = layout::place_at(desk, p);
+    let own = layout::own_of(place);
+    let r = load_step(place, own, s, block, core);
+    settle(desk, core, p, own.area, r)
 }
 
-// What the block leads to for the load at a place.
-fn load_step(place: &[u64], block: &[u64], core: &mut [u64]) -> Step
-    requires { ⌜ (length (now place) ≡ 303) × (ownOf (now place) .kept ≤ 128) × (ownOf (now place) .tables ≤ 128) × (Waits (loadIn (now place)) (stageIn (now place)) (now block) (now core)) ⌝ }
-    ensures { λ r. ⌜ StepMeets (blockStep (loadIn (now (place .entry))) (stageIn (now (place .entry))) (now (block .entry)) (now (core .entry))) r (now (core .exit)) ⌝ }
+// What the block leads to for the load at a place, whose own numbers are given.
+fn load_step(place: &[u64], own: Place, s: Stage, block: &[u64], core: &mut [u64]) -> Step
+    requires { ⌜ (length (now place) ≡ 303) × (Listed own) × (Waits (loadBy own (now place)) s (now block) (now core)) ⌝ }
+    ensures { λ r. ⌜ StepMeets (blockStep (loadBy own (now (place .entry))) s (now (block .entry)) (now (core .entry))) r (now (core .exit)) ⌝ }
 {
-    let o = layout::own_of(place);
-    let s = layout::stage_of(place);
     if !block::of_record(block, stage::record_due(s)) {
         return Step::Refused(Fault { number: 13 });
     }
-    let words = layout::words_of(place, o.kept as usize);
-    let ranks = layout::ranks_of(place, o.tables as usize);
+    let words = layout::words_of(place, own.kept as usize);
+    let ranks = layout::ranks_of(place, own.tables as usize);
     due_step(
-        o.area,
-        o.io,
+        own.area,
+        own.io,
         words,
         ranks,
         layout::ios_of(place),

@@ -1,18 +1,20 @@
--- `feed::feed_held` meets its contract: each return by the tests that led to it. Assumes nothing.
-use Rattle.feed.proofs.Fed.{verdict-pass}
+-- `feed::feed_held`: the stage is the place's; each return by the tests that led to it. Assumes nothing.
 use mathlib.Core.Path.{refl, sym, _∙_}
-use Rattle.desk.proofs.Facts.{sound-long}
+use native.Mathlib.Omega.{arith}
+use Rattle.desk.proofs.Facts.{sound-long, held-facts}
 use Rattle.layout.proofs.Places.{place-length}
 use Rattle.feed.specs.Feed.{heldOf, checkedOf}
+use Rattle.feed.proofs.Held.{held-waits}
+use Rattle.feed.proofs.Fed.{verdict-pass}
 use borrow.Author.Needs.{needs}
 use Rattle.feed.proofs.feed_held.Statement.{statement}
 use Rattle.feed.proofs.feed_held.Tie as tie
 
 place-at-requires : tie.Need-place-at-requires
-place-at-requires c κs = (sound-long _ (c .before .before .before .before .pre .0), c .before .before .before .before .pre .2)
+place-at-requires c κs = let q = c .before .before .before .before .pre in (sound-long _ (q .0), q .2)
 
 stage-of-requires : tie.Need-stage-of-requires
-stage-of-requires c κs = rw (c .place-at .ensures) (place-length _ (sound-long _ (c .before .before .before .before .before .pre .0)) _ (c .before .before .before .before .before .pre .2))
+stage-of-requires c κs = let q = c .before .before .before .before .before .pre in rw (c .place-at .ensures) (place-length _ (sound-long _ (q .0)) _ (q .2))
 
 is-over-requires : tie.Need-is-over-requires
 is-over-requires c κs = search needs
@@ -22,7 +24,8 @@ same-length c = search needs
 
 returns : tie.Need-returns
 unfolding heldOf
-returns c = rw (← (c .before .before .before .place-at .ensures), ← (c .before .before .stage-of .ensures), sym (c .before .is-over .ensures) ∙ c .if1 .taken) (record { told = refl; desk-left = refl; core-left = refl })
+returns c = let e = rw (c .before .before .before .place-at .ensures) at (c .before .before .stage-of .ensures) in
+    rw (← e, sym (c .before .is-over .ensures) ∙ c .if1 .taken) (record { told = refl; desk-left = refl; core-left = refl })
 
 record-due-requires : tie.Need-record-due-requires
 record-due-requires c κs = search needs
@@ -34,7 +37,11 @@ enum-told : tie.Need-enum-told
 enum-told c = search needs
 
 take-block-requires : tie.Need-take-block-requires
-take-block-requires c κs = let v = verdict-pass _ _ (sym (c .before .before .before .before .check-block .ensures) ∙ c .before .before .enum-told .given .1) in (c .before .before .before .before .before .before .before .before .before .before .before .before .before .before .pre .0, c .before .before .before .before .before .before .before .before .before .before .before .before .before .before .pre .1, c .before .before .before .before .before .before .before .before .before .before .before .before .before .before .pre .2, c .before .before .before .before .before .before .before .before .before .before .before .before .before .before .pre .3, v .0, v .1)
+take-block-requires c κs = let q = c .before .before .before .before .before .before .before .before .before .before .before .before .before .before .pre in
+    let e = rw (c .before .before .before .before .before .before .before .before .before .place-at .ensures) at (c .before .before .before .before .before .before .before .before .stage-of .ensures) in
+    let f = held-facts _ (q .0) _ (q .2) (λ z. omega (arith, q .3)) in
+    let v = verdict-pass _ _ (sym (c .before .before .before .before .check-block .ensures) ∙ c .before .before .enum-told .given .1) in
+    (sound-long _ (q .0), q .2, (f .kept, f .tables), rw e (held-waits _ (q .0) _ (q .2) (λ z. omega (arith, q .3)) _ _ (q .1) (v .0) (v .1)))
 
 enum-known-f : tie.Need-enum-known-f
 enum-known-f c = search needs
@@ -47,14 +54,16 @@ same-length-3 c = search needs
 
 returns-2 : tie.Need-returns-2
 unfolding heldOf checkedOf
-returns-2 c = rw (← (c .before .before .before .before .before .before .before .before .before .before .before .before .before .before .place-at .ensures), ← (c .before .before .before .before .before .before .before .before .before .before .before .before .before .stage-of .ensures), sym (c .before .before .before .before .before .before .before .before .before .before .before .before .is-over .ensures) ∙ c .before .before .before .before .before .before .before .before .before .before .before .if1 .left, ← (c .before .before .before .before .before .before .before .before .before .before .record-due .ensures), sym (c .before .before .before .before .before .before .before .before .before .check-block .ensures) ∙ c .before .before .before .before .before .before .before .enum-told .given .1) (c .before .before .before .before .take-block .ensures)
+returns-2 c = let e = rw (c .before .before .before .before .before .before .before .before .before .before .before .before .before .before .place-at .ensures) at (c .before .before .before .before .before .before .before .before .before .before .before .before .before .stage-of .ensures) in
+    rw (← e, sym (c .before .before .before .before .before .before .before .before .before .before .before .before .is-over .ensures) ∙ c .before .before .before .before .before .before .before .before .before .before .before .if1 .left, ← (c .before .before .before .before .before .before .before .before .before .before .record-due .ensures), sym (c .before .before .before .before .before .before .before .before .before .check-block .ensures) ∙ c .before .before .before .before .before .before .before .enum-told .given .1) (c .before .before .before .before .take-block .ensures)
 
 same-length-4 : tie.Need-same-length-4
 same-length-4 c = search needs
 
 returns-3 : tie.Need-returns-3
 unfolding heldOf checkedOf
-returns-3 c = rw (← (c .before .before .before .before .before .before .before .before .place-at .ensures), ← (c .before .before .before .before .before .before .before .stage-of .ensures), sym (c .before .before .before .before .before .before .is-over .ensures) ∙ c .before .before .before .before .before .if1 .left, ← (c .before .before .before .before .record-due .ensures), sym (c .before .before .before .check-block .ensures) ∙ c .before .f .given .1) (record { told = refl; desk-left = refl; core-left = refl })
+returns-3 c = let e = rw (c .before .before .before .before .before .before .before .before .place-at .ensures) at (c .before .before .before .before .before .before .before .stage-of .ensures) in
+    rw (← e, sym (c .before .before .before .before .before .before .is-over .ensures) ∙ c .before .before .before .before .before .if1 .left, ← (c .before .before .before .before .record-due .ensures), sym (c .before .before .before .check-block .ensures) ∙ c .before .f .given .1) (record { told = refl; desk-left = refl; core-left = refl })
 
 pub feed-held-spec : {M : Type 1} → statement M
 feed-held-spec =
