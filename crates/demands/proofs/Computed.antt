@@ -14,7 +14,7 @@ use Rattle.program.specs.Sections.{bankOf, segmentOf, tableSectionOf}
 use Rattle.program.specs.Groups.{groupOf}
 use Rattle.indicator.specs.Indicator.{bitsOf, indicatorBits, bitsBefore, numberAt, indicatorAt, afterField, afterWord, afterAll}
 use Rattle.field.specs.Field.{valued, movedField, becomes, putBack, fieldStep}
-use Rattle.group.specs.Group.{halfStep, wordStep, changedWords, homeIn, homeOf, settled, counted, homed, fitted, grouped, groupStep}
+use Rattle.group.specs.Group.{halfStep, wordStep, changedWords, groupStep, wordsLie, addressOf, indicatorsFit, groupFits, refusedGroup, storedGroup, groupOutcome, readOutcome}
 use Rattle.demands.specs.Image.{headAt, piecesFrom, pieces, storeOf, groupsFrom, upToLast, storesFrom, reached, wordFrom, storesBeyond, storesOf, imageOf, fileStart}
 use Rattle.hand_deck.specs.Blocks.{withWords, blank, deckLabel, deckProgram, deckTermination, deckFile}
 use Rattle.demands.specs.HandDeck.{deckGiven}
@@ -39,7 +39,7 @@ unfolding deckLabel deckProgram deckTermination withWords blank imageOf storesOf
     characters
     tableWordsIn tableWords tablesInOrder entriesOf countsOf withinLimits everyTwo
     range finished programWordFits pieces piecesFrom headAt groupOf tableSectionOf segmentOf bankOf groupsFrom upToLast storesFrom
-    storeOf homeOf homeIn within changedWords wordStep halfStep fieldStep becomes movedField valued putBack bitsOf flatMap indicatorBits
+    storeOf wordsLie addressOf within changedWords wordStep halfStep fieldStep becomes movedField valued putBack bitsOf flatMap indicatorBits
     bitsBefore numberAt indicatorAt afterField afterWord wordFrom reached tab
 deck-image = refl
 
@@ -58,10 +58,10 @@ afterwards = blockStep deckGiven (Program (record { near = 0; sections = 0 }) Se
 pub deck-taken : Takes deckGiven Label core deckFile Complete afterwards
 unfolding deckLabel deckProgram deckTermination withWords blank labelOf isName isRest letterOrDigit every characters
     tableWordsIn tableWords tablesInOrder entriesOf countsOf withinLimits everyTwo tab
-    range finished programWordFits groupOf tableSectionOf segmentOf bankOf homeOf homeIn within changedWords wordStep halfStep fieldStep
+    range finished programWordFits groupOf tableSectionOf segmentOf bankOf wordsLie addressOf within changedWords wordStep halfStep fieldStep
     becomes movedField valued putBack bitsOf flatMap indicatorBits bitsBefore numberAt indicatorAt afterField afterWord Takes isOver blockStep
     dueStep recordDue labelStep withLabel afterLabel assignmentsFit programStep programFrom closes itemStep segmentStep withSegment banksFit
-    bankFits apart afterGroup afterLast groupStep grouped fitted homed counted settled afterAll terminationStep inBank spelt modification
+    bankFits apart afterGroup afterLast groupStep readOutcome groupOutcome groupFits indicatorsFit storedGroup refusedGroup afterAll terminationStep inBank spelt modification
     program termination
 deck-taken = (refl, (refl, (refl, (refl, refl))))
 

@@ -29,12 +29,12 @@ use Rattle.lists.specs.declared.Table.{Table as CoreTable}
 use Rattle.lists.specs.Obey.{noTable, tableInside}
 use Rattle.field.specs.Field.{Assignments}
 use Rattle.group.specs.declared.GroupStep.the-variants.{Done as group-answer}
-use Rattle.group.specs.declared.Home.the-variants.{At}
 use Rattle.group.specs.declared.Section.{Section}
 use Rattle.group.specs.declared.Section.the-variants.{Segment as InSegment, Table as InTable}
 use Rattle.group.specs.Group.{Outcome, wordsIn, bitsIn, groupStep, InArea}
-use Rattle.group.proofs.Homes.{Lies, home-lies}
-use Rattle.group.proofs.Group.{Housed, Gives, changed-many, group-outcomes}
+use Rattle.group.proofs.Places.{Lies, words-lie}
+use Rattle.group.proofs.Words.{changed-many}
+use Rattle.group.proofs.Group.{Goes as GroupGoes, Gives, group-outcomes}
 use Rattle.stage.specs.declared.Course.{Course}
 use Rattle.stage.specs.declared.Due.{Due}
 use Rattle.stage.specs.declared.Due.the-variants.{Segment as segment-due, SegmentGroup, Section as section-due, SectionGroup}
@@ -166,19 +166,19 @@ module _ (x : Load) (near : ℕ) (tables : every (tableInside (x .area)) (x .tab
           rw s at (ih c (section-due (record { 0 = least }) ibank) p core′ e k section q))
       goes p core′ false = λ e k. rw left at (ih c same p core′ e k section stands)
 
-      module _ (g : Group) (to : Absolute) (vs : List ℕ) (h : Housed (assignments x c) section block i g to) (e : Gives (assignments x c) block i g vs) where
+      module _ (g : Group) (to : Absolute) (vs : List ℕ) (h : GroupGoes (assignments x c) section block i g to) (e : Gives (assignments x c) block i g vs) where
         abbrev store : Store
         store = record { at = to .0; words = vs }
 
         store-is : storeOf a section block i g ≡ store
         unfolding storeOf
-        store-is = let d : Gives a block i g vs = rw q at e in rw (h .home, d)
+        store-is = let d : Gives a block i g vs = rw q at e in rw (h .lies, h .address, d)
 
         store-inside : Inside (x .area) store
         store-inside =
-            let l : Lies (x .area) g (At to) = rw (h .home) at (home-lies (x .area) section g room) in
+            let l : Lies (x .area) g to = rw (h .address) at (words-lie (x .area) section g room (h .lies)) in
             let m = rw e at (changed-many (assignments x c) (bitsIn block i g) 0 (wordsIn block i g)) in
-            record { first = l .0; last = omega (arith, m, length-range-most block (i + 1) (g .program)) }
+            record { first = l .low; last = omega (arith, m, l .high, length-range-most block (i + 1) (g .program)) }
 
         stored-leads : Leads (then (afterGroup c same least ibank (group-answer (i + 1 + g .words) (g .last))) (splice core (to .0) vs))
             (Comes (x .area) core (storesFrom a (suc (c .sections)) section ps) after)
@@ -195,7 +195,7 @@ module _ (x : Load) (near : ℕ) (tables : every (tableInside (x .area)) (x .tab
           (λ (o : Outcome). Leads (then (afterGroup c same least ibank (o .answer)) (o .core)) (Comes (x .area) core (storesFrom a (suc (c .sections)) section ps) after))
           (λ f. refuses _ f _)
           (λ g to f h. refuses _ f _)
-          (λ g to vs h e. stored-leads g to vs h e)
+          (λ g to vs h t e. stored-leads g to vs h e)
 
     -- ---- the segment's head
     module _ (c : Course) where

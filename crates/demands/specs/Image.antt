@@ -31,11 +31,9 @@ use Rattle.program.specs.Start.{startOf}
 use Rattle.lists.specs.declared.Table.{Table as CoreTable}
 use Rattle.lists.specs.Obey.{noTable}
 use Rattle.field.specs.Field.{Assignments}
-use Rattle.group.specs.declared.Home.{Home}
-use Rattle.group.specs.declared.Home.the-variants.{At, Outside}
 use Rattle.group.specs.declared.Section.{Section}
 use Rattle.group.specs.declared.Section.the-variants.{Segment as InSegment, Table as InTable}
-use Rattle.group.specs.Group.{Words, changedWords, wordsIn, bitsIn, homeOf}
+use Rattle.group.specs.Group.{Words, changedWords, wordsIn, bitsIn, wordsLie, addressOf}
 use Rattle.group.specs.Group.Words.{Become, Refuse}
 
 -- ---- the pieces of a program block. A word says by its bits 35-34 what it heads: 10 a group, 01 a table section, zeros the segment section,
@@ -101,18 +99,17 @@ pub record Store : Type 0 where
   pub at : ℕ
   pub words : List ℕ
 
--- a group whose fields are refused, or that has no home, stores nothing; in a file that is loaded there is none
+-- a group whose fields are refused, or whose words do not lie where they must, stores nothing; in a file that is loaded there is none
 abbrev pub wordsOr : Words → List ℕ
 wordsOr (Become vs) = vs
 wordsOr (Refuse f) = []
 
-abbrev pub storeAt : Assignments → List ℕ → ℕ → Group → Home → Store
-storeAt a block i g (At to) = record { at = to .0; words = wordsOr (changedWords a (bitsIn block i g) 0 (wordsIn block i g)) }
-storeAt a block i g Outside = record { at = 0; words = [] }
-
 -- a group of a section: its program words, changed by their indicators, where the section puts them
 unfoldable pub storeOf : Assignments → Section → List ℕ → ℕ → Group → Store
-storeOf a section block i g = storeAt a block i g (homeOf (a .area) section g)
+storeOf a section block i g =
+    cond (wordsLie section g)
+    (record { at = addressOf (a .area) section g .0; words = wordsOr (changedWords a (bitsIn block i g) 0 (wordsIn block i g)) })
+    (record { at = 0; words = [] })
 
 -- ---- the groups in order, each with the section that it stands in
 pub record SectionGroup : Type 0 where

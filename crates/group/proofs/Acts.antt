@@ -6,13 +6,11 @@ use mathlib.Core.List.{List, []}
 use mathlib.Core.Logic.{inl, inr}
 use native.Mathlib.Omega.{arith}
 use lib.ListN.{length, getD, replicate, length-replicate}
-use lib.Dec.{leb}
-use Rattle.word.specs.declared.Absolute.{Absolute}
 use Rattle.word.specs.declared.Area.{Area}
 use Rattle.word.specs.declared.Fault.{Fault}
 use Rattle.word.specs.Fault.{fault}
 use Rattle.word.specs.Lists.{splice, cleared}
-use Rattle.word.proofs.Cases.{by-lt}
+use Rattle.word.proofs.Cases.{by-test, by-lt}
 use Rattle.word.proofs.Lists.{length-range-most, getD-splice-in}
 use Rattle.word.proofs.Stretch.{splice-none, getD-splice-beside}
 use Rattle.program.specs.declared.Group.{Group}
@@ -20,16 +18,14 @@ use Rattle.program.specs.declared.GroupRead.{GroupRead}
 use Rattle.program.specs.declared.GroupRead.the-variants.{Good, Bad}
 use Rattle.program.specs.Groups.{groupOf}
 use Rattle.field.specs.Field.{Assignments}
-use Rattle.indicator.specs.Indicator.{afterAll, justEnough}
 use Rattle.group.specs.declared.GroupStep.{GroupStep}
 use Rattle.group.specs.declared.GroupStep.the-variants.{Done, Refused}
-use Rattle.group.specs.declared.Home.{Home}
-use Rattle.group.specs.declared.Home.the-variants.{At, Outside}
 use Rattle.group.specs.declared.Section.{Section}
-use Rattle.group.specs.Group.{Words, changedWords, wordsIn, bitsIn, homeOf, Outcome, untouched, zeroed, settled, counted, homed, fitted, grouped, groupStep, InArea}
+use Rattle.group.specs.Group.{Words, changedWords, wordsIn, bitsIn, wordsLie, groupFits, Outcome, addressOf, refusedGroup, storedGroup, groupOutcome, readOutcome, groupStep, InArea}
 use Rattle.group.specs.Group.Words.{Become, Refuse}
-use Rattle.group.proofs.Group.{Many, changed-many}
-use Rattle.group.proofs.Homes.{Lies, home-lies}
+use Rattle.group.proofs.Group.{untouched, group-fits}
+use Rattle.group.proofs.Places.{words-lie}
+use Rattle.group.proofs.Words.{Many, changed-many}
 
 -- one answer, and one stretch of words of the area, whatever the core holds
 pub record Acts (area : Area) (f : List ℕ → Outcome) : Type 0 where
@@ -42,8 +38,8 @@ pub record Acts (area : Area) (f : List ℕ → Outcome) : Type 0 where
   pub left : (core : List ℕ) → f core .core ≡ splice core to words
 
 module _ (area : Area) where
-  choose : (b : Bool) (f g : List ℕ → Outcome) → Acts area f → Acts area g → Acts area (λ core. cond b (f core) (g core))
-  choose true f g p q = p
+  choose : (b : Bool) (f g : List ℕ → Outcome) → (b ≡ true → Acts area f) → Acts area g → Acts area (λ core. cond b (f core) (g core))
+  choose true f g p q = p refl
   choose false f g p q = q
 
   untouched-acts : (f : Fault) → Acts area (λ core. untouched core f)
@@ -57,54 +53,51 @@ module _ (area : Area) where
     left = λ core. sym (splice-none core (area .at .0));
   }
 
-  module _ (g : Group) (to : Absolute) (l : Lies area g (At to)) where
-    zeroed-acts : (f : Fault) → Acts area (λ core. zeroed g to core f)
-    unfolding cleared
-    zeroed-acts f = record {
-      answer = Refused f;
-      to = to .0;
-      words = replicate (g .program) 0;
-      low = l .0;
-      high = rw length-replicate (l .1);
-      told = λ core. refl;
-      left = λ core. refl;
-    }
+  module _ (section : Section) (g : Group) (room : InArea area section) where
+    -- the words cleared, if they lie where they must
+    refused-acts : (f : Fault) → Acts area (λ core. refusedGroup area section g core f)
+    unfolding refusedGroup cleared
+    refused-acts f = by-test (wordsLie section g)
+        (λ q. let l = words-lie area section g room q in
+        rw q
+        (record {
+          answer = Refused f;
+          to = addressOf area section g .0;
+          words = replicate (g .program) 0;
+          low = l .low;
+          high = rw length-replicate (l .high);
+          told = λ core. refl;
+          left = λ core. refl;
+        }))
+        (λ q. rw q (untouched-acts f))
 
-    settled-acts : (i n : ℕ) → n ≤ g .program → (r : Words) → Many n r → Acts area (λ core. settled i g to core r)
-    unfolding settled
-    settled-acts i n few (Become vs) m = record {
-      answer = Done (i + 1 + g .words) (g .last);
-      to = to .0;
-      words = vs;
-      low = l .0;
-      high = omega arith;
-      told = λ core. refl;
-      left = λ core. refl;
-    }
-    settled-acts i n few (Refuse f) m = zeroed-acts f
+    stored-acts : wordsLie section g ≡ true → (i n : ℕ) → n ≤ g .program → (r : Words) → Many n r → Acts area (λ core. storedGroup area section i g core r)
+    unfolding storedGroup
+    stored-acts q i n few (Become vs) m =
+        let l = words-lie area section g room q in
+        record {
+          answer = Done (i + 1 + g .words) (g .last);
+          to = addressOf area section g .0;
+          words = vs;
+          low = l .low;
+          high = omega (arith, l .high, m);
+          told = λ core. refl;
+          left = λ core. refl;
+        }
+    stored-acts q i n few (Refuse f) m = refused-acts f
 
 module _ (a : Assignments) (section : Section) (block : List ℕ) (i : ℕ) where
-  homed-acts : (g : Group) (home : Home) → Lies (a .area) g home → Acts (a .area) (λ core. homed a block i g home core)
-  unfolding homed counted
-  homed-acts g (At to) l =
-      choose (a .area) (justEnough (afterAll (bitsIn block i g) 0 (wordsIn block i g)) (g .words - g .program)) _ _
-      (settled-acts (a .area) g to l i (length (wordsIn block i g)) (length-range-most block (i + 1) (g .program)) (changedWords a (bitsIn block i g) 0 (wordsIn block i g)) (changed-many a (bitsIn block i g) 0 (wordsIn block i g)))
-      (zeroed-acts (a .area) g to l (fault 18))
-  homed-acts g Outside l = untouched-acts (a .area) (fault 18)
-
-  grouped-acts : InArea (a .area) section → (r : GroupRead) → Acts (a .area) (λ core. grouped a section block i r core)
-  unfolding grouped fitted
-  grouped-acts room (Good g) =
-      choose (a .area) (leb (i + g .words) 254) _ _
-      (choose (a .area) (leb (g .program) (g .words)) _ _
-      (homed-acts g (homeOf (a .area) section g) (home-lies (a .area) section g room))
-      (untouched-acts (a .area) (fault 18)))
-      (untouched-acts (a .area) (fault 18))
-  grouped-acts room (Bad f) = untouched-acts (a .area) f
+  read-acts : InArea (a .area) section → (r : GroupRead) → Acts (a .area) (λ core. readOutcome a section block i core r)
+  unfolding readOutcome groupOutcome
+  read-acts room (Good g) =
+      choose (a .area) (groupFits section block i g) _ _
+      (λ q. stored-acts (a .area) section g room (group-fits section block i g q .lies) i (length (wordsIn block i g)) (length-range-most block (i + 1) (g .program)) (changedWords a (bitsIn block i g) 0 (wordsIn block i g)) (changed-many a (bitsIn block i g) 0 (wordsIn block i g)))
+      (refused-acts (a .area) section g room (fault 18))
+  read-acts room (Bad f) = untouched-acts (a .area) f
 
   pub group-acts : InArea (a .area) section → Acts (a .area) (groupStep a section block i)
   unfolding groupStep
-  group-acts room = grouped-acts room (groupOf (getD block i 0))
+  group-acts room = read-acts room (groupOf (getD block i 0))
 
 -- ---- two cores that hold the area, with the same words in it
 abbrev pub Alike : Area → List ℕ → List ℕ → Type 0

@@ -10,11 +10,12 @@ use borrow.Author.Tests.{lt-ltb, le-ltb, eqb-true}
 use Rattle.word.specs.declared.Half.{Half}
 use Rattle.word.specs.declared.Half.the-variants.{Left, Right}
 use Rattle.word.specs.Fault.{fault}
-use Rattle.word.specs.Word.{fieldOf}
+use Rattle.word.specs.Sorts.{absoluteOf}
+use Rattle.word.specs.Word.{fieldOf, fieldStored}
 use Rattle.word.proofs.Cases.{by-lt}
 use Rattle.field.specs.declared.Changed.{Changed}
 use Rattle.field.specs.declared.Changed.the-variants.{Word, Refused}
-use Rattle.field.specs.Field.{Assignments, valued, movedField, becomes, putBack, fieldStep}
+use Rattle.field.specs.Field.{Assignments, relative, valued, movedField, becomes, putBack, fieldStep}
 use Rattle.field.proofs.Field.{step-word, step-across}
 use Rattle.indicator.specs.declared.Indicator.{Indicator}
 use Rattle.indicator.specs.declared.Indicator.the-variants.{Same, Change, Long}
@@ -22,10 +23,11 @@ use Rattle.indicator.specs.Indicator.{InBlock, bitsBefore}
 use Rattle.indicator.specs.declared.Cursor.{Cursor}
 use Rattle.indicator.specs.HowCursor.{Sees, lookOf, pastOf, pastField, pastWord}
 use Rattle.indicator.proofs.Reading.{look-is, field-sees, field-past}
-use Rattle.group.specs.declared.halves.Stepped.{Stepped}
-use Rattle.group.specs.declared.halves.Stepped.the-variants.{Next, Stop}
+use Rattle.group.specs.declared.halves.WordChange.{WordChange}
+use Rattle.group.specs.declared.halves.WordChange.the-variants.{Next, Stop}
 use Rattle.group.specs.Group.{halfStep, thenHalf, wordStep}
-use Rattle.group.specs.Turns.{sameIn, typeIn, moreIn, onward, halfOf, thenRight, bothOf, isMoved, movedWord, pastTwo}
+use Rattle.group.specs.HowHalves.{sameIn, typeIn, moreIn, onward, halfOf, thenRight, bothOf, isMoved, movedWord}
+use Rattle.group.specs.HowWords.{pastTwo}
 
 -- of the bits 01000 the first tells no change, the others type 000
 look-same : (x f : ℕ) → x / 576460752303423488 ≡ 8 → lookOf x f ≡ Same
@@ -82,7 +84,7 @@ module _ (a : Assignments) where
     unfolding halfOf pastField
     half-stays d q p = rw (← e, ← k, half-same h m w q, p)
 
-    pub half-changes : (t x : ℕ) (r : Changed) (s : Stepped) → sameIn m ≡ false → t ≡ typeIn m → x ≡ moreIn m → r ≡ fieldStep a h t w x
+    pub half-changes : (t x : ℕ) (r : Changed) (s : WordChange) → sameIn m ≡ false → t ≡ typeIn m → x ≡ moreIn m → r ≡ fieldStep a h t w x
         → s ≡ onward r (λ v. Next v (pastOf c m)) → s ≡ halfOf a h w c
     unfolding halfOf pastField
     half-changes t x r s q i j p o = rw (← e, ← k, half-other h m w q, ← i, ← j, ← p) o
@@ -124,18 +126,13 @@ module _ (a : Assignments) where
       given (Refused x) e = refl
 
   -- ---- the bits 01000
-  moved-field : (w : ℕ) → halfStep a Right (Change 0) w ≡ putBack 0 16 w (valued (a .area .at .0 + w % 65536))
+  moved-field : (w : ℕ) → halfStep a Right (Change 0) w ≡ putBack 0 16 w (valued (absoluteOf (a .area) (relative (fieldOf Right w)) .0))
   unfolding halfStep fieldStep becomes movedField
-  moved-field w = let e : w / 1 ≡ w = omega arith in rw e
+  moved-field w = refl
 
-  moved-right : (w : ℕ) (d : Cursor) → onward (putBack 0 16 w (valued (a .area .at .0 + w % 65536))) (λ v. Next v d)
-      ≡ cond (ltb (w % 65536 + a .area .at .0) 65536) (Next (w + a .area .at .0) d) (Stop (fault 21))
+  moved-right : (w v : ℕ) (d : Cursor) → onward (putBack 0 16 w (valued v)) (λ u. Next u d) ≡ cond (ltb v 65536) (Next (fieldStored Right w v) d) (Stop (fault 21))
   unfolding putBack valued
-  moved-right w d =
-      let v = w % 65536 + a .area .at .0 in
-      let e : a .area .at .0 + w % 65536 ≡ v = omega arith in
-      let p : (w / 65536 * 65536 + v) * 1 + w % 1 ≡ w + a .area .at .0 = omega arith in
-      rw e (by-lt v 65536 (λ l. rw (lt-ltb v 65536 l, p)) (λ l. rw (le-ltb v 65536 l)))
+  moved-right w v d = by-lt v 65536 (λ l. rw (lt-ltb v 65536 l)) (λ l. rw (le-ltb v 65536 l))
 
   pub moved-both : (w : ℕ) (c : Cursor) → isMoved c ≡ true → bothOf a w c ≡ movedWord (a .area) w c
   unfolding bothOf halfOf halfStep movedWord pastField pastOf
@@ -145,7 +142,7 @@ module _ (a : Assignments) where
       let j : c .ahead * 2 % 18446744073709551616 * 16 % 18446744073709551616 ≡ c .ahead * 32 % 18446744073709551616 = omega arith in
       rw (look-same (c .ahead) (fieldOf Left w) e, look-moved (c .ahead) (fieldOf Right w) e, i, j)
       (ap (λ (r : Changed). onward r (λ v. Next v (record { at = c .at + 5; ahead = c .ahead * 32 % 18446744073709551616; words = c .words; edge = c .edge }))) (moved-field w)
-      ∙ moved-right w (record { at = c .at + 5; ahead = c .ahead * 32 % 18446744073709551616; words = c .words; edge = c .edge }))
+      ∙ moved-right w (absoluteOf (a .area) (relative (fieldOf Right w)) .0) (record { at = c .at + 5; ahead = c .ahead * 32 % 18446744073709551616; words = c .words; edge = c .edge }))
 
   -- ---- the bits 00
   pub plain-both : (w : ℕ) (c : Cursor) → c .ahead < 4611686018427387904 → bothOf a w c ≡ Next w (pastTwo c)

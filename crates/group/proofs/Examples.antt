@@ -13,7 +13,7 @@ use Rattle.indicator.specs.Indicator.{bitsOf, indicatorBits, bitsBefore, number
 use Rattle.group.specs.declared.GroupStep.the-variants.{Done, Refused}
 use Rattle.group.specs.declared.Section.{Section}
 use Rattle.group.specs.declared.Section.the-variants.{Segment as InSegment, Table as InTable}
-use Rattle.group.specs.Group.{halfStep, wordStep, changedWords, homeIn, homeOf, Outcome, settled, counted, homed, fitted, grouped, groupStep}
+use Rattle.group.specs.Group.{halfStep, wordStep, changedWords, wordsLie, indicatorsFit, groupFits, Outcome, addressOf, refusedGroup, storedGroup, groupOutcome, readOutcome, groupStep}
 
 abbrev load : Assignments
 load = record {
@@ -77,9 +77,9 @@ cases =
     ∷ (after table (0o401001400000 ∷ 0o000000000007 ∷ 0o200000000000 ∷ []) 0, untouched 18)
     -- a last word at word 254, and one that would be at word 255
     ∷ (after segment (replicate 252 0 ++ (0o401001400000 ∷ 0o000000000007 ∷ 0o200000000000 ∷ [])) 252, stored 255 9)
-    ∷ (after segment (replicate 253 0 ++ (0o401001400000 ∷ 0o000000000007 ∷ 0o200000000000 ∷ [])) 253, untouched 18)
+    ∷ (after segment (replicate 253 0 ++ (0o401001400000 ∷ 0o000000000007 ∷ 0o200000000000 ∷ [])) 253, zeros 18)
     ∷ []
 
 worked : map (λ (c : Outcome × Outcome). c .0) cases ≡ map (λ (c : Outcome × Outcome). c .1) cases
-unfolding groupStep grouped fitted homed counted settled homeOf homeIn changedWords wordStep halfStep groupOf within range splice cleared bitsBefore indicatorBits flatMap bitsOf numberAt indicatorAt afterField afterWord afterAll fieldStep putBack becomes movedField valued
+unfolding groupStep readOutcome groupOutcome groupFits wordsLie indicatorsFit storedGroup refusedGroup addressOf changedWords wordStep halfStep groupOf within range splice cleared bitsBefore indicatorBits flatMap bitsOf numberAt indicatorAt afterField afterWord afterAll fieldStep putBack becomes movedField valued
 worked = refl

@@ -5,11 +5,11 @@ use mathlib.Core.List.{List, [], _∷_}
 use native.Mathlib.Omega.{arith}
 use lib.ListN.{length, getD}
 use lib.Dec.{ltb, leb, eqb}
-use Rattle.word.specs.declared.Absolute.{Absolute}
 use Rattle.word.specs.declared.Area.{Area}
 use Rattle.word.specs.declared.Fault.{Fault}
 use Rattle.word.specs.declared.Half.{Half}
 use Rattle.word.specs.declared.Half.the-variants.{Left, Right}
+use Rattle.word.specs.Fault.{fault}
 use Rattle.word.specs.declared.Reference.{Reference}
 use Rattle.word.specs.declared.Relative.{Relative}
 use Rattle.word.specs.Sorts.{absoluteOf}
@@ -27,13 +27,11 @@ use Rattle.field.specs.declared.Changed.the-variants.{Word, Refused as RefusedW
 use Rattle.field.specs.Field.{Assignments, relative, reference, addressOrLength, table, valued, plusOrMinus, movedField, referred, pair, minusZero, short, long, constant, switch, unit, becomes, lowestOf, widthOf, putBack, fieldStep}
 use Rattle.indicator.specs.declared.Indicator.{Indicator}
 use Rattle.indicator.specs.declared.Indicator.the-variants.{Same, Change, Long}
-use Rattle.indicator.specs.Indicator.{indicatorAt, afterField, afterWord, afterAll, justEnough}
+use Rattle.indicator.specs.Indicator.{indicatorAt, afterField, afterWord}
 use Rattle.group.specs.declared.GroupStep.{GroupStep}
 use Rattle.group.specs.declared.GroupStep.the-variants.{Done, Refused}
-use Rattle.group.specs.declared.Home.{Home}
-use Rattle.group.specs.declared.Home.the-variants.{At, Outside}
 use Rattle.group.specs.declared.Section.{Section}
-use Rattle.group.specs.Group.{halfStep, thenHalf, wordStep, Words, thenWords, changedWords, wordsIn, bitsIn, homeOf, Outcome, settled, counted, homed, fitted, grouped, groupStep}
+use Rattle.group.specs.Group.{halfStep, thenHalf, wordStep, Words, thenWords, changedWords, wordsIn, bitsIn, groupFits, Outcome, refusedGroup, storedGroup, groupOutcome, readOutcome, groupStep}
 use Rattle.group.specs.Group.Words.{Become, Refuse}
 
 -- the numbers of the table of refusals from m to n
@@ -159,18 +157,14 @@ module _ (a : Assignments) where
     abbrev Answered : Outcome → Type 0
     Answered o = ofGroup (o .answer)
 
-    settled-fault : (g : Group) (to : Absolute) (r : Words) → ofWords r → Answered (settled i g to core r)
-    unfolding settled
-    settled-fault g to (Become vs) h = tt
-    settled-fault g to (Refuse f) h = h
+    refused-fault : (g : Group) (f : Fault) → Among 18 21 f → Answered (refusedGroup (a .area) section g core f)
+    unfolding refusedGroup
+    refused-fault g f h = h
 
-    homed-fault : (g : Group) (home : Home) → Answered (homed a block i g home core)
-    unfolding homed counted
-    homed-fault g (At to) =
-        both Answered (justEnough (afterAll (bitsIn block i g) 0 (wordsIn block i g)) (g .words - g .program))
-        (settled-fault g to (changedWords a (bitsIn block i g) 0 (wordsIn block i g)) (words-fault (bitsIn block i g) 0 (wordsIn block i g)))
-        (omega arith, omega arith)
-    homed-fault g Outside = (omega arith, omega arith)
+    stored-fault : (g : Group) (r : Words) → ofWords r → Answered (storedGroup (a .area) section i g core r)
+    unfolding storedGroup
+    stored-fault g (Become vs) h = tt
+    stored-fault g (Refuse f) h = refused-fault g f h
 
     abbrev ofRead : GroupRead → Type 0
     ofRead (Good g) = Unit {0}
@@ -181,14 +175,14 @@ module _ (a : Assignments) where
     read-fault w =
         both ofRead (eqb (part 34 2 w) 2) (both ofRead (eqb (part 18 8 w) 0) (omega arith, omega arith) tt) (omega arith, omega arith)
 
-    grouped-fault : (r : GroupRead) → ofRead r → Answered (grouped a section block i r core)
-    unfolding grouped fitted
-    grouped-fault (Good g) h =
-        both Answered (leb (i + g .words) 254)
-        (both Answered (leb (g .program) (g .words)) (homed-fault g (homeOf (a .area) section g)) (omega arith, omega arith))
-        (omega arith, omega arith)
-    grouped-fault (no-group f) h = h
+    outcome-fault : (r : GroupRead) → ofRead r → Answered (readOutcome a section block i core r)
+    unfolding readOutcome groupOutcome
+    outcome-fault (Good g) h =
+        both Answered (groupFits section block i g)
+        (stored-fault g (changedWords a (bitsIn block i g) 0 (wordsIn block i g)) (words-fault (bitsIn block i g) 0 (wordsIn block i g)))
+        (refused-fault g (fault 18) (omega arith, omega arith))
+    outcome-fault (no-group f) h = h
 
     pub group-faults : ofGroup (groupStep a section block i core .answer)
     unfolding groupStep
-    group-faults = grouped-fault (groupOf (getD block i 0)) (read-fault (getD block i 0))
+    group-faults = outcome-fault (groupOf (getD block i 0)) (read-fault (getD block i 0))

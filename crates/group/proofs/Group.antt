@@ -1,111 +1,72 @@
 -- What a group does, whatever it answers: the core keeps its length, nothing but the group's own words changes, what is stored is
 -- a word, and the later group stands. Assumes nothing.
 use mathlib.Core.Path.{_≡_, refl, sym, _∙_}
-use mathlib.Core.Bool.{Bool, true}
-use mathlib.Core.List.{List, [], _∷_}
+use mathlib.Core.Bool.{Bool, true, _&&_}
+use mathlib.Core.List.{List}
 use mathlib.Core.Logic.{⊎-elim, inl, inr}
-use Prim.Native.Nat.{ℕ, suc, _+_, _-_, _<_, _≤_, _^_}
+use Prim.Native.Nat.{ℕ, _+_, _<_, _≤_}
 use native.Mathlib.Omega.{arith}
 use lib.ListN.{length, getD}
-use lib.Dec.{leb}
-use borrow.Author.Tests.{lt-ltb, ltb-true, leb-true}
+use borrow.Author.Tests.{leb-true}
 use Rattle.word.specs.declared.Absolute.{Absolute}
 use Rattle.word.specs.declared.Fault.{Fault}
-use Rattle.word.specs.declared.Half.{Half}
-use Rattle.word.specs.declared.Half.the-variants.{Left, Right}
 use Rattle.word.specs.Fault.{fault}
-use Rattle.word.specs.Lists.{every, splice}
-use Rattle.word.specs.Word.{isWord, fieldOf}
-use Rattle.word.proofs.Cases.{when}
+use Rattle.word.specs.Lists.{every, splice, cleared}
+use Rattle.word.specs.Word.{isWord}
+use Rattle.word.proofs.Cases.{and-left, and-right, when}
 use Rattle.word.proofs.Lists.{length-range, length-range-most, length-splice, getD-splice-in}
+use Rattle.word.proofs.Stretch.{Beside, length-cleared, getD-splice-beside, getD-cleared-beside, every-splice, every-cleared, every-range}
 use Rattle.program.specs.declared.Group.{Group}
 use Rattle.program.specs.declared.GroupRead.{GroupRead}
 use Rattle.program.specs.declared.GroupRead.the-variants.{Good, Bad}
 use Rattle.program.specs.Groups.{groupOf}
-use Rattle.field.specs.declared.Changed.{Changed}
-use Rattle.field.specs.declared.Changed.the-variants.{Word, Refused as RefusedWord}
 use Rattle.field.specs.Field.{Assignments}
-use Rattle.indicator.specs.declared.Indicator.{Indicator}
-use Rattle.indicator.specs.Indicator.{indicatorAt, afterField, afterWord, afterAll, justEnough}
 use Rattle.group.specs.declared.GroupStep.{GroupStep}
-use Rattle.group.specs.declared.GroupStep.the-variants.{Done}
-use Rattle.group.specs.declared.Home.{Home}
-use Rattle.group.specs.declared.Home.the-variants.{At, Outside}
+use Rattle.group.specs.declared.GroupStep.the-variants.{Done, Refused}
 use Rattle.group.specs.declared.Section.{Section}
-use Rattle.group.specs.Group.{halfStep, thenHalf, wordStep, Words, thenWords, changedWords, wordsIn, bitsIn, homeOf, Outcome, Meets, untouched, zeroed, settled, counted, homed, fitted, grouped, groupStep, InArea}
+use Rattle.group.specs.Group.{Words, changedWords, wordsIn, bitsIn, inOneBlock, holdsProgram, wordsLie, indicatorsFit, groupFits, Outcome, Meets, addressOf, refusedGroup, storedGroup, groupOutcome, readOutcome, groupStep, InArea}
 use Rattle.group.specs.Group.Words.{Become, Refuse}
-use Rattle.group.proofs.Both.{half-word}
-use Rattle.group.proofs.Homes.{Lies, home-lies}
-use Rattle.word.proofs.Stretch.{Beside, length-cleared, getD-splice-beside, getD-cleared-beside, every-splice, every-cleared, every-range, every-both, every-head, every-tail}
+use Rattle.group.proofs.Places.{Lies, words-lie}
+use Rattle.group.proofs.Words.{changed-many, changed-below}
 
 -- two outcomes that meet the contract are equal
 pub one-outcome : (o : Outcome) (r r′ : GroupStep) (core core′ : List ℕ) → Meets o r core → Meets o r′ core′ → (r ≡ r′) × (core ≡ core′)
 one-outcome o r r′ core core′ p q = (p .told ∙ sym (q .told), p .left ∙ sym (q .left))
 
--- ---- what the program words become: as many words, each below 2^36
-abbrev pub Below : Changed → Type 0
-Below (Word v) = isWord v ≡ true
-Below (RefusedWord f) = Unit {0}
+-- what the tests of a group say together
+pub record Fit (section : Section) (i : ℕ) (g : Group) : Type 0 where
+  pub whole : i + g .words ≤ 254
+  pub holds : g .program ≤ g .words
+  pub lies : wordsLie section g ≡ true
 
-abbrev pub Many : ℕ → Words → Type 0
-Many n (Become vs) = length vs ≡ n
-Many n (Refuse f) = Unit {0}
-
-abbrev pub AllBelow : Words → Type 0
-AllBelow (Become vs) = every isWord vs ≡ true
-AllBelow (Refuse f) = Unit {0}
-
-then-below : (r : Changed) (next : ℕ → Changed) → Below r → ((v : ℕ) → isWord v ≡ true → Below (next v)) → Below (thenHalf r next)
-then-below (Word v) next h k = k v h
-then-below (RefusedWord f) next h k = tt
-
-then-many : (r : Changed) (rest : Words) (n : ℕ) → Many n rest → Many (suc n) (thenWords r rest)
-then-many (Word v) (Become vs) n h = omega arith
-then-many (Word v) (Refuse f) n h = tt
-then-many (RefusedWord f) rest n h = tt
-
-then-all : (r : Changed) (rest : Words) → Below r → AllBelow rest → AllBelow (thenWords r rest)
-then-all (Word v) (Become vs) h k = every-both isWord v vs h k
-then-all (Word v) (Refuse f) h k = tt
-then-all (RefusedWord f) rest h k = tt
-
-module _ (a : Assignments) where
-  half-below : (h : Half) (m : Indicator) (w : ℕ) → isWord w ≡ true → Below (halfStep a h m w)
-  half-below h m w b = told (halfStep a h m w) (λ u e. half-word a h m w u (ltb-true w (2 ^ 36) b) e)
-    where
-      told : (r : Changed) → ((u : ℕ) → r ≡ Word u → u < 2 ^ 36) → Below r
-      told (Word u) k = lt-ltb u (2 ^ 36) (k u refl)
-      told (RefusedWord f) k = tt
-
-  module _ (bits : List ℕ) where
-    pub word-below : (p w : ℕ) → isWord w ≡ true → Below (wordStep a bits p w)
-    unfolding wordStep
-    word-below p w b =
-        then-below (halfStep a Left (indicatorAt bits p (fieldOf Left w)) w) _ (half-below Left (indicatorAt bits p (fieldOf Left w)) w b)
-        (λ v k. half-below Right (indicatorAt bits (afterField bits p (fieldOf Left w)) (fieldOf Right w)) v k)
-
-    pub changed-many : (p : ℕ) (ws : List ℕ) → Many (length ws) (changedWords a bits p ws)
-    unfolding changedWords
-    changed-many p [] = refl
-    changed-many p (w ∷ ws) = then-many (wordStep a bits p w) _ (length ws) (changed-many (afterWord bits p w) ws)
-
-    pub changed-below : (p : ℕ) (ws : List ℕ) → every isWord ws ≡ true → AllBelow (changedWords a bits p ws)
-    unfolding changedWords every
-    changed-below p [] b = refl
-    changed-below p (w ∷ ws) b =
-        then-all (wordStep a bits p w) _ (word-below p w (every-head isWord w ws b)) (changed-below (afterWord bits p w) ws (every-tail isWord w ws b))
+pub group-fits : (section : Section) (block : List ℕ) (i : ℕ) (g : Group) → groupFits section block i g ≡ true → Fit section i g
+unfolding groupFits
+group-fits section block i g q =
+    let rest = wordsLie section g && indicatorsFit block i g in
+    let r = and-right (inOneBlock i g) (holdsProgram g && rest) q in
+    record {
+      whole = leb-true (i + g .words) 254 (and-left (inOneBlock i g) (holdsProgram g && rest) q);
+      holds = leb-true (g .program) (g .words) (and-left (holdsProgram g) rest r);
+      lies = and-left (wordsLie section g) (indicatorsFit block i g) (and-right (holdsProgram g) rest r);
+    }
 
 -- ---- the group at place i
--- it is g, which lies in its block, and whose words go to the address `to`
-pub record Housed (a : Assignments) (section : Section) (block : List ℕ) (i : ℕ) (g : Group) (to : Absolute) : Type 0 where
+-- it is g, and its words go to the address `to`
+pub record Goes (a : Assignments) (section : Section) (block : List ℕ) (i : ℕ) (g : Group) (to : Absolute) : Type 0 where
   pub read : groupOf (getD block i 0) ≡ Good g
-  pub whole : i + g .words ≤ 254
-  pub fits : g .program ≤ g .words
-  pub home : homeOf (a .area) section g ≡ At to
+  pub lies : wordsLie section g ≡ true
+  pub address : addressOf (a .area) section g ≡ to
 
 -- its words become vs
 abbrev pub Gives : Assignments → List ℕ → ℕ → Group → List ℕ → Type 0
 Gives a block i g vs = changedWords a (bitsIn block i g) 0 (wordsIn block i g) ≡ Become vs
+
+-- the three outcomes
+abbrev pub untouched : List ℕ → Fault → Outcome
+untouched core f = record { answer = Refused f; core = core }
+
+abbrev pub zeroed : Group → Absolute → List ℕ → Fault → Outcome
+zeroed g to core f = record { answer = Refused f; core = cleared core (to .0) (g .program) }
 
 abbrev pub stored : ℕ → Group → Absolute → List ℕ → List ℕ → Outcome
 stored i g to core vs = record { answer = Done (i + 1 + g .words) (g .last); core = splice core (to .0) vs }
@@ -120,31 +81,29 @@ pub record Ended (block : List ℕ) (i p : ℕ) (last : Bool) : Type 0 where
   pub after : i < p
 
 module _ (a : Assignments) (section : Section) (block : List ℕ) (i : ℕ) where
-  -- there are three outcomes: the core untouched, the words cleared, the words stored
+  -- the core is untouched, the words are cleared, or they are stored
   module _ (core : List ℕ) (P : Outcome → Type 0) (none : (f : Fault) → P (untouched core f))
-      (zeros : (g : Group) (to : Absolute) (f : Fault) → Housed a section block i g to → P (zeroed g to core f))
-      (all : (g : Group) (to : Absolute) (vs : List ℕ) → Housed a section block i g to → Gives a block i g vs → P (stored i g to core vs)) where
-    by-words : (g : Group) (to : Absolute) → Housed a section block i g to → (r : Words) → changedWords a (bitsIn block i g) 0 (wordsIn block i g) ≡ r → P (settled i g to core r)
-    unfolding settled
-    by-words g to h (Become vs) e = all g to vs h e
-    by-words g to h (Refuse f) e = zeros g to f h
+      (zeros : (g : Group) (to : Absolute) (f : Fault) → Goes a section block i g to → P (zeroed g to core f))
+      (all : (g : Group) (to : Absolute) (vs : List ℕ) → Goes a section block i g to → Fit section i g → Gives a block i g vs → P (stored i g to core vs)) where
+    by-place : (g : Group) (f : Fault) → groupOf (getD block i 0) ≡ Good g → P (refusedGroup (a .area) section g core f)
+    unfolding refusedGroup
+    by-place g f e =
+        when (λ (l : List ℕ). P (untouched l f)) (wordsLie section g)
+        (λ q. zeros g (addressOf (a .area) section g) f (record { read = e; lies = q; address = refl }))
+        (λ q. none f)
 
-    by-home : (g : Group) → ((to : Absolute) → homeOf (a .area) section g ≡ At to → Housed a section block i g to) → (x : Home) → homeOf (a .area) section g ≡ x → P (homed a block i g x core)
-    unfolding homed counted
-    by-home g h (At to) e =
-        when P (justEnough (afterAll (bitsIn block i g) 0 (wordsIn block i g)) (g .words - g .program))
-        (λ q. by-words g to (h to e) (changedWords a (bitsIn block i g) 0 (wordsIn block i g)) refl)
-        (λ q. zeros g to (fault 18) (h to e))
-    by-home g h Outside e = none (fault 18)
+    by-words : (g : Group) → groupOf (getD block i 0) ≡ Good g → Fit section i g → (r : Words) → changedWords a (bitsIn block i g) 0 (wordsIn block i g) ≡ r
+        → P (storedGroup (a .area) section i g core r)
+    unfolding storedGroup
+    by-words g e h (Become vs) q = all g (addressOf (a .area) section g) vs (record { read = e; lies = h .lies; address = refl }) h q
+    by-words g e h (Refuse f) q = by-place g f e
 
-    by-read : (x : GroupRead) → groupOf (getD block i 0) ≡ x → P (grouped a section block i x core)
-    unfolding grouped fitted
+    by-read : (x : GroupRead) → groupOf (getD block i 0) ≡ x → P (readOutcome a section block i core x)
+    unfolding readOutcome groupOutcome
     by-read (Good g) e =
-        when P (leb (i + g .words) 254)
-        (λ q. when P (leb (g .program) (g .words))
-        (λ r. by-home g (λ to h. record { read = e; whole = leb-true (i + g .words) 254 q; fits = leb-true (g .program) (g .words) r; home = h }) (homeOf (a .area) section g) refl)
-        (λ r. none (fault 18)))
-        (λ q. none (fault 18))
+        when P (groupFits section block i g)
+        (λ q. by-words g e (group-fits section block i g q) (changedWords a (bitsIn block i g) 0 (wordsIn block i g)) refl)
+        (λ q. by-place g (fault 18) e)
     by-read (Bad f) e = none f
 
     pub group-outcomes : P (groupStep a section block i core)
@@ -156,27 +115,24 @@ module _ (a : Assignments) (section : Section) (block : List ℕ) (i : ℕ) wher
   group-done core p last = group-outcomes core (λ (o : Outcome). o .answer ≡ Done p last → Ended block i p last)
       (λ f q. let z : _≡_ {A = ℕ} 0 1 = cc in absurd (omega arith))
       (λ g to f h q. let z : _≡_ {A = ℕ} 0 1 = cc in absurd (omega arith))
-      (λ g to vs h e q.
+      (λ g to vs h t e q.
       let x : p ≡ i + 1 + g .words = cc in
       let y : last ≡ g .last = cc in
-      record { group = g; read = h .read; place = x; flag = y; most = omega (arith, h .whole); after = omega arith })
+      record { group = g; read = h .read; place = x; flag = y; most = omega (arith, t .whole); after = omega arith })
 
-  -- it is one group, with one home
-  housed-same : (g g′ : Group) (to to′ : Absolute) → Housed a section block i g to → Housed a section block i g′ to′ → (g ≡ g′) × (to ≡ to′)
-  housed-same g g′ to to′ h h′ =
+  -- it is one group, with one address
+  goes-same : (g g′ : Group) (to to′ : Absolute) → Goes a section block i g to → Goes a section block i g′ to′ → (g ≡ g′) × (to ≡ to′)
+  goes-same g g′ to to′ h h′ =
       let x : g ≡ g′ = good (groupOf (getD block i 0)) (h .read) (h′ .read) in
-      (x, at (homeOf (a .area) section g′) (rw x at (h .home)) (h′ .home))
+      (x, sym (rw x at (h .address)) ∙ h′ .address)
     where
       good : (r : GroupRead) → r ≡ Good g → r ≡ Good g′ → g ≡ g′
       good r p q = cc
 
-      at : (r : Home) → r ≡ At to → r ≡ At to′ → to ≡ to′
-      at r p q = cc
-
   -- ---- of any group in an area that lies in the core
   module _ (core : List ℕ) (room : InArea (a .area) section) (inside : a .area .at .0 + a .area .size ≤ length core) where
-    housed-lies : (g : Group) (to : Absolute) → Housed a section block i g to → Lies (a .area) g (At to)
-    housed-lies g to h = rw (h .home) at (home-lies (a .area) section g room)
+    goes-lies : (g : Group) (to : Absolute) → Goes a section block i g to → Lies (a .area) g to
+    goes-lies g to h = rw (h .address) at (words-lie (a .area) section g room (h .lies))
 
     gives-few : (g : Group) (vs : List ℕ) → Gives a block i g vs → length vs ≤ g .program
     gives-few g vs e =
@@ -186,49 +142,50 @@ module _ (a : Assignments) (section : Section) (block : List ℕ) (i : ℕ) wher
     -- the core keeps its length
     pub group-length : length (groupStep a section block i core .core) ≡ length core
     group-length = group-outcomes core (λ (o : Outcome). length (o .core) ≡ length core) (λ f. refl)
-        (λ g to f h. let l = housed-lies g to h in length-cleared core (to .0) (g .program) (omega arith))
-        (λ g to vs h e. let l = housed-lies g to h in let n = gives-few g vs e in length-splice core (to .0) vs (omega arith))
+        (λ g to f h. let l = goes-lies g to h in length-cleared core (to .0) (g .program) (omega (arith, l .high)))
+        (λ g to vs h t e. let l = goes-lies g to h in let n = gives-few g vs e in length-splice core (to .0) vs (omega (arith, l .high)))
 
     -- no word beside the group's words changes
-    pub group-beside : (j : ℕ) → ((g : Group) (to : Absolute) → Housed a section block i g to → Beside j (to .0) (g .program))
+    pub group-beside : (j : ℕ) → ((g : Group) (to : Absolute) → Goes a section block i g to → Beside j (to .0) (g .program))
         → getD (groupStep a section block i core .core) j 0 ≡ getD core j 0
     group-beside j b = group-outcomes core (λ (o : Outcome). getD (o .core) j 0 ≡ getD core j 0) (λ f. refl)
-        (λ g to f h. let l = housed-lies g to h in getD-cleared-beside core (to .0) (g .program) j (omega arith) (b g to h))
-        (λ g to vs h e.
-        let l = housed-lies g to h in
+        (λ g to f h. let l = goes-lies g to h in getD-cleared-beside core (to .0) (g .program) j (omega (arith, l .high)) (b g to h))
+        (λ g to vs h t e.
+        let l = goes-lies g to h in
         let n = gives-few g vs e in
-        getD-splice-beside core (to .0) vs j (omega arith) (⊎-elim (λ x. inl x) (λ x. inr (omega arith)) (b g to h)))
+        getD-splice-beside core (to .0) vs j (omega (arith, l .high)) (⊎-elim (λ x. inl x) (λ x. inr (omega arith)) (b g to h)))
 
     -- so none outside the area does
     pub group-area : (j : ℕ) → Beside j (a .area .at .0) (a .area .size) → getD (groupStep a section block i core .core) j 0 ≡ getD core j 0
     group-area j b = group-beside j
-        (λ g to h. let l = housed-lies g to h in ⊎-elim (λ x. inl (omega arith)) (λ x. inr (omega arith)) b)
+        (λ g to h. let l = goes-lies g to h in ⊎-elim (λ x. inl (omega (arith, l .low))) (λ x. inr (omega (arith, l .high))) b)
 
     -- a core of words below 2^36 stays one
     pub group-words : every isWord block ≡ true → every isWord core ≡ true → every isWord (groupStep a section block i core .core) ≡ true
     group-words w c = group-outcomes core (λ (o : Outcome). every isWord (o .core) ≡ true) (λ f. c)
-        (λ g to f h. let l = housed-lies g to h in every-cleared isWord core (to .0) (g .program) (omega arith) c refl)
-        (λ g to vs h e.
-        let l = housed-lies g to h in
+        (λ g to f h. let l = goes-lies g to h in every-cleared isWord core (to .0) (g .program) (omega (arith, l .high)) c refl)
+        (λ g to vs h t e.
+        let l = goes-lies g to h in
         let n = gives-few g vs e in
-        every-splice isWord core (to .0) vs (omega arith) c
+        every-splice isWord core (to .0) vs (omega (arith, l .high)) c
         (rw e at (changed-below a (bitsIn block i g) 0 (wordsIn block i g) (every-range isWord block (i + 1) (g .program) w))))
 
     -- where it answers `Done`, each of its words stands in the core, whatever stood there
     pub group-stored : length block ≡ 256 → (p : ℕ) (last : Bool) → groupStep a section block i core .answer ≡ Done p last
-        → (g : Group) (to : Absolute) (vs : List ℕ) → Housed a section block i g to → Gives a block i g vs
+        → (g : Group) (to : Absolute) (vs : List ℕ) → Goes a section block i g to → Gives a block i g vs
         → (k : ℕ) → k < g .program → getD (groupStep a section block i core .core) (to .0 + k) 0 ≡ getD vs k 0
     group-stored long p last q g to vs h e k b =
         group-outcomes core (λ (o : Outcome). o .answer ≡ Done p last → getD (o .core) (to .0 + k) 0 ≡ getD vs k 0)
         (λ f r. let z : _≡_ {A = ℕ} 0 1 = cc in absurd (omega arith))
         (λ g′ to′ f h′ r. let z : _≡_ {A = ℕ} 0 1 = cc in absurd (omega arith))
-        (λ g′ to′ vs′ h′ e′ r.
-        let s = housed-same g g′ to to′ h h′ in
+        (λ g′ to′ vs′ h′ t e′ r.
+        let s = goes-same g g′ to to′ h h′ in
         let v : vs ≡ vs′ = become (changedWords a (bitsIn block i g′) 0 (wordsIn block i g′)) vs vs′ (rw (s .0) at e) e′ in
-        let l = housed-lies g to h in
+        let l = goes-lies g to h in
+        let u : Fit section i g = rw (s .0) t in
         let n = rw e at (changed-many a (bitsIn block i g) 0 (wordsIn block i g)) in
-        let m = length-range block (i + 1) (g .program) (omega (arith, h .whole, h .fits)) in
-        rw (← s .1, ← v) (getD-splice-in core (to .0) vs k (omega arith) (omega arith)))
+        let m = length-range block (i + 1) (g .program) (omega (arith, u .whole, u .holds)) in
+        rw (← s .1, ← v) (getD-splice-in core (to .0) vs k (omega arith) (omega (arith, l .high))))
         q
       where
         become : (r : Words) (x y : List ℕ) → r ≡ Become x → r ≡ Become y → x ≡ y
@@ -238,7 +195,7 @@ module _ (a : Assignments) (section : Section) (block : List ℕ) (i : ℕ) wher
 pub later-stands : (a : Assignments) (section : Section) (block : List ℕ) (i : ℕ) (core : List ℕ) → InArea (a .area) section → a .area .at .0 + a .area .size ≤ length core
     → (section′ : Section) (block′ : List ℕ) (j : ℕ) → InArea (a .area) section′ → length block′ ≡ 256
     → (p : ℕ) (last : Bool) → groupStep a section′ block′ j (groupStep a section block i core .core) .answer ≡ Done p last
-    → (g : Group) (to : Absolute) (vs : List ℕ) → Housed a section′ block′ j g to → Gives a block′ j g vs
+    → (g : Group) (to : Absolute) (vs : List ℕ) → Goes a section′ block′ j g to → Gives a block′ j g vs
     → (k : ℕ) → k < g .program → getD (groupStep a section′ block′ j (groupStep a section block i core .core) .core) (to .0 + k) 0 ≡ getD vs k 0
 later-stands a section block i core room inside section′ block′ j room′ long =
     group-stored a section′ block′ j (groupStep a section block i core .core) room′ (rw (group-length a section block i core room inside) inside) long

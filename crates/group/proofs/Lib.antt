@@ -1,8 +1,10 @@
 pub mod Acts
+pub mod Both
 pub mod Examples
 pub mod Faults
 pub mod Group
-pub mod Both
-pub mod Homes
+pub mod Loop
+pub mod LoopTurn
+pub mod Places
 pub mod Steps
-pub mod Turns
+pub mod Words

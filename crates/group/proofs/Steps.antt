@@ -1,159 +1,188 @@
 -- Each test of a group, as the code makes it, gives the outcome that the definition says. Assumes nothing.
 use mathlib.Core.Path.{_≡_, refl, sym, ap, _∙_}
 use mathlib.Core.Bool.{Bool, true, false}
-use mathlib.Core.List.{List, [], _∷_}
+use mathlib.Core.List.{List, [], _∷_, _++_}
 use Prim.Native.Nat.{ℕ, _+_, _-_, _*_, _≤_}
 use native.Mathlib.Nat.{add-sub-cancel-left}
 use native.Mathlib.Omega.{arith}
 use lib.ListN.{length, take, drop, replicate, length-replicate}
-use borrow.Author.Tests.{le-leb}
-use Rattle.word.specs.declared.Absolute.{Absolute}
+use borrow.Author.Tests.{leb-true}
 use Rattle.word.specs.declared.Area.{Area}
 use Rattle.word.specs.declared.Fault.{Fault}
 use Rattle.word.specs.Fault.{fault}
 use Rattle.word.specs.Lists.{range, splice, cleared}
 use Rattle.word.specs.Word.{isWord}
-use Rattle.word.proofs.Lists.{length-range, range-lent, length-splice, range-splice-same, splice-splice}
+use Rattle.word.proofs.Cases.{by-test}
+use Rattle.word.proofs.Lists.{length-range, range-lent, splice-whole, splice-lent}
 use Rattle.word.proofs.Stretch.{every-range}
 use Rattle.program.specs.declared.Group.{Group}
 use Rattle.field.specs.Field.{Assignments}
-use Rattle.indicator.specs.Indicator.{InBlock, afterWord, afterAll, justEnough}
+use Rattle.indicator.specs.Indicator.{afterWord, afterAll, justEnough}
 use Rattle.indicator.proofs.Places.{after-word-most}
+use Rattle.group.specs.declared.changes.GroupChange.{GroupChange}
+use Rattle.group.specs.declared.changes.GroupChange.the-variants.{Bits, Stop as stop-group}
 use Rattle.group.specs.declared.GroupStep.{GroupStep}
 use Rattle.group.specs.declared.GroupStep.the-variants.{Done, Refused}
-use Rattle.group.specs.declared.Home.{Home}
-use Rattle.group.specs.declared.words.Ran.{Ran as Ran′}
-use Rattle.group.specs.declared.words.Ran.the-variants.{Through, Fails}
 use Rattle.group.specs.declared.Section.{Section}
-use Rattle.group.specs.Group.{Words, changedWords, wordsIn, bitsIn, homeOf, settled, counted, homed, fitted, Meets}
+use Rattle.group.specs.Group.{Words, changedWords, wordsIn, bitsIn, inOneBlock, holdsProgram, wordsLie, indicatorsFit, groupFits, Meets, addressOf, refusedGroup, storedGroup, groupOutcome}
 use Rattle.group.specs.Group.Words.{Become, Refuse}
-use Rattle.group.specs.Turns.{ranOf, Leaves, Runs, Standing, Placed}
-use Rattle.group.proofs.Group.{Many, changed-many}
+use Rattle.group.specs.HowGroup.{Fills, zeroFill, changedFill, countedFill, fillOf, FillReady, Fitting}
+use Rattle.group.specs.HowWords.{bitsOr, wordsOrZeros, Changes, ChangeReady}
+use Rattle.group.proofs.Words.{Many, changed-many}
 
 after-all-most : (bits : List ℕ) (p : ℕ) (ws : List ℕ) → afterAll bits p ws ≤ p + 26 * length ws
 unfolding afterAll
 after-all-most bits p [] = omega arith
 after-all-most bits p (w ∷ ws) = omega (arith, after-all-most bits (afterWord bits p w) ws, after-word-most bits p w)
 
--- the words as the code copies them into the core stand there as the loop asks
-pub copied-is : (block : List ℕ) (i : ℕ) (g : Group) (core : List ℕ) (to : ℕ) (core₁ : List ℕ) → core₁ ≡ splice core to (take (i + 1 + g .program - (i + 1)) (drop (i + 1) block))
-    → core₁ ≡ splice core to (wordsIn block i g)
-copied-is block i g core to core₁ e = e ∙ ap (splice core to) (range-lent block (i + 1) (g .program))
+-- zeros in all words that a group goes to
+pub cleared-whole : (out : List ℕ) → cleared out 0 (length out) ≡ replicate (length out) 0
+unfolding cleared
+cleared-whole out = splice-whole out (replicate (length out) 0) (length-replicate (length out) 0)
 
-module _ (area : Area) (block : List ℕ) (i : ℕ) (g : Group) (to : Absolute) (core : List ℕ) (placed : Placed area block i g to core) where
-  pub placed-inside : InBlock block (i + 1 + g .words) (g .words - g .program)
-  placed-inside = record { first = omega arith; last = omega arith }
+-- ---- a group that is whole in its block and holds its program words
+module _ (area : Area) (block : List ℕ) (i : ℕ) (g : Group) (out : List ℕ) (ready : FillReady area block i g out) (fit : Fitting i g) where
+  many : length (wordsIn block i g) ≡ g .program
+  many = length-range block (i + 1) (g .program) (omega (arith, ready .long, fit .whole, fit .holds))
 
-  pub copied-stands : (core₁ : List ℕ) → core₁ ≡ splice core (to .0) (wordsIn block i g) → Standing area block (i + 1 + g .words) (g .words - g .program) (to .0) (g .program) core₁
-  copied-stands core₁ e =
-      let m = length-range block (i + 1) (g .program) (omega (arith, placed .long, placed .whole, placed .fits)) in
-      let l = length-splice core (to .0) (wordsIn block i g) (omega (arith, m, placed .room)) in
-      let s = rw m at (range-splice-same core (to .0) (wordsIn block i g) (omega (arith, m, placed .room))) in
-      rw e
+  -- the program words as the code lends them
+  pub lent-ready : ChangeReady area (take (i + 1 + g .program - (i + 1)) (drop (i + 1) block)) block (record { end = i + 1 + g .words; count = g .words - g .program }) out
+  lent-ready =
+      rw (range-lent block (i + 1) (g .program))
       (record {
-        inside = placed .inside;
-        marks = placed-inside;
-        long = placed .long;
-        few = omega (arith, placed .whole, placed .fits);
-        most = rw l (placed .most);
-        room = rw l (placed .room);
-        words = rw s (every-range isWord block (i + 1) (g .program) (placed .words));
+        inside = ready .inside;
+        words = every-range isWord block (i + 1) (g .program) (ready .words);
+        few = omega (arith, many, fit .whole, fit .holds);
+        long = ready .long;
+        indicators = record { first = omega (arith, fit .holds); last = omega (arith, fit .whole, ready .long) };
+        room = ready .room ∙ sym many;
       })
 
-module _ (a : Assignments) (block : List ℕ) (i : ℕ) (g : Group) (core : List ℕ) where
-  -- the words copied into the core, then changed there; the count says which answer stands
-  module _ (to : Absolute) (long : i + 1 + g .program ≤ length block) (room : to .0 + g .program ≤ length core) where
-    abbrev bits : List ℕ
-    bits = bitsIn block i g
+  module _ (a : Assignments) where
+    abbrev gives : Words
+    gives = changedWords a (bitsIn block i g) 0 (wordsIn block i g)
 
-    abbrev ws : List ℕ
-    ws = wordsIn block i g
+    abbrev ends : ℕ
+    ends = afterAll (bitsIn block i g) 0 (wordsIn block i g)
 
-    abbrev copied : List ℕ
-    copied = splice core (to .0) ws
+    filled-bits : (r : Words) (b : ℕ) → Bits b ≡ bitsOr r ends → (out′ : List ℕ) → out′ ≡ wordsOrZeros (length (wordsIn block i g)) r
+        → (b ≡ ends) × Fills (changedFill i g r) (Done (i + 1 + g .words) (g .last)) out′
+    filled-bits (Become vs) b q out′ e = (cc, record { told = refl; left = e })
+    filled-bits (Refuse f) b q out′ e = let z : _≡_ {A = ℕ} 0 1 = cc in absurd (omega arith)
 
-    many : length ws ≡ g .program
-    many = length-range block (i + 1) (g .program) long
+    filled-stop : (r : Words) (f : Fault) → stop-group f ≡ bitsOr r ends → (out′ : List ℕ) → out′ ≡ wordsOrZeros (length (wordsIn block i g)) r
+        → (out′ ≡ replicate (g .program) 0) × Fills (changedFill i g r) (Refused f) out′
+    filled-stop (Become vs) f q out′ e = let z : _≡_ {A = ℕ} 0 1 = cc in absurd (omega arith)
+    filled-stop (Refuse x) f q out′ e =
+        let y : f ≡ x = cc in
+        let l = e ∙ ap (λ (n : ℕ). replicate n 0) many in
+        (l, record { told = ap Refused y; left = l })
 
-    same : range copied (to .0) (g .program) ≡ ws
-    same = rw many at (range-splice-same core (to .0) ws (omega (arith, many)))
+    module _ (r : GroupChange) (out′ : List ℕ) (run : Changes a (bitsIn block i g) (take (i + 1 + g .program - (i + 1)) (drop (i + 1) block)) r out′) where
+      changed : Changes a (bitsIn block i g) (wordsIn block i g) r out′
+      changed = rw (range-lent block (i + 1) (g .program)) at run
 
-    -- what was written into the words that are cleared does not matter
-    cleared-spliced : (l vs : List ℕ) → to .0 + g .program ≤ length l → length vs ≡ g .program → cleared (splice l (to .0) vs) (to .0) (g .program) ≡ cleared l (to .0) (g .program)
-    unfolding cleared
-    cleared-spliced l vs h e = splice-splice l (to .0) vs (replicate (g .program) 0) (e ∙ sym (length-replicate (g .program) 0)) (omega arith)
+      bits-told : (b : ℕ) → r ≡ Bits b → (b ≡ ends) × Fills (changedFill i g gives) (Done (i + 1 + g .words) (g .last)) out′
+      bits-told b e = filled-bits gives b (sym e ∙ changed .told) out′ (changed .left)
 
-    module _ (core₂ : List ℕ) where
-      abbrev Ran : Words → Type 0
-      Ran r = Leaves copied (to .0) (g .program) r core₂
+      pub bits-most : (b : ℕ) → r ≡ Bits b → b ≤ 26 * g .program
+      bits-most b e = let s = bits-told b e in omega (arith, s .0, after-all-most (bitsIn block i g) 0 (wordsIn block i g), many)
 
-      -- zeros then leave what zeros would have left
-      zeros : (r : Words) → Many (length ws) r → Ran r → cleared core₂ (to .0) (g .program) ≡ cleared core (to .0) (g .program)
-      zeros (Become vs) m e =
-          rw e (cleared-spliced copied vs (rw (length-splice core (to .0) ws (omega (arith, many))) room) (m ∙ many) ∙ cleared-spliced core ws room many)
-      zeros (Refuse f) m e = e ∙ cleared-spliced core ws room many
+      pub counted-done : (b : ℕ) → r ≡ Bits b → (q : Bool) → q ≡ justEnough b (g .words - g .program) → q ≡ true
+          → Fills (countedFill a block i g) (Done (i + 1 + g .words) (g .last)) out′
+      unfolding countedFill indicatorsFit
+      counted-done b e q j t = let s = bits-told b e in rw (← s .0, sym j ∙ t) (s .1)
 
-      settled-through : (r : Words) → Many (length ws) r → Ran r → (b p : ℕ) → Through b ≡ ranOf r p
-          → (b ≡ p) × Meets (settled i g to core r) (Done (i + 1 + g .words) (g .last)) core₂
-      unfolding settled
-      settled-through (Become vs) m e b p q =
-          (cc, record { told = refl; left = e ∙ splice-splice core (to .0) ws vs (sym m) (omega (arith, many)) })
-      settled-through (Refuse f) m e b p q = let z : _≡_ {A = ℕ} 0 1 = cc in absurd (omega arith)
+      -- as many words as were given
+      long-out : length out′ ≡ g .program
+      long-out = ap length (changed .left) ∙ words-many gives (changed-many a (bitsIn block i g) 0 (wordsIn block i g)) ∙ many
+        where
+          words-many : (w : Words) → Many (length (wordsIn block i g)) w → length (wordsOrZeros (length (wordsIn block i g)) w) ≡ length (wordsIn block i g)
+          words-many (Become vs) m = m
+          words-many (Refuse f) m = length-replicate (length (wordsIn block i g)) 0
 
-      settled-fails : (r : Words) → Many (length ws) r → Ran r → (f : Fault) (p : ℕ) → Fails f ≡ ranOf r p
-          → (core₃ : List ℕ) → core₃ ≡ cleared core₂ (to .0) (g .program) → Meets (settled i g to core r) (Refused f) core₃
-      unfolding settled
-      settled-fails (Become vs) m e f p q core₃ c = let z : _≡_ {A = ℕ} 0 1 = cc in absurd (omega arith)
-      settled-fails (Refuse x) m e f p q core₃ c = let y : f ≡ x = cc in record { told = ap Refused y; left = c ∙ zeros (Refuse x) m e }
+      pub counted-wrong : (b : ℕ) → r ≡ Bits b → (q : Bool) → q ≡ justEnough b (g .words - g .program) → q ≡ false
+          → (x : GroupStep) (out″ : List ℕ) → Fills (zeroFill (length out′) (fault 18)) x out″ → Fills (countedFill a block i g) x out″
+      unfolding countedFill indicatorsFit
+      counted-wrong b e q j t x out″ z = let s = bits-told b e in rw (← s .0, sym j ∙ t) (rw long-out at z)
 
-      abbrev gives : Words
-      gives = changedWords a bits 0 ws
+      -- the count anew; the code takes the words' place away from their end
+      module _ (f : Fault) (e : r ≡ stop-group f) (q : Bool)
+          (j : q ≡ justEnough (afterAll (bitsIn block i g) 0 (range block (i + 1) (i + 1 + g .program - (i + 1)))) (g .words - g .program)) where
+        count : justEnough ends (g .words - g .program) ≡ q
+        count = sym (rw (add-sub-cancel-left (i + 1) (g .program)) at j)
 
-      abbrev ends : ℕ
-      ends = afterAll bits 0 ws
+        pub counted-stop : q ≡ true → Fills (countedFill a block i g) (Refused f) out′
+        unfolding countedFill indicatorsFit
+        counted-stop t = rw (count ∙ t) (filled-stop gives f (sym e ∙ changed .told) out′ (changed .left) .1)
 
-      module _ (r : Ran′) (run : Runs a bits (to .0) (g .program) copied r core₂) where
-        told : r ≡ ranOf gives ends
-        told = rw same at (run .told)
+        pub counted-short : q ≡ false → Fills (countedFill a block i g) (Refused (fault 18)) out′
+        unfolding countedFill indicatorsFit
+        counted-short t =
+            rw (count ∙ t) (record { told = refl; left = filled-stop gives f (sym e ∙ changed .told) out′ (changed .left) .0 })
 
-        left : Ran gives
-        left = rw same at (run .left)
+-- ---- a group's words in the core: what is left when they come back as the part that was lent
+lent-back : (l : List ℕ) (a n : ℕ) (vs : List ℕ) → a + n ≤ length l → length vs ≡ n → take a l ++ (vs ++ drop (a + n - a) (drop a l)) ≡ splice l a vs
+lent-back l a n vs h e =
+    let t : length (take (a + n - a) (drop a l)) ≡ n = ap length (range-lent l a n) ∙ length-range l a n h in
+    ap (λ (m : List ℕ). take a l ++ (m ++ drop (a + n - a) (drop a l))) (sym (splice-whole (take (a + n - a) (drop a l)) vs (e ∙ sym t)))
+    ∙ splice-lent l a n vs h (omega (arith, e))
 
-        pub through-most : (b : ℕ) → r ≡ Through b → b ≤ 26 * g .program
-        through-most b e =
-            let s = settled-through gives (changed-many a bits 0 ws) left b ends (sym e ∙ told) in
-            omega (arith, s .0, after-all-most bits 0 ws, many)
+module _ (a : Assignments) (section : Section) (block : List ℕ) (i : ℕ) (g : Group) (core : List ℕ) where
+  abbrev to : ℕ
+  to = addressOf (a .area) section g .0
 
-        pub counted-through : (b : ℕ) → r ≡ Through b → (q : Bool) → q ≡ justEnough b (g .words - g .program) → q ≡ true
-            → Meets (counted a block i g to core) (Done (i + 1 + g .words) (g .last)) core₂
-        unfolding counted
-        counted-through b e q j t =
-            let s = settled-through gives (changed-many a bits 0 ws) left b ends (sym e ∙ told) in
-            rw (← s .0, sym j ∙ t) (s .1)
+  -- the tests that are left where the words lie where they must
+  zero-stored : (f : Fault) → wordsLie section g ≡ true → Meets (refusedGroup (a .area) section g core f) (Refused f) (splice core to (replicate (g .program) 0))
+  unfolding refusedGroup cleared
+  zero-stored f q = rw q (record { told = refl; left = refl })
 
-        pub counted-short : (b : ℕ) → r ≡ Through b → (q : Bool) → q ≡ justEnough b (g .words - g .program) → q ≡ false
-            → (core₃ : List ℕ) → core₃ ≡ cleared core₂ (to .0) (g .program) → Meets (counted a block i g to core) (Refused (fault 18)) core₃
-        unfolding counted
-        counted-short b e q j t core₃ c =
-            let s = settled-through gives (changed-many a bits 0 ws) left b ends (sym e ∙ told) in
-            rw (← s .0, sym j ∙ t) (record { told = refl; left = c ∙ zeros gives (changed-many a bits 0 ws) left })
+  changed-stored : wordsLie section g ≡ true → (r : Words) → Meets (storedGroup (a .area) section i g core r) (changedFill i g r .answer) (splice core to (changedFill i g r .words))
+  unfolding storedGroup
+  changed-stored q (Become vs) = record { told = refl; left = refl }
+  changed-stored q (Refuse f) = zero-stored f q
 
-        -- the count anew; the code takes the words' place away from their end
-        module _ (f : Fault) (e : r ≡ Fails f) (core₃ : List ℕ) (c : core₃ ≡ cleared core₂ (to .0) (g .program)) (q : Bool)
-            (j : q ≡ justEnough (afterAll bits 0 (range block (i + 1) (i + 1 + g .program - (i + 1)))) (g .words - g .program)) where
-          count : justEnough ends (g .words - g .program) ≡ q
-          count = sym (rw (add-sub-cancel-left (i + 1) (g .program)) at j)
+  -- what was filled in is the outcome
+  fill-is : wordsLie section g ≡ true → Meets (groupOutcome a section block i g core) (fillOf a block i g .answer) (splice core to (fillOf a block i g .words))
+  unfolding groupOutcome groupFits fillOf countedFill
+  fill-is q =
+      rw q
+      (by-test (inOneBlock i g)
+      (λ x. by-test (holdsProgram g)
+      (λ y. by-test (indicatorsFit block i g)
+      (λ z. rw (x, y, z) (changed-stored q (changedWords a (bitsIn block i g) 0 (wordsIn block i g))))
+      (λ z. rw (x, y, z) (zero-stored (fault 18) q)))
+      (λ y. rw (x, y) (zero-stored (fault 18) q)))
+      (λ x. rw x (zero-stored (fault 18) q)))
 
-          pub counted-fails : q ≡ true → Meets (counted a block i g to core) (Refused f) core₃
-          unfolding counted
-          counted-fails t = rw (count ∙ t) (settled-fails gives (changed-many a bits 0 ws) left f ends (sym e ∙ told) core₃ c)
+  pub outcome-outside : wordsLie section g ≡ false → Meets (groupOutcome a section block i g core) (Refused (fault 18)) core
+  unfolding groupOutcome groupFits refusedGroup
+  outcome-outside q =
+      rw q
+      (by-test (inOneBlock i g)
+      (λ x. by-test (holdsProgram g) (λ y. rw (x, y) (record { told = refl; left = refl })) (λ y. rw (x, y) (record { told = refl; left = refl })))
+      (λ x. rw x (record { told = refl; left = refl })))
 
-          pub counted-wrong : q ≡ false → Meets (counted a block i g to core) (Refused (fault 18)) core₃
-          unfolding counted
-          counted-wrong t = rw (count ∙ t) (record { told = refl; left = c ∙ zeros gives (changed-many a bits 0 ws) left })
+  -- as many words as the group has program words
+  fill-many : length block ≡ 256 → length (fillOf a block i g .words) ≡ g .program
+  unfolding fillOf countedFill
+  fill-many long =
+      by-test (inOneBlock i g)
+      (λ x. by-test (holdsProgram g)
+      (λ y. by-test (indicatorsFit block i g)
+      (λ z. rw (x, y, z) (words-many x y (changedWords a (bitsIn block i g) 0 (wordsIn block i g)) (changed-many a (bitsIn block i g) 0 (wordsIn block i g))))
+      (λ z. rw (x, y, z) (length-replicate (g .program) 0)))
+      (λ y. rw (x, y) (length-replicate (g .program) 0)))
+      (λ x. rw x (length-replicate (g .program) 0))
+    where
+      words-many : inOneBlock i g ≡ true → holdsProgram g ≡ true → (r : Words) → Many (length (wordsIn block i g)) r → length (changedFill i g r .words) ≡ g .program
+      words-many x y (Become vs) m =
+          m ∙ length-range block (i + 1) (g .program) (omega (arith, leb-true (i + g .words) 254 x, leb-true (g .program) (g .words) y))
+      words-many x y (Refuse f) m = length-replicate (g .program) 0
 
-  -- where it lies in its block and in its section
-  pub fitted-home : (section : Section) (home : Home) (r : GroupStep) (core′ : List ℕ) → i + g .words ≤ 254 → g .program ≤ g .words → home ≡ homeOf (a .area) section g
-      → Meets (homed a block i g home core) r core′ → Meets (fitted a section block i g core) r core′
-  unfolding fitted
-  fitted-home section home r core′ h k e m = rw (le-leb (i + g .words) 254 h, le-leb (g .program) (g .words) k, ← e) m
+  -- the words that were lent come back filled
+  pub outcome-filled : length block ≡ 256 → to + g .program ≤ length core → wordsLie section g ≡ true → (t : ℕ) → t ≡ to → (r : GroupStep) (out : List ℕ) → Fills (fillOf a block i g) r out
+      → Meets (groupOutcome a section block i g core) r (take t core ++ (out ++ drop (t + g .program - t) (drop t core)))
+  outcome-filled long h q t e r out m =
+      let o = fill-is q in
+      rw e (record { told = m .told ∙ o .told; left = lent-back core to (g .program) out h (ap length (m .left) ∙ fill-many long) ∙ ap (splice core to) (m .left) ∙ o .left })

@@ -2,7 +2,7 @@
 -- they go, and what the core holds afterwards.
 use Prim.Native.Nat.{ℕ, _+_, _-_, _≤_}
 use mathlib.Core.Path.{_≡_}
-use mathlib.Core.Bool.{true, cond}
+use mathlib.Core.Bool.{Bool, true, cond, not, _&&_}
 use mathlib.Core.List.{List, [], _∷_}
 use lib.ListN.{length, getD}
 use lib.Dec.{leb}
@@ -14,7 +14,7 @@ use Rattle.word.specs.declared.Half.the-variants.{Left, Right}
 use Rattle.word.specs.Fault.{fault}
 use Rattle.word.specs.Lists.{every, range, splice, cleared}
 use Rattle.word.specs.Runs.{within}
-use Rattle.word.specs.Sorts.{absoluteOf}
+use Rattle.word.specs.Sorts.{absoluteOf, fromTable}
 use Rattle.word.specs.Word.{isWord, fieldOf}
 use Rattle.program.specs.declared.Bank.{Bank}
 use Rattle.program.specs.declared.Group.{Group}
@@ -29,8 +29,6 @@ use Rattle.indicator.specs.declared.Indicator.the-variants.{Same, Change, Long}
 use Rattle.indicator.specs.Indicator.{bitsBefore, indicatorAt, afterField, afterWord, afterAll, justEnough}
 use Rattle.group.specs.declared.GroupStep.{GroupStep}
 use Rattle.group.specs.declared.GroupStep.the-variants.{Done, Refused}
-use Rattle.group.specs.declared.Home.{Home}
-use Rattle.group.specs.declared.Home.the-variants.{At, Outside}
 use Rattle.group.specs.declared.Section.{Section}
 use Rattle.group.specs.declared.Section.the-variants.{Segment as InSegment, Table as InTable}
 
@@ -79,23 +77,31 @@ wordsIn block i g = range block (i + 1) (g .program)
 abbrev pub bitsIn : List ℕ → ℕ → Group → List ℕ
 bitsIn block i g = bitsBefore block (i + 1 + g .words) (g .words - g .program)
 
--- ---- where they go: "Group addresses count from the Program Name, or from the table's first word, and the words must lie in that
--- bank, or in the table section's count."
-unfoldable pub homeIn : Area → Bank → Group → Home
-homeIn area bank g =
-    cond (within (g .at .0) (g .program) (bank .at .0) (bank .count)) (At (absoluteOf area (g .at))) Outside
+-- ---- what is tested before any field of the group: each is 18
 
--- the table section's count as a bank, and its table as an area: both start at the table's first word
-abbrev pub tableBank : ℕ → Bank
-tableBank count = record { at = record { 0 = 0 }; count = count }
+-- "and so does each group (else 18)": it stays in one block, whose last word for it is word 254
+abbrev pub inOneBlock : ℕ → Group → Bool
+inOneBlock i g = leb (i + g .words) 254
 
-abbrev pub tableArea : Absolute → ℕ → Area
-tableArea at count = record { at = at; size = count }
+-- "the words after the identifier", of which "the program words come first": there are as many at least
+abbrev pub holdsProgram : Group → Bool
+holdsProgram g = leb (g .program) (g .words)
 
--- "bit 16 zero for the IBANK and set for the DBANK or a table section"
-unfoldable pub homeOf : Area → Section → Group → Home
-homeOf area (InSegment segment) g = homeIn area (cond (g .ibank) (segment .ibank) (segment .dbank)) g
-homeOf area (InTable t count) g = cond (g .ibank) Outside (homeIn (tableArea (t .at) count) (tableBank count) g)
+-- "the words must lie in that bank, or in the table section's count"; "bit 16 zero for the IBANK and set for the DBANK or a table section"
+abbrev pub liesIn : Bank → Group → Bool
+liesIn bank g = within (g .at .0) (g .program) (bank .at .0) (bank .count)
+
+unfoldable pub wordsLie : Section → Group → Bool
+wordsLie (InSegment segment) g = liesIn (cond (g .ibank) (segment .ibank) (segment .dbank)) g
+wordsLie (InTable t count) g = not (g .ibank) && within (g .at .0) (g .program) 0 count
+
+-- "The group has just as many indicator words as the bits need"
+unfoldable pub indicatorsFit : List ℕ → ℕ → Group → Bool
+indicatorsFit block i g = justEnough (afterAll (bitsIn block i g) 0 (wordsIn block i g)) (g .words - g .program)
+
+unfoldable pub groupFits : Section → List ℕ → ℕ → Group → Bool
+groupFits section block i g =
+    inOneBlock i g && (holdsProgram g && (wordsLie section g && indicatorsFit block i g))
 
 -- ---- the outcome: the answer, and the core afterwards
 pub record Outcome : Type 0 where
@@ -107,50 +113,38 @@ pub record Meets (o : Outcome) (answer : GroupStep) (core : List ℕ) : Type 0 w
   pub told : answer ≡ o .answer
   pub left : core ≡ o .core
 
--- refused before its words have a home: the core is as it was
-abbrev pub untouched : List ℕ → Fault → Outcome
-untouched core f = record { answer = Refused f; core = core }
+-- "Group addresses count from the Program Name, or from the table's first word"
+unfoldable pub addressOf : Area → Section → Group → Absolute
+addressOf area (InSegment segment) g = absoluteOf area (g .at)
+addressOf area (InTable t count) g = fromTable (t .at) (g .at)
 
--- refused after that: zeros stand in the words that it would have stored. The whole area is set to zero at such a refusal (01,
--- "Refusal numbers"); here zeros are said, so that the code is free to store before all is read.
-abbrev pub zeroed : Group → Absolute → List ℕ → Fault → Outcome
-zeroed g to core f = record { answer = Refused f; core = cleared core (to .0) (g .program) }
+-- a refused group leaves zeros in the words that it goes to, if these lie where they must, and nothing else is changed. The whole area is
+-- set to zero at such a refusal (01, "Refusal numbers"); here zeros are said, so that the code is free to store before all is read.
+unfoldable pub refusedGroup : Area → Section → Group → List ℕ → Fault → Outcome
+refusedGroup area section g core f =
+    record { answer = Refused f; core = cond (wordsLie section g) (cleared core (addressOf area section g .0) (g .program)) core }
 
--- all fields read: the words stand in the core, and the next identifier is due after the group
-unfoldable pub settled : ℕ → Group → Absolute → List ℕ → Words → Outcome
-settled i g to core (Become vs) = record { answer = Done (i + 1 + g .words) (g .last); core = splice core (to .0) vs }
-settled i g to core (Refuse f) = zeroed g to core f
+-- all fields read: the words stand in the core, and the next identifier is due after the group; or the first field's refusal
+unfoldable pub storedGroup : Area → Section → ℕ → Group → List ℕ → Words → Outcome
+storedGroup area section i g core (Become vs) =
+    record { answer = Done (i + 1 + g .words) (g .last); core = splice core (addressOf area section g .0) vs }
+storedGroup area section i g core (Refuse f) = refusedGroup area section g core f
 
--- "The group has just as many indicator words as the bits need .. Otherwise 18, tested before any field of the group."
-unfoldable pub counted : Assignments → List ℕ → ℕ → Group → Absolute → List ℕ → Outcome
-counted a block i g to core =
-    cond (justEnough (afterAll (bitsIn block i g) 0 (wordsIn block i g)) (g .words - g .program))
-    (settled i g to core (changedWords a (bitsIn block i g) 0 (wordsIn block i g)))
-    (zeroed g to core (fault 18))
+-- "Otherwise 18, tested before any field of the group."
+unfoldable pub groupOutcome : Assignments → Section → List ℕ → ℕ → Group → List ℕ → Outcome
+groupOutcome a section block i g core =
+    cond (groupFits section block i g)
+    (storedGroup (a .area) section i g core (changedWords a (bitsIn block i g) 0 (wordsIn block i g)))
+    (refusedGroup (a .area) section g core (fault 18))
 
--- where its words do not lie in their bank or count: 18
-unfoldable pub homed : Assignments → List ℕ → ℕ → Group → Home → List ℕ → Outcome
-homed a block i g (At to) core = counted a block i g to core
-homed a block i g Outside core = untouched core (fault 18)
-
--- "and so does each group (else 18)": it stays in one block, whose last word for it is word 254. The program words are among the
--- words after the identifier.
-unfoldable pub fitted : Assignments → Section → List ℕ → ℕ → Group → List ℕ → Outcome
-fitted a section block i g core =
-    cond (leb (i + g .words) 254)
-    (cond (leb (g .program) (g .words))
-    (homed a block i g (homeOf (a .area) section g) core)
-    (untouched core (fault 18)))
-    (untouched core (fault 18))
-
--- a word that is no group where one is due: 18
-unfoldable pub grouped : Assignments → Section → List ℕ → ℕ → GroupRead → List ℕ → Outcome
-grouped a section block i (Good g) core = fitted a section block i g core
-grouped a section block i (Bad f) core = untouched core f
+-- a word that is no group where one is due: 18, and nothing is changed
+unfoldable pub readOutcome : Assignments → Section → List ℕ → ℕ → List ℕ → GroupRead → Outcome
+readOutcome a section block i core (Good g) = groupOutcome a section block i g core
+readOutcome a section block i core (Bad f) = record { answer = Refused f; core = core }
 
 -- the group whose identifier is due at place i of a block
 unfoldable pub groupStep : Assignments → Section → List ℕ → ℕ → List ℕ → Outcome
-groupStep a section block i core = grouped a section block i (groupOf (getD block i 0)) core
+groupStep a section block i core = readOutcome a section block i core (groupOf (getD block i 0))
 
 -- ---- what has been seen to before a group is read
 

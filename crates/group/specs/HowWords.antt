@@ -1,155 +1,92 @@
--- How the code goes through a group: a word's halves one after the other with a cursor, and what it knows on the way.
-use Prim.Native.Nat.{ℕ, _+_, _-_, _*_, _/_, _%_, _≤_, _<_, _^_}
+-- The program words of a group, copied into the core and changed there one after the other: how the code goes, not a rule of 01.
+use Prim.Native.Nat.{ℕ, _+_, _-_, _*_, _%_, _≤_, _<_, _^_}
 use mathlib.Core.Path.{_≡_}
-use mathlib.Core.Bool.{Bool, true, false, cond}
+use mathlib.Core.Bool.{Bool, true, cond}
 use mathlib.Core.List.{List}
-use lib.ListN.{length, getD, set}
-use lib.Dec.{ltb, eqb}
-use Rattle.word.specs.declared.Absolute.{Absolute}
+use lib.ListN.{length, getD, set, replicate}
+use lib.Dec.{eqb}
 use Rattle.word.specs.declared.Area.{Area}
-use Rattle.word.specs.declared.Half.{Half}
-use Rattle.word.specs.declared.Half.the-variants.{Left, Right}
-use Rattle.word.specs.Fault.{fault}
-use Rattle.word.specs.Lists.{every, range, splice, cleared}
-use Rattle.word.specs.Word.{isWord, fieldOf}
-use Rattle.program.specs.declared.Group.{Group}
-use Rattle.field.specs.declared.Changed.{Changed}
-use Rattle.field.specs.declared.Changed.the-variants.{Word, Refused}
+use Rattle.word.specs.Lists.{every}
+use Rattle.word.specs.Word.{isWord}
 use Rattle.field.specs.Field.{Assignments}
-use Rattle.indicator.specs.declared.Indicator.{Indicator}
-use Rattle.indicator.specs.declared.Indicator.the-variants.{Same, Change, Long}
 use Rattle.indicator.specs.declared.Cursor.{Cursor}
 use Rattle.indicator.specs.Indicator.{InBlock, afterAll}
 use Rattle.indicator.specs.HowCursor.{lookOf, pastField, plainWords, pastPlain}
-use Rattle.group.specs.declared.words.Moved.{Moved}
-use Rattle.group.specs.declared.words.Moved.the-variants.{On, Off}
-use Rattle.group.specs.declared.words.Ran.{Ran}
-use Rattle.group.specs.declared.words.Ran.the-variants.{Through, Fails}
-use Rattle.group.specs.declared.halves.Stepped.{Stepped}
-use Rattle.group.specs.declared.halves.Stepped.the-variants.{Next, Stop}
-use Rattle.group.specs.Group.{halfStep, Words, changedWords}
+use Rattle.group.specs.Group.{Words, changedWords}
+use Rattle.group.specs.declared.changes.GroupChange.{GroupChange}
+use Rattle.group.specs.declared.changes.GroupChange.the-variants.{Bits, Stop as stop-group}
+use Rattle.group.specs.declared.changes.IndicatorWords.{IndicatorWords}
+use Rattle.group.specs.declared.changes.NextWord.{NextWord}
+use Rattle.group.specs.declared.changes.NextWord.the-variants.{At, Stop as stop-words}
+use Rattle.group.specs.declared.halves.WordChange.{WordChange}
+use Rattle.group.specs.declared.halves.WordChange.the-variants.{Next, Stop}
 use Rattle.group.specs.Group.Words.{Become, Refuse}
+use Rattle.group.specs.HowHalves.{bothOf}
 
--- an indicator taken apart: whether it tells no change, its type, its nine bits more
-abbrev pub sameIn : Indicator → Bool
-sameIn Same = true
-sameIn (Change t) = false
-sameIn (Long x) = false
+-- ---- a step of the loop: what it leads to, and the words in the core afterwards
+pub record Step : Type 0 where
+  pub answer : NextWord
+  pub words : List ℕ
 
-abbrev pub typeIn : Indicator → ℕ
-typeIn Same = 0
-typeIn (Change t) = t
-typeIn (Long x) = 2
+pub record Steps (s : Step) (answer : NextWord) (words : List ℕ) : Type 0 where
+  pub told : answer ≡ s .answer
+  pub left : words ≡ s .words
 
-abbrev pub moreIn : Indicator → ℕ
-moreIn Same = 0
-moreIn (Change t) = 0
-moreIn (Long x) = x
+-- word number k
+unfoldable pub storedStep : ℕ → List ℕ → WordChange → Step
+storedStep k out (Next v d) = record { answer = At d (k + 1); words = set out k v }
+storedStep k out (Stop f) = record { answer = stop-words f; words = out }
 
--- go on with the word, or stop
-abbrev pub onward : Changed → (ℕ → Stepped) → Stepped
-onward (Word v) next = next v
-onward (Refused f) next = Stop f
-
--- a half of the word w, from the cursor before its indicator to the cursor past it
-unfoldable pub halfOf : Assignments → Half → ℕ → Cursor → Stepped
-halfOf a h w c = onward (halfStep a h (lookOf (c .ahead) (fieldOf h w)) w) (λ v. Next v (pastField c (fieldOf h w)))
-
--- its left half, and then the right half of what that gave
-abbrev pub thenRight : Assignments → Stepped → Stepped
-thenRight a (Next v c) = halfOf a Right v c
-thenRight a (Stop f) = Stop f
-
-unfoldable pub bothOf : Assignments → ℕ → Cursor → Stepped
-bothOf a w c = thenRight a (halfOf a Left w c)
-
--- the bits 01000: no change, then type 000, the commonest change
-abbrev pub isMoved : Cursor → Bool
-isMoved c = eqb (c .ahead / 2 ^ 59) 8
-
--- a word with such indicators (`moved-both`, proofs/Both.antt: it is the same)
-unfoldable pub movedWord : Area → ℕ → Cursor → Stepped
-movedWord area w c =
-    cond (ltb (w % 65536 + area .at .0) 65536)
-    (Next (w + area .at .0) (record { at = c .at + 5; ahead = c .ahead * 2 ^ 5 % 2 ^ 64; words = c .words; edge = c .edge }))
-    (Stop (fault 21))
-
--- ---- the words of a group, which stand in the core, changed in place
-
--- what a move leads to, and the core afterwards
-pub record Move : Type 0 where
-  pub answer : Moved
-  pub core : List ℕ
-
-pub record Moves (m : Move) (answer : Moved) (core : List ℕ) : Type 0 where
-  pub told : answer ≡ m .answer
-  pub left : core ≡ m .core
-
--- the word at place p
-unfoldable pub oneMove : ℕ → List ℕ → Stepped → Move
-oneMove p core (Next v d) = record { answer = On d (p + 1); core = set core p v }
-oneMove p core (Stop f) = record { answer = Off f; core = core }
-
--- so many words without change at once
-abbrev pub plainMove : ℕ → List ℕ → Cursor → ℕ → Move
-plainMove p core c k = record { answer = On (pastPlain c k) (p + k); core = core }
+-- from word number k of the program words given on: many without change at once, or one
+unfoldable pub nextStep : Assignments → List ℕ → Cursor → ℕ → List ℕ → Step
+nextStep a given c k out =
+    cond (eqb (plainWords c (length given - k)) 0)
+    (storedStep k out (bothOf a (getD given k 0) c))
+    (record { answer = At (pastPlain c (plainWords c (length given - k))) (k + plainWords c (length given - k)); words = out })
 
 -- past the two 0s of one word without change
 abbrev pub pastTwo : Cursor → Cursor
 pastTwo c = record { at = c .at + 2; ahead = c .ahead * 2 ^ 2 % 2 ^ 64; words = c .words; edge = c .edge }
 
--- where the next two bits are 0: many words at once, or the one (`plain-move-is`, proofs/Turns.antt: it is what `moveOf` says)
-unfoldable pub plainOf : Cursor → ℕ → ℕ → Moved
-plainOf c p stop =
-    cond (eqb (plainWords c (stop - p)) 0) (On (pastTwo c) (p + 1)) (On (pastPlain c (plainWords c (stop - p))) (p + plainWords c (stop - p)))
+-- where the next two bits are 0: many words at once, or the one (`unchanged-next`, proofs/Steps.antt: it is what `nextStep` says)
+unfoldable pub unchangedStep : Cursor → ℕ → ℕ → NextWord
+unchangedStep c k n =
+    cond (eqb (plainWords c (n - k)) 0) (At (pastTwo c) (k + 1)) (At (pastPlain c (plainWords c (n - k))) (k + plainWords c (n - k)))
 
--- from place p on, where the words end at `stop`
-unfoldable pub moveOf : Assignments → Cursor → ℕ → ℕ → List ℕ → Move
-moveOf a c p stop core =
-    cond (eqb (plainWords c (stop - p)) 0)
-    (oneMove p core (bothOf a (getD core p 0) c))
-    (plainMove p core c (plainWords c (stop - p)))
-
--- all words: how many bits their indicators have, or the first refusal
-abbrev pub ranOf : Words → ℕ → Ran
-ranOf (Become vs) n = Through n
-ranOf (Refuse f) n = Fails f
-
--- the core afterwards; at a refusal some words are changed, and zeros make that good
-abbrev pub Leaves : List ℕ → ℕ → ℕ → Words → List ℕ → Type 0
-Leaves core base count (Become vs) core′ = core′ ≡ splice core base vs
-Leaves core base count (Refuse f) core′ = cleared core′ base count ≡ cleared core base count
-
-pub record Runs (a : Assignments) (bits : List ℕ) (base count : ℕ) (core : List ℕ) (r : Ran) (core′ : List ℕ) : Type 0 where
-  pub told : r ≡ ranOf (changedWords a bits 0 (range core base count)) (afterAll bits 0 (range core base count))
-  pub left : Leaves core base count (changedWords a bits 0 (range core base count)) core′
-
--- what is known before: n indicator words before place `end` of a block, and `count` program words in the core from place `base` on
-pub record Standing (area : Area) (block : List ℕ) (end n base count : ℕ) (core : List ℕ) : Type 0 where
+-- what is known before: word number k has not been reached, and stands in the core as it was given
+pub record NextReady (area : Area) (given : List ℕ) (c : Cursor) (k : ℕ) (out : List ℕ) : Type 0 where
   pub inside : area .at .0 + area .size ≤ 65536
-  pub marks : InBlock block end n
+  pub left : k < length given
+  pub most : length given ≤ 65536
+  pub room : length out ≡ length given
+  pub word : getD given k 0 < 2 ^ 36
+  pub same : getD out k 0 ≡ getD given k 0
+  pub few : 36 * c .words < 2 ^ 32
+  pub near : c .at + 26 * (length given - k) < 2 ^ 32
+
+-- ---- all words: how many bits their indicators have, or the first refusal
+abbrev pub bitsOr : Words → ℕ → GroupChange
+bitsOr (Become vs) n = Bits n
+bitsOr (Refuse f) n = stop-group f
+
+-- the words in the core: what the n program words become, or zeros
+abbrev pub wordsOrZeros : ℕ → Words → List ℕ
+wordsOrZeros n (Become vs) = vs
+wordsOrZeros n (Refuse f) = replicate n 0
+
+pub record Changes (a : Assignments) (bits given : List ℕ) (r : GroupChange) (out : List ℕ) : Type 0 where
+  pub told : r ≡ bitsOr (changedWords a bits 0 given) (afterAll bits 0 given)
+  pub left : out ≡ wordsOrZeros (length given) (changedWords a bits 0 given)
+
+-- what is known before
+pub record ChangeReady (area : Area) (given block : List ℕ) (marks : IndicatorWords) (out : List ℕ) : Type 0 where
+  pub inside : area .at .0 + area .size ≤ 65536
+  pub words : every isWord given ≡ true
+  pub few : length given ≤ 255
   pub long : length block ≡ 256
-  pub few : count ≤ 255
-  pub most : length core ≤ 65536
-  pub room : base + count ≤ length core
-  pub words : every isWord (range core base count) ≡ true
+  pub indicators : InBlock block (marks .end) (marks .count)
+  pub room : length out ≡ length given
 
 -- an indicator word with no change in it
 abbrev pub isZero : ℕ → Bool
 isZero w = eqb w 0
-
--- a group's numbers are of as many bits as its identifier has for them
-pub record Sized (g : Group) : Type 0 where
-  pub words : g .words < 2 ^ 8
-  pub program : g .program < 2 ^ 8
-  pub at : g .at .0 < 2 ^ 16
-
--- a group that lies in its block, and whose words have a home in the core
-pub record Placed (area : Area) (block : List ℕ) (i : ℕ) (g : Group) (to : Absolute) (core : List ℕ) : Type 0 where
-  pub inside : area .at .0 + area .size ≤ 65536
-  pub most : length core ≤ 65536
-  pub long : length block ≡ 256
-  pub words : every isWord block ≡ true
-  pub whole : i + g .words ≤ 254
-  pub fits : g .program ≤ g .words
-  pub room : to .0 + g .program ≤ length core

@@ -1,2 +1,4 @@
 pub mod Group
-pub mod Turns
+pub mod HowGroup
+pub mod HowHalves
+pub mod HowWords

@@ -1,59 +1,70 @@
-// The program words of a group, which stand in the core, changed there word after word. A group without any change is seen at a glance,
-// words without change are passed many at once, and the commonest change has a way of its own.
+// The program words of a group, changed word after word. They are read from the block and stored into the core, where all of them are
+// copied first: a group without any change is seen at a glance, words without change are passed many at once, and the commonest
+// change has a way of its own.
 ghost use mathlib.Core.Path.{_≡_};
 ghost use Prim.Native.Nat.{_+_, _-_, _*_, _<_, _≤_, _^_};
-ghost use lib.ListN.{length, getD};
+ghost use lib.ListN.{length};
 ghost use Rattle.word.specs.Lists.{every};
 ghost use Rattle.field.specs.Field.{assigned};
 ghost use Rattle.indicator.specs.Indicator.{bitsBefore};
-ghost use Rattle.group.specs.Turns.{movedWord, Moves, plainOf, moveOf, oneMove, Runs, Standing, isZero};
+ghost use Rattle.group.specs.HowHalves.{movedWord};
+ghost use Rattle.group.specs.HowWords.{isZero, ChangeReady, Changes, NextReady, Steps, unchangedStep, nextStep, storedStep};
 use crate::halves;
-use crate::halves::Stepped;
-use field::Setting;
+use crate::halves::WordChange;
 use indicator::Cursor;
+use field::Setting;
 use word::Area;
 use word::Fault;
+use word::Half;
+use word::Relative;
 
-// The cursor and the place of the next word; or the fault.
-pub enum Moved {
-    On(Cursor, usize),
-    Off(Fault),
+// The indicator words of a group: so many before a place of its block.
+pub struct IndicatorWords {
+    pub end: usize,
+    pub count: usize,
 }
 
-// How many bits the indicators of all words have; or the fault of the first field that has one.
-pub enum Ran {
-    Through(usize),
-    Fails(Fault),
+// How many bits the indicators of all program words have; or the fault of the first field that has one.
+pub enum GroupChange {
+    Bits(usize),
+    Stop(Fault),
 }
 
-// The words in the core, changed: at a glance where no indicator tells a change.
+// The cursor and the number of the next program word; or the fault.
+pub enum NextWord {
+    At(Cursor, usize),
+    Stop(Fault),
+}
+
+// The program words given, changed, in the core's words out; zeros there if a field is refused.
 pub fn change_group(
     s: Setting,
     words: &[u64],
     ranks: &[u64],
     ios: &[u64],
+    given: &[u64],
     block: &[u64],
-    end: usize,
-    n: usize,
-    base: usize,
-    count: usize,
-    core: &mut [u64],
-) -> Ran
-    requires { ⌜ Standing (s .area) (now block) end n base count (now core) ⌝ }
-    ensures { λ r. ⌜ Runs (assigned s (now (words .entry)) (now (ranks .entry)) (now (ios .entry))) (bitsBefore (now (block .entry)) end n) base count (now (core .entry)) r (now (core .exit)) ⌝ }
+    marks: IndicatorWords,
+    out: &mut [u64],
+) -> GroupChange
+    requires { ⌜ ChangeReady (s .area) (now given) (now block) marks (now out) ⌝ }
+    ensures { λ r. ⌜ Changes (assigned s (now (words .entry)) (now (ranks .entry)) (now (ios .entry))) (bitsBefore (now (block .entry)) (marks .end) (marks .count)) (now (given .entry)) r (now (out .exit)) ⌝ }
 {
-    if all_zero(&block[end - n..end]) {
-        return Ran::Through(2 * count);
+    word::slices::copy_in(out, 0, given);
+    let first = marks.end - marks.count;
+    let end = marks.end;
+    if all_zero(&block[first..end]) {
+        return GroupChange::Bits(2 * given.len());
     }
-    change_words(s, words, ranks, ios, block, end, n, base, count, core)
+    change_words(s, words, ranks, ios, given, block, marks, out)
 }
 
-fn all_zero(words: &[u64]) -> bool
-    ensures { λ r. ⌜ r ≡ every isZero (now (words .entry)) ⌝ }
+fn all_zero(numbers: &[u64]) -> bool
+    ensures { λ r. ⌜ r ≡ every isZero (now (numbers .entry)) ⌝ }
 {
     let mut i: usize = 0;
-    while i < words.len() {
-        if words[i] != 0 {
+    while i < numbers.len() {
+        if numbers[i] != 0 {
             return false;
         }
         i += 1;
@@ -61,73 +72,71 @@ fn all_zero(words: &[u64]) -> bool
     true
 }
 
-// Word after word.
+// Word after word, from number 0 on.
 fn change_words(
     s: Setting,
     words: &[u64],
     ranks: &[u64],
     ios: &[u64],
+    given: &[u64],
     block: &[u64],
-    end: usize,
-    n: usize,
-    base: usize,
-    count: usize,
-    core: &mut [u64],
-) -> Ran
-    requires { ⌜ Standing (s .area) (now block) end n base count (now core) ⌝ }
-    ensures { λ r. ⌜ Runs (assigned s (now (words .entry)) (now (ranks .entry)) (now (ios .entry))) (bitsBefore (now (block .entry)) end n) base count (now (core .entry)) r (now (core .exit)) ⌝ }
+    marks: IndicatorWords,
+    out: &mut [u64],
+) -> GroupChange
+    requires { ⌜ (ChangeReady (s .area) (now given) (now block) marks (now out)) × (now out ≡ now given) ⌝ }
+    ensures { λ r. ⌜ Changes (assigned s (now (words .entry)) (now (ranks .entry)) (now (ios .entry))) (bitsBefore (now (block .entry)) (marks .end) (marks .count)) (now (given .entry)) r (now (out .exit)) ⌝ }
 {
-    let stop = base + count;
-    let mut c = indicator::start(n);
-    let mut p = base;
-    while p < stop {
-        let full = indicator::refill(block, end, n, c);
-        match move_on(s, words, ranks, ios, full, p, stop, core) {
-            Moved::On(d, q) => {
+    let mut c = indicator::start(marks.count);
+    let mut k: usize = 0;
+    while k < given.len() {
+        let full = indicator::refill(block, marks.end, marks.count, c);
+        match change_next(s, words, ranks, ios, given, full, k, out) {
+            NextWord::At(d, j) => {
                 c = d;
-                p = q;
+                k = j;
             }
-            Moved::Off(f) => {
-                return Ran::Fails(f);
+            NextWord::Stop(f) => {
+                word::slices::clear(out, 0, given.len());
+                return GroupChange::Stop(f);
             }
         }
     }
-    Ran::Through(c.at)
+    GroupChange::Bits(c.at)
 }
 
-// From the word at place p on: words without change, or one word. The commonest change is tested first.
-fn move_on(
+// From word number k on: words without change, or one word. The commonest change is tested first.
+fn change_next(
     s: Setting,
     words: &[u64],
     ranks: &[u64],
     ios: &[u64],
+    given: &[u64],
     c: Cursor,
-    p: usize,
-    stop: usize,
-    core: &mut [u64],
-) -> Moved
-    requires { ⌜ (s .area .at .0 + s .area .size ≤ 65536) × (p < stop) × (stop ≤ length (now core)) × (length (now core) ≤ 65536) × (getD (now core) p 0 < 2 ^ 36) × (36 * c .words < 2 ^ 32) × (c .at + 26 * (stop - p) < 2 ^ 32) ⌝ }
-    ensures { λ r. ⌜ Moves (moveOf (assigned s (now (words .entry)) (now (ranks .entry)) (now (ios .entry))) c p stop (now (core .entry))) r (now (core .exit)) ⌝ }
+    k: usize,
+    out: &mut [u64],
+) -> NextWord
+    requires { ⌜ NextReady (s .area) (now given) c k (now out) ⌝ }
+    ensures { λ r. ⌜ Steps (nextStep (assigned s (now (words .entry)) (now (ranks .entry)) (now (ios .entry))) (now (given .entry)) c k (now (out .entry))) r (now (out .exit)) ⌝ }
 {
-    let w = core[p];
+    let w = given[k];
     let area = s.area;
     if c.ahead / 576460752303423488 == 8 {
-        return store(core, p, moved_word(area, c, w));
+        return store_word(out, k, moved_word(area, c, w));
     }
     if c.ahead < 4611686018427387904 {
-        return plain_move(c, p, stop);
+        return pass_unchanged(c, k, given.len());
     }
-    store(core, p, halves::step_word(s, words, ranks, ios, c, w))
+    store_word(out, k, halves::change_word(s, words, ranks, ios, c, w))
 }
 
 // Words without change at once, or the one whose two 0s come next: they stand in the core already.
-fn plain_move(c: Cursor, p: usize, stop: usize) -> Moved
-    requires { ⌜ (p < stop) × (stop < 2 ^ 32) × (36 * c .words < 2 ^ 32) × (c .at + 26 * (stop - p) < 2 ^ 32) ⌝ }
-    ensures { λ r. ⌜ r ≡ plainOf c p stop ⌝ }
+fn pass_unchanged(c: Cursor, k: usize, n: usize) -> NextWord
+    requires { ⌜ (k < n) × (n < 2 ^ 32) × (36 * c .words < 2 ^ 32) × (c .at + 26 * (n - k) < 2 ^ 32) ⌝ }
+    ensures { λ r. ⌜ r ≡ unchangedStep c k n ⌝ }
 {
-    let k = indicator::unchanged(c, stop - p);
-    if k != 0 {
-        return Moved::On(indicator::pass_plain(c, k), p + k);
+    let m = indicator::unchanged(c, n - k);
+    if m != 0 {
+        return NextWord::At(indicator::pass_plain(c, m), k + m);
     }
     let next = Cursor {
         at: c.at + 2,
@@ -135,31 +144,32 @@ fn plain_move(c: Cursor, p: usize, stop: usize) -> Moved
         words: c.words,
         edge: c.edge,
     };
-    Moved::On(next, p + 1)
+    NextWord::At(next, k + 1)
 }
 
-// What became of the word at place p.
-fn store(core: &mut [u64], p: usize, r: Stepped) -> Moved
-    requires { ⌜ (p < length (now core)) × (length (now core) < 2 ^ 64) ⌝ }
-    ensures { λ m. ⌜ Moves (oneMove p (now (core .entry)) r) m (now (core .exit)) ⌝ }
+// What became of word number k.
+fn store_word(out: &mut [u64], k: usize, r: WordChange) -> NextWord
+    requires { ⌜ (k < length (now out)) × (length (now out) < 2 ^ 64) ⌝ }
+    ensures { λ m. ⌜ Steps (storedStep k (now (out .entry)) r) m (now (out .exit)) ⌝ }
 {
     match r {
-        Stepped::Next(v, d) => {
-            core[p] = v;
-            Moved::On(d, p + 1)
+        WordChange::Next(v, d) => {
+            out[k] = v;
+            NextWord::At(d, k + 1)
         }
-        Stepped::Stop(f) => Moved::Off(f),
+        WordChange::Stop(f) => NextWord::Stop(f),
     }
 }
 
-// A word whose indicators are 01000.
-fn moved_word(area: Area, c: Cursor, w: u64) -> Stepped
+// A word whose indicators are 01000: its right field is moved by the area's address.
+fn moved_word(area: Area, c: Cursor, w: u64) -> WordChange
     requires { ⌜ (area .at .0 ≤ 65536) × (w < 2 ^ 36) × (c .at + 5 < 2 ^ 64) ⌝ }
     ensures { λ r. ⌜ r ≡ movedWord area w c ⌝ }
 {
-    if w % 65536 + area.at.0 < 65536 {
-        return Stepped::Next(
-            w + area.at.0,
+    let a = word::placed(area, Relative(word::field(w, Half::Right)));
+    if a.0 < 65536 {
+        return WordChange::Next(
+            word::move_right(area, w),
             Cursor {
                 at: c.at + 5,
                 ahead: c.ahead << 5,
@@ -168,5 +178,5 @@ fn moved_word(area: Area, c: Cursor, w: u64) -> Stepped
             },
         );
     }
-    Stepped::Stop(Fault { number: 21 })
+    WordChange::Stop(Fault { number: 21 })
 }

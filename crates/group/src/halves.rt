@@ -3,46 +3,46 @@ ghost use mathlib.Core.Path.{_≡_};
 ghost use Prim.Native.Nat.{_+_, _<_, _≤_, _^_};
 ghost use Rattle.field.specs.Field.{assigned};
 ghost use Rattle.indicator.specs.HowCursor.{pastOf};
-ghost use Rattle.group.specs.Turns.{sameIn, typeIn, moreIn, onward, halfOf, bothOf};
+ghost use Rattle.group.specs.HowHalves.{sameIn, typeIn, moreIn, onward, halfOf, bothOf};
+use indicator::Cursor;
 use field::Changed;
 use field::Setting;
-use indicator::Cursor;
 use indicator::Indicator;
 use word::Fault;
 use word::Half;
 
-// A word and the cursor past its indicators; or the fault of one of its fields.
-pub enum Stepped {
+// What a word becomes and the cursor past its indicators; or the fault of one of its fields.
+pub enum WordChange {
     Next(u64, Cursor),
     Stop(Fault),
 }
 
 // A word's left half, then its right one.
-pub fn step_word(
+pub fn change_word(
     s: Setting,
     words: &[u64],
     ranks: &[u64],
     ios: &[u64],
     c: Cursor,
     w: u64,
-) -> Stepped
+) -> WordChange
     requires { ⌜ (s .area .at .0 + s .area .size ≤ 65536) × (w < 2 ^ 36) × (c .at + 26 < 2 ^ 64) ⌝ }
     ensures { λ r. ⌜ r ≡ bothOf (assigned s (now (words .entry)) (now (ranks .entry)) (now (ios .entry))) w c ⌝ }
 {
     match left_half(s, words, ranks, ios, c, w) {
-        Stepped::Next(v, d) => right_half(s, words, ranks, ios, d, v),
-        Stepped::Stop(f) => Stepped::Stop(f),
+        WordChange::Next(v, d) => right_half(s, words, ranks, ios, d, v),
+        WordChange::Stop(f) => WordChange::Stop(f),
     }
 }
 
 // Either half has a function of its own, so that its code is made for its bits alone.
-fn left_half(s: Setting, words: &[u64], ranks: &[u64], ios: &[u64], c: Cursor, w: u64) -> Stepped
+fn left_half(s: Setting, words: &[u64], ranks: &[u64], ios: &[u64], c: Cursor, w: u64) -> WordChange
     requires { ⌜ (s .area .at .0 + s .area .size ≤ 65536) × (w < 2 ^ 36) × (c .at + 13 < 2 ^ 64) ⌝ }
     ensures { λ r. ⌜ r ≡ halfOf (assigned s (now (words .entry)) (now (ranks .entry)) (now (ios .entry))) Half.Left w c ⌝ }
 {
     let m = indicator::look(c.ahead, word::field(w, Half::Left));
     if same_in(m) {
-        return Stepped::Next(w, indicator::pass(c, m));
+        return WordChange::Next(w, indicator::pass(c, m));
     }
     passed(
         c,
@@ -51,13 +51,20 @@ fn left_half(s: Setting, words: &[u64], ranks: &[u64], ios: &[u64], c: Cursor, w
     )
 }
 
-fn right_half(s: Setting, words: &[u64], ranks: &[u64], ios: &[u64], c: Cursor, w: u64) -> Stepped
+fn right_half(
+    s: Setting,
+    words: &[u64],
+    ranks: &[u64],
+    ios: &[u64],
+    c: Cursor,
+    w: u64,
+) -> WordChange
     requires { ⌜ (s .area .at .0 + s .area .size ≤ 65536) × (w < 2 ^ 36) × (c .at + 13 < 2 ^ 64) ⌝ }
     ensures { λ r. ⌜ r ≡ halfOf (assigned s (now (words .entry)) (now (ranks .entry)) (now (ios .entry))) Half.Right w c ⌝ }
 {
     let m = indicator::look(c.ahead, word::field(w, Half::Right));
     if same_in(m) {
-        return Stepped::Next(w, indicator::pass(c, m));
+        return WordChange::Next(w, indicator::pass(c, m));
     }
     passed(
         c,
@@ -67,13 +74,13 @@ fn right_half(s: Setting, words: &[u64], ranks: &[u64], ios: &[u64], c: Cursor, 
 }
 
 // What became of a half, and the cursor past its indicator.
-fn passed(c: Cursor, m: Indicator, r: Changed) -> Stepped
+fn passed(c: Cursor, m: Indicator, r: Changed) -> WordChange
     requires { ⌜ c .at + 13 < 2 ^ 64 ⌝ }
-    ensures { λ x. ⌜ x ≡ onward r (λ v. Stepped.Next v (pastOf c m)) ⌝ }
+    ensures { λ x. ⌜ x ≡ onward r (λ v. WordChange.Next v (pastOf c m)) ⌝ }
 {
     match r {
-        Changed::Word(v) => Stepped::Next(v, indicator::pass(c, m)),
-        Changed::Refused(f) => Stepped::Stop(f),
+        Changed::Word(v) => WordChange::Next(v, indicator::pass(c, m)),
+        Changed::Refused(f) => WordChange::Stop(f),
     }
 }
 

@@ -1,15 +1,17 @@
 // One group of a program block: its program words are copied into the lent core and changed there, each one's left and right half in
 // order, while the indicators are counted. 18 comes before a refusal of a field: where a field is refused, the count decides which.
+mod changes;
 mod halves;
-mod words;
 
 ghost use mathlib.Core.Path.{_≡_};
 ghost use Prim.Native.Nat.{_+_, _*_, _<_, _≤_, _^_};
+ghost use lib.ListN.{length};
 ghost use Rattle.field.specs.Field.{assigned};
 ghost use Rattle.indicator.specs.Indicator.{justEnough};
-ghost use Rattle.group.specs.Group.{homeIn, homeOf, counted, fitted, groupStep, Meets, InArea, Ready};
-ghost use Rattle.group.specs.Turns.{Sized, Placed};
-use crate::words::Ran;
+ghost use Rattle.group.specs.Group.{liesIn, wordsLie, addressOf, groupOutcome, groupStep, Meets, InArea, Ready};
+ghost use Rattle.group.specs.HowGroup.{Sized, FillReady, Fitting, zeroFill, countedFill, fillOf, Fills};
+use crate::changes::GroupChange;
+use crate::changes::IndicatorWords;
 use field::Setting;
 use lists::Table;
 use program::Bank;
@@ -19,7 +21,6 @@ use program::Segment;
 use word::Absolute;
 use word::Area;
 use word::Fault;
-use word::Relative;
 
 // The section that a group stands in: the segment with its two banks, or a core table with the section's word count.
 pub enum Section {
@@ -31,12 +32,6 @@ pub enum Section {
 pub enum GroupStep {
     Done(usize, bool),
     Refused(Fault),
-}
-
-// Where a group's words go.
-pub enum Home {
-    At(Absolute),
-    Outside,
 }
 
 // The group whose identifier stands at place i of a block, into the core.
@@ -54,13 +49,13 @@ pub fn group_step(
     ensures { λ r. ⌜ Meets (groupStep (assigned s (now (words .entry)) (now (ranks .entry)) (now (ios .entry))) section (now (block .entry)) i (now (core .entry))) r (now (core .exit)) ⌝ }
 {
     match program::read_group(block[i]) {
-        GroupRead::Good(g) => fit_group(s, section, words, ranks, ios, block, i, g, core),
+        GroupRead::Good(g) => place_group(s, section, words, ranks, ios, block, i, g, core),
         GroupRead::Bad(f) => GroupStep::Refused(f),
     }
 }
 
-// The group g: 18 where it is not whole in its block, has fewer words than program words, or has no home.
-fn fit_group(
+// The group g, into the words of the core that it goes to: 18 where these do not lie where they must.
+fn place_group(
     s: Setting,
     section: Section,
     words: &[u64],
@@ -72,68 +67,87 @@ fn fit_group(
     core: &mut [u64],
 ) -> GroupStep
     requires { ⌜ (Ready (s .area) section (now block) i (now core)) × (Sized g) ⌝ }
-    ensures { λ r. ⌜ Meets (fitted (assigned s (now (words .entry)) (now (ranks .entry)) (now (ios .entry))) section (now (block .entry)) i g (now (core .entry))) r (now (core .exit)) ⌝ }
+    ensures { λ r. ⌜ Meets (groupOutcome (assigned s (now (words .entry)) (now (ranks .entry)) (now (ios .entry))) section (now (block .entry)) i g (now (core .entry))) r (now (core .exit)) ⌝ }
 {
-    if 254 < i + g.words as usize {
-        return GroupStep::Refused(Fault { number: 18 });
+    if words_lie(section, g) {
+        let area = s.area;
+        let to = address_of(area, section, g);
+        let first = to.0 as usize;
+        let past = first + g.program as usize;
+        return fill_group(s, words, ranks, ios, block, i, g, &mut core[first..past]);
     }
-    if g.words < g.program {
-        return GroupStep::Refused(Fault { number: 18 });
-    }
-    let area = s.area;
-    match home_of(area, section, g) {
-        Home::At(to) => count_group(s, words, ranks, ios, block, i, g, to, core),
-        Home::Outside => GroupStep::Refused(Fault { number: 18 }),
-    }
+    GroupStep::Refused(Fault { number: 18 })
 }
 
-// Where the words of a group go. Bit 16 zero is the IBANK; a table section has no such group.
-fn home_of(area: Area, section: Section, g: Group) -> Home
-    requires { ⌜ (area .at .0 + area .size ≤ 65536) × (InArea area section) × (Sized g) ⌝ }
-    ensures { λ r. ⌜ r ≡ homeOf area section g ⌝ }
+// Whether the words of a group lie in their bank, or in the table section's count. Bit 16 zero is the IBANK; a table section has no
+// such group.
+fn words_lie(section: Section, g: Group) -> bool
+    ensures { λ r. ⌜ r ≡ wordsLie section g ⌝ }
 {
     match section {
-        Section::Segment(seg) => {
+        Section::Segment(segment) => {
             if g.ibank {
-                let bank = seg.ibank;
-                return home_in(area, bank, g);
+                let bank = segment.ibank;
+                return lies_in(bank, g);
             }
-            let bank = seg.dbank;
-            home_in(area, bank, g)
+            let bank = segment.dbank;
+            lies_in(bank, g)
         }
-        Section::Table(t, count) => {
+        Section::Table(_, count) => {
             if g.ibank {
-                return Home::Outside;
+                return false;
             }
-            let at = t.at;
-            home_in(
-                Area { at, size: count },
-                Bank {
-                    at: Relative(0),
-                    count,
-                },
-                g,
-            )
+            word::run_within(g.at.0, g.program, 0, count)
         }
     }
 }
 
-// Where the words of a group go that must lie in a bank. Both count from the area's address.
-fn home_in(area: Area, bank: Bank, g: Group) -> Home
-    requires { ⌜ (area .at .0 ≤ 65536) × (bank .at .0 + bank .count ≤ 65536) × (Sized g) ⌝ }
-    ensures { λ r. ⌜ r ≡ homeIn area bank g ⌝ }
+// A bank and a group both count from the area's address.
+fn lies_in(bank: Bank, g: Group) -> bool
+    ensures { λ r. ⌜ r ≡ liesIn bank g ⌝ }
 {
-    if g.at.0 < bank.at.0 {
-        return Home::Outside;
-    }
-    if bank.at.0 + bank.count < g.at.0 + g.program {
-        return Home::Outside;
-    }
-    let at = g.at;
-    Home::At(word::placed(area, at))
+    word::run_within(g.at.0, g.program, bank.at.0, bank.count)
 }
 
-// The words copied into the core, changed there, and the count of the indicator words.
+// Where the first word of a group goes.
+fn address_of(area: Area, section: Section, g: Group) -> Absolute
+    requires { ⌜ (area .at .0 + area .size ≤ 65536) × (InArea area section) × (Sized g) ⌝ }
+    ensures { λ r. ⌜ r ≡ addressOf area section g ⌝ }
+{
+    let at = g.at;
+    match section {
+        Section::Segment(_) => word::placed(area, at),
+        Section::Table(t, _) => {
+            let table = t.at;
+            word::from_table(table, at)
+        }
+    }
+}
+
+// The group g, into the words out that it goes to: 18 where it is not whole in its block or has fewer words than program words.
+fn fill_group(
+    s: Setting,
+    words: &[u64],
+    ranks: &[u64],
+    ios: &[u64],
+    block: &[u64],
+    i: usize,
+    g: Group,
+    out: &mut [u64],
+) -> GroupStep
+    requires { ⌜ FillReady (s .area) (now block) i g (now out) ⌝ }
+    ensures { λ r. ⌜ Fills (fillOf (assigned s (now (words .entry)) (now (ranks .entry)) (now (ios .entry))) (now (block .entry)) i g) r (now (out .exit)) ⌝ }
+{
+    if 254 < i + g.words as usize {
+        return refuse(out, Fault { number: 18 });
+    }
+    if g.words < g.program {
+        return refuse(out, Fault { number: 18 });
+    }
+    count_group(s, words, ranks, ios, block, i, g, out)
+}
+
+// The words changed, and the count of the indicator words.
 fn count_group(
     s: Setting,
     words: &[u64],
@@ -142,34 +156,39 @@ fn count_group(
     block: &[u64],
     i: usize,
     g: Group,
-    to: Absolute,
-    core: &mut [u64],
+    out: &mut [u64],
 ) -> GroupStep
-    requires { ⌜ Placed (s .area) (now block) i g to (now core) ⌝ }
-    ensures { λ r. ⌜ Meets (counted (assigned s (now (words .entry)) (now (ranks .entry)) (now (ios .entry))) (now (block .entry)) i g to (now (core .entry))) r (now (core .exit)) ⌝ }
+    requires { ⌜ (FillReady (s .area) (now block) i g (now out)) × (Fitting i g) ⌝ }
+    ensures { λ r. ⌜ Fills (countedFill (assigned s (now (words .entry)) (now (ranks .entry)) (now (ios .entry))) (now (block .entry)) i g) r (now (out .exit)) ⌝ }
 {
     let first = i + 1;
-    let base = to.0 as usize;
-    let count = g.program as usize;
+    let past = first + g.program as usize;
     let end = first + g.words as usize;
     let n = (g.words - g.program) as usize;
-    word::slices::copy_in(core, base, &block[first..first + count]);
-    match words::change_group(s, words, ranks, ios, block, end, n, base, count, core) {
-        Ran::Through(bits) => {
+    let marks = IndicatorWords { end, count: n };
+    match changes::change_group(s, words, ranks, ios, &block[first..past], block, marks, out) {
+        GroupChange::Bits(bits) => {
             if just_enough(bits, n) {
                 return GroupStep::Done(end, g.last);
             }
-            word::slices::clear(core, base, count);
-            GroupStep::Refused(Fault { number: 18 })
+            refuse(out, Fault { number: 18 })
         }
-        Ran::Fails(f) => {
-            word::slices::clear(core, base, count);
-            if indicator::count_fits(block, first, first + count, end, n) {
+        GroupChange::Stop(f) => {
+            if indicator::count_fits(block, first, past, end, n) {
                 return GroupStep::Refused(f);
             }
             GroupStep::Refused(Fault { number: 18 })
         }
     }
+}
+
+// A refused group leaves zeros where its words would have gone.
+fn refuse(out: &mut [u64], f: Fault) -> GroupStep
+    ensures { λ r. ⌜ Fills (zeroFill (length (now (out .entry))) f) r (now (out .exit)) ⌝ }
+{
+    let n = out.len();
+    word::slices::clear(out, 0, n);
+    GroupStep::Refused(f)
 }
 
 // Whether n indicator words are just as many as the bits need.

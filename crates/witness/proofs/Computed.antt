@@ -24,7 +24,7 @@ use Rattle.sorting.specs.Sorted.{sorted}
 use Rattle.lists.specs.Kept.{numbersIn, tablesIn}
 use Rattle.lists.specs.Chain.{chain, chainFrom}
 use Rattle.field.specs.Field.{valued, movedField, becomes, putBack, fieldStep}
-use Rattle.group.specs.Group.{halfStep, wordStep, changedWords, homeIn, homeOf, settled, counted, homed, fitted, grouped, groupStep}
+use Rattle.group.specs.Group.{halfStep, wordStep, changedWords, wordsLie, addressOf, indicatorsFit, groupFits, refusedGroup, storedGroup, groupOutcome, readOutcome, groupStep}
 use Rattle.stage.specs.Stage.{numbersOf, stageOf}
 use Rattle.stage.specs.Ranges.{courseFits, bankFits, dueFits, stageFits}
 use Rattle.stage.specs.Record.{recordDue, isOver}
@@ -59,7 +59,7 @@ unfolding every everyTwo range tab splice cleared within apart characters spelt 
     labelOf finished programWordFits assignmentsFit bankOf segmentOf tableSectionOf groupOf inBank
     bitsOf flatMap indicatorBits bitsBefore numberAt indicatorAt afterField afterWord afterAll listsObey tablesObey tablesOf numbersKept
     wordsKept ranksKept wordsFrom sorted ranked numbersIn tablesIn chain chainFrom valued movedField becomes putBack fieldStep halfStep
-    wordStep changedWords homeIn homeOf settled counted homed fitted grouped groupStep numbersOf stageOf courseFits bankFits dueFits stageFits
+    wordStep changedWords wordsLie addressOf indicatorsFit groupFits refusedGroup storedGroup groupOutcome readOutcome groupStep numbersOf stageOf courseFits bankFits dueFits stageFits
     recordDue isOver afterLabel withLabel labelStep terminationStep banksFit withSegment segmentStep afterLast afterGroup itemStep closes
     programFrom programStep stretchOf mapOf inCore stretchesApart mapObeys hit count free held heldEach idle atMost fair placeRefusal
     lowestFree mapNumbers holders places placeIn ownOf stageIn iosIn wordsIn ranksIn areaIn countsFit loadFits heldFits placeFits areasApart

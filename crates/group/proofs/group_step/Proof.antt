@@ -1,6 +1,6 @@
 use mathlib.Core.Path.{refl, sym, _∙_}
-use Rattle.group.specs.Group.{grouped, groupStep}
-use Rattle.group.proofs.Homes.{group-sized}
+use Rattle.group.specs.Group.{readOutcome, groupStep}
+use Rattle.group.proofs.Places.{group-sized}
 use borrow.Author.Needs.{needs}
 use Rattle.group.proofs.group_step.Statement.{statement}
 use Rattle.group.proofs.group_step.Tie as tie
@@ -17,8 +17,8 @@ read-group-requires c κs = search needs
 enum-known-g : tie.Need-enum-known-g
 enum-known-g c = search needs
 
-fit-group-requires : tie.Need-fit-group-requires
-fit-group-requires c κs = (c .before .before .before .before .before .before .before .before .before .before .before .pre, group-sized _ _ (sym (c .before .before .before .before .read-group .ensures) ∙ c .before .before .g .given .1))
+place-group-requires : tie.Need-place-group-requires
+place-group-requires c κs = (c .before .before .before .before .before .before .before .before .before .before .before .pre, group-sized _ _ (sym (c .before .before .before .before .read-group .ensures) ∙ c .before .before .g .given .1))
 
 enum-known-f : tie.Need-enum-known-f
 enum-known-f c = search needs
@@ -27,11 +27,11 @@ same-length : tie.Need-same-length
 same-length c = search needs
 
 returns : tie.Need-returns
-unfolding groupStep grouped
-returns c = rw (sym (c .before .before .before .before .before .before .before .read-group .ensures) ∙ c .before .before .before .before .before .g .given .1) (c .before .before .fit-group .ensures)
+unfolding groupStep readOutcome
+returns c = rw (sym (c .before .before .before .before .before .before .before .read-group .ensures) ∙ c .before .before .before .before .before .g .given .1) (c .before .before .place-group .ensures)
 
 returns-2 : tie.Need-returns-2
-unfolding groupStep grouped
+unfolding groupStep readOutcome
 returns-2 c = rw (sym (c .before .before .before .read-group .ensures) ∙ c .before .f .given .1) (record { told = refl; left = refl })
 
 pub group-step-spec : {M : Type 1} → statement M
@@ -42,7 +42,7 @@ group-step-spec =
     shared-slice-read-read-group
     read-group-requires
     enum-known-g
-    fit-group-requires
+    place-group-requires
     enum-known-f
     same-length
     returns

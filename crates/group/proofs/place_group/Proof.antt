@@ -1,79 +1,69 @@
--- `fit_group`: the tests of the code are those of the definition; a group with a home lies in the core. Assumes nothing.
-use mathlib.Core.Path.{refl, sym, _∙_}
+use mathlib.Core.Path.{sym, ap, _∙_}
 use native.Mathlib.Omega.{arith}
+use Rattle.word.specs.declared.Absolute.{Absolute}
 use Rattle.field.specs.Field.{assigned}
-use Rattle.word.proofs.Tests.{tests}
-use Rattle.group.specs.Group.{homed, fitted}
-use Rattle.group.proofs.Homes.{home-lies}
-use Rattle.group.proofs.Steps.{fitted-home}
+use Rattle.group.proofs.Places.{words-lie}
+use Rattle.group.proofs.Steps.{outcome-filled, outcome-outside}
 use borrow.Author.Needs.{needs}
-use Rattle.group.proofs.fit_group.Statement.{statement}
-use Rattle.group.proofs.fit_group.Tie as tie
+use Rattle.group.proofs.place_group.Statement.{statement}
+use Rattle.group.proofs.place_group.Tie as tie
 
-add-if1 : tie.Need-add-if1
-add-if1 c = search needs
+words-lie-requires : tie.Need-words-lie-requires
+words-lie-requires c κs = search needs
 
-returns : tie.Need-returns
-unfolding fitted
-returns c = search tests
+address-of-requires : tie.Need-address-of-requires
+address-of-requires c κs = search needs
 
-returns-2 : tie.Need-returns-2
-unfolding fitted
-returns-2 c = search tests
+add-past : tie.Need-add-past
+add-past c = let z = c .before .before .before .before .before .before .before .before .before in
+    let l = rw (sym (c .address-of .ensures)) at (words-lie (z .args .s .area) (z .args .section) (z .args .g) (z .pre .0 .room) (sym (c .before .before .before .words-lie .ensures) ∙ c .before .before .if1 .taken)) in
+    omega (arith, l .high, z .pre .0 .inside, z .pre .0 .most)
 
-home-of-requires : tie.Need-home-of-requires
-home-of-requires c κs = search needs
+mul-fill-group : tie.Need-mul-fill-group
+mul-fill-group c = let z = c .before .before .before .before .before .before .before .before .before in
+    let l = rw (sym (c .address-of .ensures)) at (words-lie (z .args .s .area) (z .args .section) (z .args .g) (z .pre .0 .room) (sym (c .before .before .before .words-lie .ensures) ∙ c .before .before .if1 .taken)) in
+    omega (arith, l .high, z .pre .0 .inside, z .pre .0 .most)
 
-enum-known-to : tie.Need-enum-known-to
-enum-known-to c = search needs
+sub-fill-group : tie.Need-sub-fill-group
+sub-fill-group c = search needs
 
-count-group-requires : tie.Need-count-group-requires
-count-group-requires c κs = let b = c .before .before .before .before in
-    let f = b .before .before .before .before in
-    let z = f .before .before .before .before .before .before in
-    let p = z .pre .0 in
-    let l = rw (sym (b .home-of .ensures) ∙ c .before .before .to .given .1) at (home-lies (z .args .s .area) (z .args .section) (z .args .g) (p .room)) in
-    record {
-      inside = omega (arith, p .inside, p .most);
-      most = p .most;
-      long = p .long;
-      words = p .words;
-      whole = omega (arith, f .if1 .left);
-      fits = omega (arith, b .before .before .if2 .left);
-      room = omega (arith, l .1, p .inside);
-    }
+part-fill-group-start : tie.Need-part-fill-group-start
+part-fill-group-start c = search needs
 
-enum-told : tie.Need-enum-told
-enum-told c = search needs
+part-fill-group-end : tie.Need-part-fill-group-end
+part-fill-group-end c = let z = c .before .before .before .before .before .before .before .before .before in
+    let l = rw (sym (c .address-of .ensures)) at (words-lie (z .args .s .area) (z .args .section) (z .args .g) (z .pre .0 .room) (sym (c .before .before .before .words-lie .ensures) ∙ c .before .before .if1 .taken)) in
+    omega (arith, l .high, z .pre .0 .inside)
+
+fill-group-requires : tie.Need-fill-group-requires
+fill-group-requires c κs = search needs
 
 same-length : tie.Need-same-length
 same-length c = search needs
 
-returns-3 : tie.Need-returns-3
-unfolding assigned homed
-returns-3 c = let b = c .before .before .before .before .before .before .before in
-    let f = b .before .before .before .before in
-    fitted-home _ _ _ _ _ _ _ _ _ (f .if1 .left) (b .before .before .if2 .left) (b .home-of .ensures)
-    (rw (c .before .before .before .before .before .to .given .1) (c .before .before .count-group .ensures))
+returns : tie.Need-returns
+unfolding assigned
+returns c = let z = c .before .before .before .before .before .before .before .before .before .before .before .before .before in
+    let q = sym (c .before .before .before .before .before .before .before .words-lie .ensures) ∙ c .before .before .before .before .before .before .if1 .taken in
+    let l = words-lie (z .args .s .area) (z .args .section) (z .args .g) (z .pre .0 .room) q in
+    outcome-filled _ _ _ _ _ _ (z .pre .0 .long) (omega (arith, l .high, z .pre .0 .inside)) q _ (ap (λ (x : Absolute). x .0) (c .before .before .before .before .address-of .ensures)) _ _ (c .before .before .fill-group .ensures)
 
-returns-4 : tie.Need-returns-4
-unfolding assigned homed
-returns-4 c = let b = c .before .before in
-    let f = b .before .before .before .before in
-    fitted-home _ _ _ _ _ _ _ _ _ (f .if1 .left) (b .before .before .if2 .left) (b .home-of .ensures)
-    (rw (c .enum-told .given .1) (record { told = refl; left = refl }))
+returns-2 : tie.Need-returns-2
+unfolding assigned
+returns-2 c = outcome-outside _ _ _ _ _ _ (sym (c .before .words-lie .ensures) ∙ c .if1 .left)
 
-pub fit-group-spec : {M : Type 1} → statement M
-fit-group-spec =
+pub place-group-spec : {M : Type 1} → statement M
+place-group-spec =
     tie.close
     (tie.spec
-    add-if1
-    returns
-    returns-2
-    home-of-requires
-    enum-known-to
-    count-group-requires
-    enum-told
+    words-lie-requires
+    address-of-requires
+    add-past
+    mul-fill-group
+    sub-fill-group
+    part-fill-group-start
+    part-fill-group-end
+    fill-group-requires
     same-length
-    returns-3
-    returns-4)
+    returns
+    returns-2)

@@ -1,4 +1,4 @@
--- `words::all_zero`: the words not yet looked at decide. Assumes nothing.
+-- `changes::all_zero`: the words not yet looked at decide. Assumes nothing.
 use Prim.Native.Nat.{_≤_, _-_}
 use mathlib.Core.Path.{_≡_, refl}
 use native.Mathlib.Omega.{arith}
@@ -7,15 +7,15 @@ use borrow.Author.Tests.{eq-eqb, ne-eqb}
 use denote.Ref.{now}
 use Rattle.word.specs.Lists.{every}
 use Rattle.word.proofs.Lists.{every-more, every-fails, every-ends}
-use Rattle.group.specs.Turns.{isZero}
-use Rattle.group.proofs.words.all_zero.Statement.{statement}
-use Rattle.group.proofs.words.all_zero.Tie as tie
+use Rattle.group.specs.HowWords.{isZero}
+use Rattle.group.proofs.changes.all_zero.Statement.{statement}
+use Rattle.group.proofs.changes.all_zero.Tie as tie
 
 abbrev Inv-loop : tie.InvT-loop
-Inv-loop words i₀ i = (i ≤ length words) × (every isZero words ≡ every isZero (drop i words))
+Inv-loop numbers i₀ i = (i ≤ length numbers) × (every isZero numbers ≡ every isZero (drop i numbers))
 
 abbrev μ-loop : tie.MeasureT-loop
-μ-loop words i₀ i = length words - i
+μ-loop numbers i₀ i = length numbers - i
 
 loop-holds : tie.Need-loop-holds Inv-loop μ-loop
 loop-holds c = (omega arith, refl)
@@ -38,7 +38,7 @@ loop-less c = omega arith
 
 loop-again : tie.Need-loop-again Inv-loop μ-loop
 loop-again c = let l = c .before .before .before .loop in
-    (omega arith, every-more isZero 0 (now (c .before .before .before .before .args .words)) (l .i) _ (omega arith) (eq-eqb _ _ (c .if1 .left)) (l .inv .1))
+    (omega arith, every-more isZero 0 (now (c .before .before .before .before .args .numbers)) (l .i) _ (omega arith) (eq-eqb _ _ (c .if1 .left)) (l .inv .1))
 
 returns-2 : tie.Need-returns-2 Inv-loop μ-loop
 returns-2 c = every-ends isZero 0 _ (c .before .loop .i) _ (omega arith) (c .before .loop .inv .1)

@@ -1,26 +1,37 @@
--- `words::moved_word`: the test of the code is that of the definition. Assumes nothing.
+use native.Mathlib.Omega.{arith}
 use borrow.Author.Tests.{lt-ltb, le-ltb}
-use Rattle.group.specs.Turns.{movedWord}
+use Rattle.group.specs.HowHalves.{movedWord}
 use borrow.Author.Needs.{needs}
-use Rattle.group.proofs.words.moved_word.Statement.{statement}
-use Rattle.group.proofs.words.moved_word.Tie as tie
+use Rattle.group.proofs.changes.moved_word.Statement.{statement}
+use Rattle.group.proofs.changes.moved_word.Tie as tie
 
-add-if1 : tie.Need-add-if1
-add-if1 c = search needs
+field-requires : tie.Need-field-requires
+field-requires c κs = search needs
 
-add-t7 : tie.Need-add-t7
-add-t7 c = search needs
+placed-requires : tie.Need-placed-requires
+placed-requires c κs = search needs
 
-add-t8 : tie.Need-add-t8
-add-t8 c = search needs
+move-right-requires : tie.Need-move-right-requires
+move-right-requires c κs = let e = rw (c .before .before .before .field .ensures) at (c .before .before .placed .ensures) in
+    let t = rw e at (c .if1 .taken) in
+    (search needs, omega (arith, t))
+
+add-t10 : tie.Need-add-t10
+add-t10 c = search needs
 
 returns : tie.Need-returns
 unfolding movedWord
-returns c = rw (lt-ltb _ _ (c .before .before .before .if1 .taken))
+returns c = let e = rw (c .before .before .before .before .before .before .field .ensures) at (c .before .before .before .before .before .placed .ensures) in
+    let t = rw e at (c .before .before .before .if1 .taken) in
+    rw (lt-ltb _ _ t, c .before .before .move-right .ensures)
 
 returns-2 : tie.Need-returns-2
 unfolding movedWord
-returns-2 c = rw (le-ltb _ _ (c .if1 .left))
+returns-2 c = let e = rw (c .before .before .before .field .ensures) at (c .before .before .placed .ensures) in
+    let t = rw e at (c .if1 .left) in
+    rw (le-ltb _ _ t)
 
 pub moved-word-spec : {M : Type 1} → statement M
-moved-word-spec = tie.close (tie.spec add-if1 add-t7 add-t8 returns returns-2)
+moved-word-spec =
+    tie.close
+    (tie.spec field-requires placed-requires move-right-requires add-t10 returns returns-2)

@@ -1,4 +1,4 @@
--- `halves::step_word`: from what its callees ensure. Assumes nothing.
+-- `halves::change_word`: from what its callees ensure. Assumes nothing.
 use mathlib.Core.Path.{sym, _∙_}
 use native.Mathlib.Omega.{arith}
 use denote.Ref.{now}
@@ -6,11 +6,11 @@ use Rattle.word.specs.declared.Half.the-variants.{Left}
 use Rattle.word.specs.Word.{fieldOf}
 use Rattle.field.specs.Field.{assigned}
 use Rattle.indicator.proofs.Reading.{past-at-most}
-use Rattle.group.specs.Turns.{bothOf}
+use Rattle.group.specs.HowHalves.{bothOf}
 use Rattle.group.proofs.Both.{half-fits, half-reach}
 use borrow.Author.Needs.{needs}
-use Rattle.group.proofs.halves.step_word.Statement.{statement}
-use Rattle.group.proofs.halves.step_word.Tie as tie
+use Rattle.group.proofs.halves.change_word.Statement.{statement}
+use Rattle.group.proofs.halves.change_word.Tie as tie
 
 left-half-requires : tie.Need-left-half-requires
 left-half-requires c κs = search needs
@@ -36,7 +36,7 @@ returns-2 : tie.Need-returns-2
 unfolding bothOf
 returns-2 c = rw (sym (c .before .before .before .left-half .ensures), c .before .f .given .1)
 
-pub step-word-spec : {M : Type 1} → statement M
-step-word-spec =
+pub change-word-spec : {M : Type 1} → statement M
+change-word-spec =
     tie.close
     (tie.spec left-half-requires enum-known-v right-half-requires enum-known-f returns returns-2)
