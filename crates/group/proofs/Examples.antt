@@ -20,8 +20,7 @@ load = record {
   area = record { at = record { 0 = 2 }; size = 4 };
   tables = [];
   ios = [];
-  near = 0;
-  all = 0;
+  channels = 0;
 }
 
 -- an IBANK of one word at the Program Name, as the hand deck's program block has it, and no DBANK

@@ -94,16 +94,16 @@ module _ (ts : List Table) where
   unfolding constant
   constant-fault f x = both ofField (isSet 15 f) (long-fault f x) (short-fault f)
 
-switch-fault : (ios : List ℕ) (near : ℕ) (h : Half) (k : Reference) → ofField (switch ios near h k)
+switch-fault : (ios : List ℕ) (channels : ℕ) (h : Half) (k : Reference) → ofField (switch ios channels h k)
 unfolding switch
-switch-fault ios near Left k = both ofField (leb near (k .0)) (omega arith, omega arith) tt
-switch-fault ios near Right k = (omega arith, omega arith)
+switch-fault ios channels Left k = both ofField (leb channels (k .0)) (omega arith, omega arith) tt
+switch-fault ios channels Right k = (omega arith, omega arith)
 
-unit-fault : (ios : List ℕ) (near all : ℕ) (k : Reference) → ofField (unit ios near all k)
+unit-fault : (ios : List ℕ) (channels : ℕ) (k : Reference) → ofField (unit ios channels k)
 unfolding unit
-unit-fault ios near all k =
-    both ofField (ltb (k .0) near) (omega arith, omega arith)
-    (both ofField (ltb (k .0) all) (valued-fault (getD ios (k .0) 0)) (omega arith, omega arith))
+unit-fault ios channels k =
+    both ofField (ltb (k .0) channels) (omega arith, omega arith)
+    (both ofField (ltb (k .0) (length ios)) (valued-fault (getD ios (k .0) 0)) (omega arith, omega arith))
 
 becomes-fault : (a : Assignments) (h : Half) (t w x : ℕ) → ofField (becomes a h t w x)
 unfolding becomes
@@ -111,8 +111,8 @@ becomes-fault a h t w x =
     both ofField (eqb t 0) (moved-fault (a .area) (relative (fieldOf h w)))
     (both ofField (eqb t 1) (pair-fault (a .tables) (fieldOf h w))
     (both ofField (eqb t 2) (constant-fault (a .tables) (fieldOf h w) x)
-    (both ofField (eqb t 4) (switch-fault (a .ios) (a .near) h (reference (aField w)))
-    (both ofField (eqb t 7) (unit-fault (a .ios) (a .near) (a .all) (reference (fieldOf h w)))
+    (both ofField (eqb t 4) (switch-fault (a .ios) (a .channels) h (reference (aField w)))
+    (both ofField (eqb t 7) (unit-fault (a .ios) (a .channels) (reference (fieldOf h w)))
     (omega arith, omega arith)))))
 
 put-fault : (k n w : ℕ) (b : Becomes) → ofField b → ofWord (putBack k n w b)

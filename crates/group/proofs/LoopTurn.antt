@@ -8,7 +8,7 @@ use native.Mathlib.Nat.{zero-div}
 use native.Mathlib.Omega.{arith}
 use lib.ListN.{length, getD, take, drop}
 use borrow.Author.Tests.{eqb-true, ltb-true}
-use Rattle.word.specs.declared.Area.{Area}
+use Rattle.lists.specs.declared.Given.{Given}
 use Rattle.word.specs.declared.Fault.{Fault}
 use Rattle.word.specs.Lists.{every, range, splice, cleared}
 use Rattle.word.specs.Word.{isWord}
@@ -29,7 +29,7 @@ use Rattle.group.specs.declared.changes.NextWord.the-variants.{At, Stop 
 use Rattle.group.specs.HowWords.{Steps, nextStep, NextReady, Changes, ChangeReady, isZero}
 use Rattle.group.proofs.Loop.{Reached, reached-start, none-left, reached-stop, reached-refilled, step-goes, step-stops, plain-become}
 
-module _ (area : Area) (given block : List ℕ) (marks : IndicatorWords) (out₀ : List ℕ) (ready : ChangeReady area given block marks out₀) where
+module _ (x : Given) (l given block : List ℕ) (marks : IndicatorWords) (out₀ : List ℕ) (ready : ChangeReady x l given block marks out₀) where
   abbrev Here : Assignments → List ℕ → Cursor → ℕ → Type 0
   Here a = Reached a block (marks .end) (marks .count) given
 
@@ -40,10 +40,10 @@ module _ (area : Area) (given block : List ℕ) (marks : IndicatorWords) (out₀
   pub copied-in : (out : List ℕ) → out ≡ splice out₀ 0 given → out ≡ given
   copied-in out e = e ∙ splice-whole out₀ given (sym (ready .room))
 
-  pub copied-ready : (out : List ℕ) → out ≡ splice out₀ 0 given → (ChangeReady area given block marks out) × (out ≡ given)
+  pub copied-ready : (out : List ℕ) → out ≡ splice out₀ 0 given → (ChangeReady x l given block marks out) × (out ≡ given)
   copied-ready out e = (
     record {
-      inside = ready .inside;
+      lists = ready .lists;
       words = ready .words;
       few = ready .few;
       long = ready .long;
@@ -67,9 +67,9 @@ module _ (area : Area) (given block : List ℕ) (marks : IndicatorWords) (out₀
       full-reached : Here a out full k
       full-reached = rw e (reached-refilled a block (marks .end) (marks .count) given (ready .indicators) out c k w h (omega (arith, turn-near)))
 
-      pub turn-ready : NextReady area given full k out
+      pub turn-ready : NextReady x l given full k out
       turn-ready = record {
-        inside = ready .inside;
+        lists = ready .lists;
         left = h;
         most = omega (arith, ready .few);
         room = w .long;
@@ -86,8 +86,8 @@ module _ (area : Area) (given block : List ℕ) (marks : IndicatorWords) (out₀
         pub turn-stops : (f : Fault) → m ≡ stop-words f → (out″ : List ℕ) → out″ ≡ cleared out′ 0 (length given)
             → Changes a (bitsBefore block (marks .end) (marks .count)) given (stop-group f) out″
         turn-stops f q out″ z =
-            let x = step-stops a block (marks .end) (marks .count) given (ready .indicators) out full k full-reached h full-sees m out′ g f q in
-            reached-stop a block (marks .end) (marks .count) given out full k full-reached f (x .1) out″ (z ∙ ap (λ (l : List ℕ). cleared l 0 (length given)) (x .0))
+            let y = step-stops a block (marks .end) (marks .count) given (ready .indicators) out full k full-reached h full-sees m out′ g f q in
+            reached-stop a block (marks .end) (marks .count) given out full k full-reached f (y .1) out″ (z ∙ ap (λ (u : List ℕ). cleared u 0 (length given)) (y .0))
 
 -- ---- where no indicator word has a 1, no bit is one
 no-bit : (block : List ℕ) (end n : ℕ) → InBlock block end n → every isZero (range block (end - n) n) ≡ true → (k : ℕ) → getD (bitsBefore block end n) k 0 ≡ 0

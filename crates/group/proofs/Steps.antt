@@ -7,7 +7,7 @@ use native.Mathlib.Nat.{add-sub-cancel-left}
 use native.Mathlib.Omega.{arith}
 use lib.ListN.{length, take, drop, replicate, length-replicate}
 use borrow.Author.Tests.{leb-true}
-use Rattle.word.specs.declared.Area.{Area}
+use Rattle.lists.specs.declared.Given.{Given}
 use Rattle.word.specs.declared.Fault.{Fault}
 use Rattle.word.specs.Fault.{fault}
 use Rattle.word.specs.Lists.{range, splice, cleared}
@@ -41,16 +41,16 @@ unfolding cleared
 cleared-whole out = splice-whole out (replicate (length out) 0) (length-replicate (length out) 0)
 
 -- ---- a group that is whole in its block and holds its program words
-module _ (area : Area) (block : List ℕ) (i : ℕ) (g : Group) (out : List ℕ) (ready : FillReady area block i g out) (fit : Fitting i g) where
+module _ (x : Given) (l block : List ℕ) (i : ℕ) (g : Group) (out : List ℕ) (ready : FillReady x l block i g out) (fit : Fitting i g) where
   many : length (wordsIn block i g) ≡ g .program
   many = length-range block (i + 1) (g .program) (omega (arith, ready .long, fit .whole, fit .holds))
 
   -- the program words as the code lends them
-  pub lent-ready : ChangeReady area (take (i + 1 + g .program - (i + 1)) (drop (i + 1) block)) block (record { end = i + 1 + g .words; count = g .words - g .program }) out
+  pub lent-ready : ChangeReady x l (take (i + 1 + g .program - (i + 1)) (drop (i + 1) block)) block (record { end = i + 1 + g .words; count = g .words - g .program }) out
   lent-ready =
       rw (range-lent block (i + 1) (g .program))
       (record {
-        inside = ready .inside;
+        lists = ready .lists;
         words = every-range isWord block (i + 1) (g .program) (ready .words);
         few = omega (arith, many, fit .whole, fit .holds);
         long = ready .long;

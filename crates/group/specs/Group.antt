@@ -16,6 +16,8 @@ use Rattle.word.specs.Lists.{every, range, splice, cleared}
 use Rattle.word.specs.Runs.{within}
 use Rattle.word.specs.Sorts.{absoluteOf, fromTable}
 use Rattle.word.specs.Word.{isWord, fieldOf}
+use Rattle.lists.specs.declared.Given.{Given}
+use Rattle.lists.specs.Load.{Readable}
 use Rattle.program.specs.declared.Bank.{Bank}
 use Rattle.program.specs.declared.Group.{Group}
 use Rattle.program.specs.declared.GroupRead.{GroupRead}
@@ -154,11 +156,12 @@ InArea area (InSegment segment) =
     (segment .ibank .at .0 + segment .ibank .count ≤ area .size) × (segment .dbank .at .0 + segment .dbank .count ≤ area .size)
 InArea area (InTable t count) = (area .at .0 ≤ t .at .0) × (t .at .0 + t .len ≤ area .at .0 + area .size) × (count ≤ t .len)
 
--- the area lies in the core, and the block is one, whose words 0 to 254 may hold an identifier
-pub record Ready (area : Area) (section : Section) (block : List ℕ) (i : ℕ) (core : List ℕ) : Type 0 where
-  pub inside : area .at .0 + area .size ≤ length core
+-- the load's lists can be read, its area lies in the core, and the block is one, whose words 1 to 254 may hold an identifier
+pub record Ready (g : Given) (l : List ℕ) (section : Section) (block : List ℕ) (i : ℕ) (core : List ℕ) : Type 0 where
+  pub lists : Readable g l
+  pub inside : g .area .at .0 + g .area .size ≤ length core
   pub most : length core ≤ 65536
-  pub room : InArea area section
+  pub room : InArea (g .area) section
   pub long : length block ≡ 256
   pub words : every isWord block ≡ true
   pub place : i ≤ 254

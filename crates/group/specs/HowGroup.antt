@@ -4,7 +4,8 @@ use mathlib.Core.Path.{_≡_}
 use mathlib.Core.Bool.{true, cond}
 use mathlib.Core.List.{List}
 use lib.ListN.{length, replicate}
-use Rattle.word.specs.declared.Area.{Area}
+use Rattle.lists.specs.declared.Given.{Given}
+use Rattle.lists.specs.Load.{Readable}
 use Rattle.word.specs.declared.Fault.{Fault}
 use Rattle.word.specs.Fault.{fault}
 use Rattle.word.specs.Lists.{every}
@@ -53,8 +54,8 @@ pub record Sized (g : Group) : Type 0 where
   pub at : g .at .0 < 2 ^ 16
 
 -- what is known before
-pub record FillReady (area : Area) (block : List ℕ) (i : ℕ) (g : Group) (out : List ℕ) : Type 0 where
-  pub inside : area .at .0 + area .size ≤ 65536
+pub record FillReady (x : Given) (l block : List ℕ) (i : ℕ) (g : Group) (out : List ℕ) : Type 0 where
+  pub lists : Readable x l
   pub long : length block ≡ 256
   pub words : every isWord block ≡ true
   pub place : i ≤ 254

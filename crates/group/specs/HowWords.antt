@@ -5,7 +5,8 @@ use mathlib.Core.Bool.{Bool, true, cond}
 use mathlib.Core.List.{List}
 use lib.ListN.{length, getD, set, replicate}
 use lib.Dec.{eqb}
-use Rattle.word.specs.declared.Area.{Area}
+use Rattle.lists.specs.declared.Given.{Given}
+use Rattle.lists.specs.Load.{Readable}
 use Rattle.word.specs.Lists.{every}
 use Rattle.word.specs.Word.{isWord}
 use Rattle.field.specs.Field.{Assignments}
@@ -54,8 +55,8 @@ unchangedStep c k n =
     cond (eqb (plainWords c (n - k)) 0) (At (pastTwo c) (k + 1)) (At (pastPlain c (plainWords c (n - k))) (k + plainWords c (n - k)))
 
 -- what is known before: word number k has not been reached, and stands in the core as it was given
-pub record NextReady (area : Area) (given : List ℕ) (c : Cursor) (k : ℕ) (out : List ℕ) : Type 0 where
-  pub inside : area .at .0 + area .size ≤ 65536
+pub record NextReady (g : Given) (l given : List ℕ) (c : Cursor) (k : ℕ) (out : List ℕ) : Type 0 where
+  pub lists : Readable g l
   pub left : k < length given
   pub most : length given ≤ 65536
   pub room : length out ≡ length given
@@ -79,8 +80,8 @@ pub record Changes (a : Assignments) (bits given : List ℕ) (r : GroupChange) (
   pub left : out ≡ wordsOrZeros (length given) (changedWords a bits 0 given)
 
 -- what is known before
-pub record ChangeReady (area : Area) (given block : List ℕ) (marks : IndicatorWords) (out : List ℕ) : Type 0 where
-  pub inside : area .at .0 + area .size ≤ 65536
+pub record ChangeReady (g : Given) (l given block : List ℕ) (marks : IndicatorWords) (out : List ℕ) : Type 0 where
+  pub lists : Readable g l
   pub words : every isWord given ≡ true
   pub few : length given ≤ 255
   pub long : length block ≡ 256

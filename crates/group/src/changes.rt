@@ -5,14 +5,14 @@ ghost use mathlib.Core.Path.{_≡_};
 ghost use Prim.Native.Nat.{_+_, _-_, _*_, _<_, _≤_, _^_};
 ghost use lib.ListN.{length};
 ghost use Rattle.word.specs.Lists.{every};
-ghost use Rattle.field.specs.Field.{assigned};
+ghost use Rattle.field.specs.Field.{assignedBy};
 ghost use Rattle.indicator.specs.Indicator.{bitsBefore};
 ghost use Rattle.group.specs.HowHalves.{movedWord};
 ghost use Rattle.group.specs.HowWords.{isZero, ChangeReady, Changes, NextReady, Steps, unchangedStep, nextStep, storedStep};
 use crate::halves;
 use crate::halves::WordChange;
+use field::Assigned;
 use indicator::Cursor;
-use field::Setting;
 use word::Area;
 use word::Fault;
 use word::Half;
@@ -38,25 +38,24 @@ pub enum NextWord {
 
 // The program words given, changed, in the core's words out; zeros there if a field is refused.
 pub fn change_group(
-    s: Setting,
-    words: &[u64],
-    ranks: &[u64],
-    ios: &[u64],
+    s: Assigned,
+    lists: &[u64],
     given: &[u64],
     block: &[u64],
     marks: IndicatorWords,
     out: &mut [u64],
 ) -> GroupChange
-    requires { ⌜ ChangeReady (s .area) (now given) (now block) marks (now out) ⌝ }
-    ensures { λ r. ⌜ Changes (assigned s (now (words .entry)) (now (ranks .entry)) (now (ios .entry))) (bitsBefore (now (block .entry)) (marks .end) (marks .count)) (now (given .entry)) r (now (out .exit)) ⌝ }
+    requires { ⌜ ChangeReady (s .given) (now lists) (now given) (now block) marks (now out) ⌝ }
+    ensures { λ r. ⌜ Changes (assignedBy s (now (lists .entry))) (bitsBefore (now (block .entry)) (marks .end) (marks .count)) (now (given .entry)) r (now (out .exit)) ⌝ }
 {
     word::slices::copy_in(out, 0, given);
     let first = marks.end - marks.count;
     let end = marks.end;
     if all_zero(&block[first..end]) {
-        return GroupChange::Bits(2 * given.len());
+        let bits = 2 * given.len();
+        return GroupChange::Bits(bits);
     }
-    change_words(s, words, ranks, ios, given, block, marks, out)
+    change_words(s, lists, given, block, marks, out)
 }
 
 fn all_zero(numbers: &[u64]) -> bool
@@ -74,23 +73,21 @@ fn all_zero(numbers: &[u64]) -> bool
 
 // Word after word, from number 0 on.
 fn change_words(
-    s: Setting,
-    words: &[u64],
-    ranks: &[u64],
-    ios: &[u64],
+    s: Assigned,
+    lists: &[u64],
     given: &[u64],
     block: &[u64],
     marks: IndicatorWords,
     out: &mut [u64],
 ) -> GroupChange
-    requires { ⌜ (ChangeReady (s .area) (now given) (now block) marks (now out)) × (now out ≡ now given) ⌝ }
-    ensures { λ r. ⌜ Changes (assigned s (now (words .entry)) (now (ranks .entry)) (now (ios .entry))) (bitsBefore (now (block .entry)) (marks .end) (marks .count)) (now (given .entry)) r (now (out .exit)) ⌝ }
+    requires { ⌜ (ChangeReady (s .given) (now lists) (now given) (now block) marks (now out)) × (now out ≡ now given) ⌝ }
+    ensures { λ r. ⌜ Changes (assignedBy s (now (lists .entry))) (bitsBefore (now (block .entry)) (marks .end) (marks .count)) (now (given .entry)) r (now (out .exit)) ⌝ }
 {
     let mut c = indicator::start(marks.count);
     let mut k: usize = 0;
     while k < given.len() {
         let full = indicator::refill(block, marks.end, marks.count, c);
-        match change_next(s, words, ranks, ios, given, full, k, out) {
+        match change_next(s, lists, given, full, k, out) {
             NextWord::At(d, j) => {
                 c = d;
                 k = j;
@@ -106,27 +103,25 @@ fn change_words(
 
 // From word number k on: words without change, or one word. The commonest change is tested first.
 fn change_next(
-    s: Setting,
-    words: &[u64],
-    ranks: &[u64],
-    ios: &[u64],
+    s: Assigned,
+    lists: &[u64],
     given: &[u64],
     c: Cursor,
     k: usize,
     out: &mut [u64],
 ) -> NextWord
-    requires { ⌜ NextReady (s .area) (now given) c k (now out) ⌝ }
-    ensures { λ r. ⌜ Steps (nextStep (assigned s (now (words .entry)) (now (ranks .entry)) (now (ios .entry))) (now (given .entry)) c k (now (out .entry))) r (now (out .exit)) ⌝ }
+    requires { ⌜ NextReady (s .given) (now lists) (now given) c k (now out) ⌝ }
+    ensures { λ r. ⌜ Steps (nextStep (assignedBy s (now (lists .entry))) (now (given .entry)) c k (now (out .entry))) r (now (out .exit)) ⌝ }
 {
     let w = given[k];
-    let area = s.area;
+    let area = s.given.area;
     if c.ahead / 576460752303423488 == 8 {
         return store_word(out, k, moved_word(area, c, w));
     }
     if c.ahead < 4611686018427387904 {
         return pass_unchanged(c, k, given.len());
     }
-    store_word(out, k, halves::change_word(s, words, ranks, ios, c, w))
+    store_word(out, k, halves::change_word(s, lists, c, w))
 }
 
 // Words without change at once, or the one whose two 0s come next: they stand in the core already.

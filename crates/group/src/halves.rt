@@ -1,12 +1,13 @@
 // A program word's left half, then its right one, each by its indicator.
 ghost use mathlib.Core.Path.{_≡_};
 ghost use Prim.Native.Nat.{_+_, _<_, _≤_, _^_};
-ghost use Rattle.field.specs.Field.{assigned};
+ghost use Rattle.lists.specs.Load.{Readable};
+ghost use Rattle.field.specs.Field.{assignedBy};
 ghost use Rattle.indicator.specs.HowCursor.{pastOf};
 ghost use Rattle.group.specs.HowHalves.{sameIn, typeIn, moreIn, onward, halfOf, bothOf};
-use indicator::Cursor;
+use field::Assigned;
 use field::Changed;
-use field::Setting;
+use indicator::Cursor;
 use indicator::Indicator;
 use word::Fault;
 use word::Half;
@@ -18,59 +19,37 @@ pub enum WordChange {
 }
 
 // A word's left half, then its right one.
-pub fn change_word(
-    s: Setting,
-    words: &[u64],
-    ranks: &[u64],
-    ios: &[u64],
-    c: Cursor,
-    w: u64,
-) -> WordChange
-    requires { ⌜ (s .area .at .0 + s .area .size ≤ 65536) × (w < 2 ^ 36) × (c .at + 26 < 2 ^ 64) ⌝ }
-    ensures { λ r. ⌜ r ≡ bothOf (assigned s (now (words .entry)) (now (ranks .entry)) (now (ios .entry))) w c ⌝ }
+pub fn change_word(s: Assigned, lists: &[u64], c: Cursor, w: u64) -> WordChange
+    requires { ⌜ (Readable (s .given) (now lists)) × (w < 2 ^ 36) × (c .at + 26 < 2 ^ 64) ⌝ }
+    ensures { λ r. ⌜ r ≡ bothOf (assignedBy s (now (lists .entry))) w c ⌝ }
 {
-    match left_half(s, words, ranks, ios, c, w) {
-        WordChange::Next(v, d) => right_half(s, words, ranks, ios, d, v),
+    match left_half(s, lists, c, w) {
+        WordChange::Next(v, d) => right_half(s, lists, d, v),
         WordChange::Stop(f) => WordChange::Stop(f),
     }
 }
 
 // Either half has a function of its own, so that its code is made for its bits alone.
-fn left_half(s: Setting, words: &[u64], ranks: &[u64], ios: &[u64], c: Cursor, w: u64) -> WordChange
-    requires { ⌜ (s .area .at .0 + s .area .size ≤ 65536) × (w < 2 ^ 36) × (c .at + 13 < 2 ^ 64) ⌝ }
-    ensures { λ r. ⌜ r ≡ halfOf (assigned s (now (words .entry)) (now (ranks .entry)) (now (ios .entry))) Half.Left w c ⌝ }
+fn left_half(s: Assigned, lists: &[u64], c: Cursor, w: u64) -> WordChange
+    requires { ⌜ (Readable (s .given) (now lists)) × (w < 2 ^ 36) × (c .at + 13 < 2 ^ 64) ⌝ }
+    ensures { λ r. ⌜ r ≡ halfOf (assignedBy s (now (lists .entry))) Half.Left w c ⌝ }
 {
     let m = indicator::look(c.ahead, word::field(w, Half::Left));
     if same_in(m) {
         return WordChange::Next(w, indicator::pass(c, m));
     }
-    passed(
-        c,
-        m,
-        field::left_step(s, words, ranks, ios, type_in(m), w, more_in(m)),
-    )
+    passed(c, m, field::left_step(s, lists, type_in(m), w, more_in(m)))
 }
 
-fn right_half(
-    s: Setting,
-    words: &[u64],
-    ranks: &[u64],
-    ios: &[u64],
-    c: Cursor,
-    w: u64,
-) -> WordChange
-    requires { ⌜ (s .area .at .0 + s .area .size ≤ 65536) × (w < 2 ^ 36) × (c .at + 13 < 2 ^ 64) ⌝ }
-    ensures { λ r. ⌜ r ≡ halfOf (assigned s (now (words .entry)) (now (ranks .entry)) (now (ios .entry))) Half.Right w c ⌝ }
+fn right_half(s: Assigned, lists: &[u64], c: Cursor, w: u64) -> WordChange
+    requires { ⌜ (Readable (s .given) (now lists)) × (w < 2 ^ 36) × (c .at + 13 < 2 ^ 64) ⌝ }
+    ensures { λ r. ⌜ r ≡ halfOf (assignedBy s (now (lists .entry))) Half.Right w c ⌝ }
 {
     let m = indicator::look(c.ahead, word::field(w, Half::Right));
     if same_in(m) {
         return WordChange::Next(w, indicator::pass(c, m));
     }
-    passed(
-        c,
-        m,
-        field::right_step(s, words, ranks, ios, type_in(m), w, more_in(m)),
-    )
+    passed(c, m, field::right_step(s, lists, type_in(m), w, more_in(m)))
 }
 
 // What became of a half, and the cursor past its indicator.

@@ -6,13 +6,13 @@ mod halves;
 ghost use mathlib.Core.Path.{_≡_};
 ghost use Prim.Native.Nat.{_+_, _*_, _<_, _≤_, _^_};
 ghost use lib.ListN.{length};
-ghost use Rattle.field.specs.Field.{assigned};
+ghost use Rattle.field.specs.Field.{assignedBy};
 ghost use Rattle.indicator.specs.Indicator.{justEnough};
 ghost use Rattle.group.specs.Group.{liesIn, wordsLie, addressOf, groupOutcome, groupStep, Meets, InArea, Ready};
 ghost use Rattle.group.specs.HowGroup.{Sized, FillReady, Fitting, zeroFill, countedFill, fillOf, Fills};
 use crate::changes::GroupChange;
 use crate::changes::IndicatorWords;
-use field::Setting;
+use field::Assigned;
 use lists::Table;
 use program::Bank;
 use program::Group;
@@ -36,45 +36,41 @@ pub enum GroupStep {
 
 // The group whose identifier stands at place i of a block, into the core.
 pub fn group_step(
-    s: Setting,
+    s: Assigned,
     section: Section,
-    words: &[u64],
-    ranks: &[u64],
-    ios: &[u64],
+    lists: &[u64],
     block: &[u64],
     i: usize,
     core: &mut [u64],
 ) -> GroupStep
-    requires { ⌜ Ready (s .area) section (now block) i (now core) ⌝ }
-    ensures { λ r. ⌜ Meets (groupStep (assigned s (now (words .entry)) (now (ranks .entry)) (now (ios .entry))) section (now (block .entry)) i (now (core .entry))) r (now (core .exit)) ⌝ }
+    requires { ⌜ Ready (s .given) (now lists) section (now block) i (now core) ⌝ }
+    ensures { λ r. ⌜ Meets (groupStep (assignedBy s (now (lists .entry))) section (now (block .entry)) i (now (core .entry))) r (now (core .exit)) ⌝ }
 {
     match program::read_group(block[i]) {
-        GroupRead::Good(g) => place_group(s, section, words, ranks, ios, block, i, g, core),
+        GroupRead::Good(g) => place_group(s, section, lists, block, i, g, core),
         GroupRead::Bad(f) => GroupStep::Refused(f),
     }
 }
 
 // The group g, into the words of the core that it goes to: 18 where these do not lie where they must.
 fn place_group(
-    s: Setting,
+    s: Assigned,
     section: Section,
-    words: &[u64],
-    ranks: &[u64],
-    ios: &[u64],
+    lists: &[u64],
     block: &[u64],
     i: usize,
     g: Group,
     core: &mut [u64],
 ) -> GroupStep
-    requires { ⌜ (Ready (s .area) section (now block) i (now core)) × (Sized g) ⌝ }
-    ensures { λ r. ⌜ Meets (groupOutcome (assigned s (now (words .entry)) (now (ranks .entry)) (now (ios .entry))) section (now (block .entry)) i g (now (core .entry))) r (now (core .exit)) ⌝ }
+    requires { ⌜ (Ready (s .given) (now lists) section (now block) i (now core)) × (Sized g) ⌝ }
+    ensures { λ r. ⌜ Meets (groupOutcome (assignedBy s (now (lists .entry))) section (now (block .entry)) i g (now (core .entry))) r (now (core .exit)) ⌝ }
 {
     if words_lie(section, g) {
-        let area = s.area;
+        let area = s.given.area;
         let to = address_of(area, section, g);
         let first = to.0 as usize;
         let past = first + g.program as usize;
-        return fill_group(s, words, ranks, ios, block, i, g, &mut core[first..past]);
+        return fill_group(s, lists, block, i, g, &mut core[first..past]);
     }
     GroupStep::Refused(Fault { number: 18 })
 }
@@ -126,17 +122,15 @@ fn address_of(area: Area, section: Section, g: Group) -> Absolute
 
 // The group g, into the words out that it goes to: 18 where it is not whole in its block or has fewer words than program words.
 fn fill_group(
-    s: Setting,
-    words: &[u64],
-    ranks: &[u64],
-    ios: &[u64],
+    s: Assigned,
+    lists: &[u64],
     block: &[u64],
     i: usize,
     g: Group,
     out: &mut [u64],
 ) -> GroupStep
-    requires { ⌜ FillReady (s .area) (now block) i g (now out) ⌝ }
-    ensures { λ r. ⌜ Fills (fillOf (assigned s (now (words .entry)) (now (ranks .entry)) (now (ios .entry))) (now (block .entry)) i g) r (now (out .exit)) ⌝ }
+    requires { ⌜ FillReady (s .given) (now lists) (now block) i g (now out) ⌝ }
+    ensures { λ r. ⌜ Fills (fillOf (assignedBy s (now (lists .entry))) (now (block .entry)) i g) r (now (out .exit)) ⌝ }
 {
     if 254 < i + g.words as usize {
         return refuse(out, Fault { number: 18 });
@@ -144,29 +138,27 @@ fn fill_group(
     if g.words < g.program {
         return refuse(out, Fault { number: 18 });
     }
-    count_group(s, words, ranks, ios, block, i, g, out)
+    count_group(s, lists, block, i, g, out)
 }
 
 // The words changed, and the count of the indicator words.
 fn count_group(
-    s: Setting,
-    words: &[u64],
-    ranks: &[u64],
-    ios: &[u64],
+    s: Assigned,
+    lists: &[u64],
     block: &[u64],
     i: usize,
     g: Group,
     out: &mut [u64],
 ) -> GroupStep
-    requires { ⌜ (FillReady (s .area) (now block) i g (now out)) × (Fitting i g) ⌝ }
-    ensures { λ r. ⌜ Fills (countedFill (assigned s (now (words .entry)) (now (ranks .entry)) (now (ios .entry))) (now (block .entry)) i g) r (now (out .exit)) ⌝ }
+    requires { ⌜ (FillReady (s .given) (now lists) (now block) i g (now out)) × (Fitting i g) ⌝ }
+    ensures { λ r. ⌜ Fills (countedFill (assignedBy s (now (lists .entry))) (now (block .entry)) i g) r (now (out .exit)) ⌝ }
 {
     let first = i + 1;
     let past = first + g.program as usize;
     let end = first + g.words as usize;
     let n = (g.words - g.program) as usize;
     let marks = IndicatorWords { end, count: n };
-    match changes::change_group(s, words, ranks, ios, &block[first..past], block, marks, out) {
+    match changes::change_group(s, lists, &block[first..past], block, marks, out) {
         GroupChange::Bits(bits) => {
             if just_enough(bits, n) {
                 return GroupStep::Done(end, g.last);

@@ -18,7 +18,7 @@ enum-known-g : tie.Need-enum-known-g
 enum-known-g c = search needs
 
 place-group-requires : tie.Need-place-group-requires
-place-group-requires c κs = (c .before .before .before .before .before .before .before .before .before .before .before .pre, group-sized _ _ (sym (c .before .before .before .before .read-group .ensures) ∙ c .before .before .g .given .1))
+place-group-requires c κs = (c .before .before .before .before .before .before .before .before .before .pre, group-sized _ _ (sym (c .before .before .before .before .read-group .ensures) ∙ c .before .before .g .given .1))
 
 enum-known-f : tie.Need-enum-known-f
 enum-known-f c = search needs

@@ -25,18 +25,18 @@ part-all-zero-end c = search needs
 all-zero-requires : tie.Need-all-zero-requires
 all-zero-requires c κs = search needs
 
-mul-t21 : tie.Need-mul-t21
-mul-t21 c = search needs
+mul-bits : tie.Need-mul-bits
+mul-bits c = search needs
 
 same-length : tie.Need-same-length
 same-length c = search needs
 
 returns : tie.Need-returns
-returns c = let p = c .before .before .before .before .before .before .before .before .before .before .before .before .before .before .pre in
-    no-change _ _ _ _ _ _ (p .indicators) (copied-in _ _ _ _ _ p _ (c .before .before .before .before .before .before .copy-in .ensures)) (sym (c .before .all-zero .ensures) ∙ c .if1 .taken)
+returns c = let p = c .before .before .before .before .before .before .before .before .before .before .before .before .pre in
+    no-change _ _ _ _ _ _ (p .indicators) (copied-in _ _ _ _ _ _ p _ (c .before .before .before .before .before .before .copy-in .ensures)) (sym (c .before .all-zero .ensures) ∙ c .if1 .taken)
 
 change-words-requires : tie.Need-change-words-requires
-change-words-requires c κs = copied-ready _ _ _ _ _ (c .before .before .before .before .before .before .before .before .before .before .before .before .before .before .before .pre) _ (c .before .before .before .before .before .before .before .copy-in .ensures)
+change-words-requires c κs = copied-ready _ _ _ _ _ _ (c .before .before .before .before .before .before .before .before .before .before .before .before .before .pre) _ (c .before .before .before .before .before .before .before .copy-in .ensures)
 
 same-length-2 : tie.Need-same-length-2
 same-length-2 c = search needs
@@ -55,7 +55,7 @@ change-group-spec =
     part-all-zero-start
     part-all-zero-end
     all-zero-requires
-    mul-t21
+    mul-bits
     same-length
     returns
     change-words-requires

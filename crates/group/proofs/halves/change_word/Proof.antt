@@ -4,7 +4,7 @@ use native.Mathlib.Omega.{arith}
 use denote.Ref.{now}
 use Rattle.word.specs.declared.Half.the-variants.{Left}
 use Rattle.word.specs.Word.{fieldOf}
-use Rattle.field.specs.Field.{assigned}
+use Rattle.field.specs.Field.{assignedBy}
 use Rattle.indicator.proofs.Reading.{past-at-most}
 use Rattle.group.specs.HowHalves.{bothOf}
 use Rattle.group.proofs.Both.{half-fits, half-reach}
@@ -19,9 +19,9 @@ enum-known-v : tie.Need-enum-known-v
 enum-known-v c = search needs
 
 right-half-requires : tie.Need-right-half-requires
-right-half-requires c κs = let z = c .before .before .before .before .before .before .before in
+right-half-requires c κs = let z = c .before .before .before .before .before in
     let a = z .args in
-    let k = assigned (a .s) (now (a .words)) (now (a .ranks)) (now (a .ios)) in
+    let k = assignedBy (a .s) (now (a .lists)) in
     let e = sym (c .before .before .before .left-half .ensures) ∙ c .before .v .given .1 in
     (z .pre .0, half-fits k Left (a .w) (a .c) _ _ (z .pre .1) e, rw (half-reach k Left (a .w) (a .c) _ _ e) (omega (arith, past-at-most (a .c) (fieldOf Left (a .w)), z .pre .2)))
 

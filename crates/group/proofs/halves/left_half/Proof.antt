@@ -2,7 +2,7 @@
 use mathlib.Core.Path.{sym, _∙_}
 use denote.Ref.{now}
 use Rattle.word.specs.declared.Half.the-variants.{Left}
-use Rattle.field.specs.Field.{assigned}
+use Rattle.field.specs.Field.{assignedBy}
 use Rattle.group.proofs.Both.{half-stays, half-changes}
 use borrow.Author.Needs.{needs}
 use Rattle.group.proofs.halves.left_half.Statement.{statement}
@@ -21,8 +21,8 @@ pass-requires : tie.Need-pass-requires
 pass-requires c κs = search needs
 
 returns : tie.Need-returns
-returns c = let a = c .before .before .before .before .before .before .before .before .args in
-    half-stays (assigned (a .s) (now (a .words)) (now (a .ranks)) (now (a .ios))) Left (a .w) _ (a .c) _ (c .before .before .before .before .field .ensures) (c .before .before .before .look .ensures) _ (sym (c .before .before .same-in .ensures) ∙ c .before .if1 .taken) (c .pass .ensures)
+returns c = let a = c .before .before .before .before .before .before .args in
+    half-stays (assignedBy (a .s) (now (a .lists))) Left (a .w) _ (a .c) _ (c .before .before .before .before .field .ensures) (c .before .before .before .look .ensures) _ (sym (c .before .before .same-in .ensures) ∙ c .before .if1 .taken) (c .pass .ensures)
 
 type-in-requires : tie.Need-type-in-requires
 type-in-requires c κs = search needs
@@ -37,8 +37,8 @@ passed-requires : tie.Need-passed-requires
 passed-requires c κs = search needs
 
 returns-2 : tie.Need-returns-2
-returns-2 c = let a = c .before .before .before .before .before .before .before .before .before .before .before .args in
-    half-changes (assigned (a .s) (now (a .words)) (now (a .ranks)) (now (a .ios))) Left (a .w) _ (a .c) _ (c .before .before .before .before .before .before .before .field .ensures) (c .before .before .before .before .before .before .look .ensures) _ _ _ _ (sym (c .before .before .before .before .before .same-in .ensures) ∙ c .before .before .before .before .if1 .left) (c .before .before .before .type-in .ensures) (c .before .before .more-in .ensures) (c .before .left-step .ensures) (c .passed .ensures)
+returns-2 c = let a = c .before .before .before .before .before .before .before .before .before .args in
+    half-changes (assignedBy (a .s) (now (a .lists))) Left (a .w) _ (a .c) _ (c .before .before .before .before .before .before .before .field .ensures) (c .before .before .before .before .before .before .look .ensures) _ _ _ _ (sym (c .before .before .before .before .before .same-in .ensures) ∙ c .before .before .before .before .if1 .left) (c .before .before .before .type-in .ensures) (c .before .before .more-in .ensures) (c .before .left-step .ensures) (c .passed .ensures)
 
 pub left-half-spec : {M : Type 1} → statement M
 left-half-spec =
