@@ -1,3 +1,4 @@
+-- `changes::change_next`: from what its callees ensure. Assumes nothing.
 use Prim.Native.Nat.{_-_}
 use mathlib.Core.Path.{sym}
 use native.Mathlib.Omega.{arith}

@@ -1,3 +1,4 @@
+-- `changes::moved_word`: the test of the code is that of the definition. Assumes nothing.
 use native.Mathlib.Omega.{arith}
 use borrow.Author.Tests.{lt-ltb, le-ltb}
 use Rattle.group.specs.HowHalves.{movedWord}
