@@ -14,6 +14,7 @@ use Rattle.stage.specs.declared.Course.{Course}
 use Rattle.stage.specs.declared.Due.{Due}
 use Rattle.stage.specs.declared.Due.the-variants.{Segment as segment-due, SegmentGroup, Section as section-due, SectionGroup}
 use Rattle.stage.specs.declared.Stage.the-variants.{Program}
+use Rattle.sections.specs.declared.items.Reading.{Reading}
 use Rattle.sections.specs.declared.items.Reading.the-variants.{Segment as segment-head, Section as section-head, Group}
 use Rattle.sections.specs.Heads.{segmentStep, sectionStep}
 use Rattle.sections.specs.HowItems.{Numbered, readingOf}
@@ -36,37 +37,38 @@ module _ (area : Area) (io : ℕ) (words ranks ios block : List ℕ) (i : ℕ) (
     pub ready : Ready area section block i core
 
   pub reads-group : i ≤ 254 → (due : Due) → Waits (loadOf area io words ranks ios) (Program c due) block core
-      → (section : Section) (least : Reference) (ibank : Bank) → readingOf area words ranks due ≡ Group section least ibank → DueGroup due section least ibank
+      → (v : Reading) → v ≡ readingOf area words ranks due → (section : Section) (least : Reference) (ibank : Bank) → v ≡ Group section least ibank
+      → DueGroup due section least ibank
   unfolding readingOf itemStep
-  reads-group h segment-due w section least bank e = let z : _≡_ {A = ℕ} 0 1 = cc in absurd (omega arith)
-  reads-group h (SegmentGroup g) w section least ibank e =
+  reads-group h segment-due w v k section least bank e = let z : _≡_ {A = ℕ} 0 1 = cc in absurd (omega arith)
+  reads-group h (SegmentGroup g) w v k section least ibank e =
       let p : in-segment g ≡ section = cc in
       let r : record { 0 = 0 } ≡ least = cc in
       let b : g .ibank ≡ ibank = cc in
       rw (← p, ← r, ← b) (record { item = refl; ready = segment-ready (loadOf area io words ranks ios) block core i h c g w })
-  reads-group h (section-due t ibank) w section least bank e = let z : _≡_ {A = ℕ} 0 1 = cc in absurd (omega arith)
-  reads-group h (SectionGroup t bank) w section least ibank e =
+  reads-group h (section-due t ibank) w v k section least bank e = let z : _≡_ {A = ℕ} 0 1 = cc in absurd (omega arith)
+  reads-group h (SectionGroup t bank) w v k section least ibank e =
       let p : in-table (tableAt area words ranks (t .number .0)) (t .count) ≡ section = cc in
       let r : record { 0 = t .number .0 + 1 } ≡ least = cc in
       let b : bank ≡ ibank = cc in
-      let k = table-read area io words ranks ios c t bank block core w (tableAt area words ranks (t .number .0)) refl in
-      rw (← p, ← r, ← b, k) (record { item = refl; ready = table-ready (loadOf area io words ranks ios) block core i h c t bank w })
+      let d = table-read area io words ranks ios c t bank block core w (tableAt area words ranks (t .number .0)) refl in
+      rw (← p, ← r, ← b, d) (record { item = refl; ready = table-ready (loadOf area io words ranks ios) block core i h c t bank w })
 
-  pub reads-segment : (due : Due) → readingOf area words ranks due ≡ segment-head
+  pub reads-segment : (due : Due) (v : Reading) → v ≡ readingOf area words ranks due → v ≡ segment-head
       → itemStep (loadOf area io words ranks ios) c due block i core ≡ headed (segmentStep area (tablesIn area words ranks) c block i) core
   unfolding readingOf itemStep
-  reads-segment segment-due e = refl
-  reads-segment (SegmentGroup g) e = let z : _≡_ {A = ℕ} 0 1 = cc in absurd (omega arith)
-  reads-segment (section-due t ibank) e = let z : _≡_ {A = ℕ} 0 1 = cc in absurd (omega arith)
-  reads-segment (SectionGroup t ibank) e = let z : _≡_ {A = ℕ} 0 1 = cc in absurd (omega arith)
+  reads-segment segment-due v k e = refl
+  reads-segment (SegmentGroup g) v k e = let z : _≡_ {A = ℕ} 0 1 = cc in absurd (omega arith)
+  reads-segment (section-due t ibank) v k e = let z : _≡_ {A = ℕ} 0 1 = cc in absurd (omega arith)
+  reads-segment (SectionGroup t ibank) v k e = let z : _≡_ {A = ℕ} 0 1 = cc in absurd (omega arith)
 
-  pub reads-section : (due : Due) (least : Reference) (ibank : Bank) → readingOf area words ranks due ≡ section-head least ibank
+  pub reads-section : (due : Due) (v : Reading) → v ≡ readingOf area words ranks due → (least : Reference) (ibank : Bank) → v ≡ section-head least ibank
       → itemStep (loadOf area io words ranks ios) c due block i core ≡ headed (sectionStep (tablesIn area words ranks) c (least .0) ibank block i) core
   unfolding readingOf itemStep
-  reads-section segment-due least ibank e = let z : _≡_ {A = ℕ} 0 1 = cc in absurd (omega arith)
-  reads-section (SegmentGroup g) least ibank e = let z : _≡_ {A = ℕ} 0 1 = cc in absurd (omega arith)
-  reads-section (section-due t bank) least ibank e =
+  reads-section segment-due v k least ibank e = let z : _≡_ {A = ℕ} 0 1 = cc in absurd (omega arith)
+  reads-section (SegmentGroup g) v k least ibank e = let z : _≡_ {A = ℕ} 0 1 = cc in absurd (omega arith)
+  reads-section (section-due t bank) v k least ibank e =
       let r : t ≡ least = cc in
       let b : bank ≡ ibank = cc in
       rw (← r, ← b)
-  reads-section (SectionGroup t bank) least ibank e = let z : _≡_ {A = ℕ} 0 1 = cc in absurd (omega arith)
+  reads-section (SectionGroup t bank) v k least ibank e = let z : _≡_ {A = ℕ} 0 1 = cc in absurd (omega arith)

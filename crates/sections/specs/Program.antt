@@ -60,16 +60,16 @@ grouped c same least ibank o = record { item = afterGroup c same least ibank (o 
 abbrev pub inSection : Load → TableSection → GroupSection
 inSection x t = in-table (getD (x .tables) (t .number .0) noTable) (t .count)
 
--- What is due says how the word is read.
--- Segment: "Segment section, first and once, four words".
--- SegmentGroup: a group of it. The first table section after it may have any number.
--- Section: "Table section, one word".
--- SectionGroup: a group of it. The next table section's number is higher: "rising from section to section".
+-- what is due there says how the word is read
 unfoldable pub itemStep : Load → Course → Due → List ℕ → ℕ → List ℕ → ItemOutcome
+-- "Segment section, first and once, four words"
 itemStep x c Segment block i core = headed (segmentStep (x .area) (x .tables) c block i) core
+-- "Group addresses count from the Program Name": a group of the segment section; the table section after its last may have any number
 itemStep x c (SegmentGroup g) block i core =
     grouped c (SegmentGroup g) 0 (g .ibank) (groupStep (assignments x c) (in-segment g) block i core)
+-- "Table section, one word"
 itemStep x c (Section least ibank) block i core = headed (sectionStep (x .tables) c (least .0) ibank block i) core
+-- "or from the table's first word": a group of a table section; the next one's number is higher, "rising from section to section"
 itemStep x c (SectionGroup t ibank) block i core =
     grouped c (SectionGroup t ibank) (t .number .0 + 1) ibank (groupStep (assignments x c) (inSection x t) block i core)
 

@@ -42,15 +42,15 @@ module _ (io : ℕ) (strict : Bool) (b : ℕ) (block : List ℕ) where
         ap (fits ts) (getD-tab (λ (k : ℕ). k) (length ts) t 0 (omega (arith, tables-length area ws rs)))
         ∙ ap (λ (y : CoreTable). entryFits io strict b block (y .len) t) (tables-at area ws rs t noTable h ∙ sym q)
 
-    pub left-more : (x : CoreTable) → t < length rs → x ≡ tableAt area ws rs t → entryFits io strict b block (x .len) t ≡ true
+    pub left-more : (x : CoreTable) → t < length rs → x ≡ tableAt area ws rs t → (v : Bool) → v ≡ entryFits io strict b block (x .len) t → v ≡ true
         → r ≡ leftFit ts t → r ≡ leftFit ts (t + 1)
     unfolding leftFit
-    left-more x h q e = every-more (fits ts) 0 (numbers ts) t r (omega (arith, many)) (this x h q ∙ e)
+    left-more x h q v k e = every-more (fits ts) 0 (numbers ts) t r (omega (arith, many)) (this x h q ∙ sym k ∙ e)
 
-    pub left-fails : (x : CoreTable) → t < length rs → x ≡ tableAt area ws rs t → entryFits io strict b block (x .len) t ≡ false
+    pub left-fails : (x : CoreTable) → t < length rs → x ≡ tableAt area ws rs t → (v : Bool) → v ≡ entryFits io strict b block (x .len) t → v ≡ false
         → r ≡ leftFit ts t → false ≡ r
     unfolding leftFit
-    left-fails x h q e = every-fails (fits ts) 0 (numbers ts) t r (omega (arith, many)) (this x h q ∙ e)
+    left-fails x h q v k e = every-fails (fits ts) 0 (numbers ts) t r (omega (arith, many)) (this x h q ∙ sym k ∙ e)
 
     pub left-ends : length rs ≤ t → r ≡ leftFit ts t → true ≡ r
     unfolding leftFit

@@ -30,7 +30,7 @@ entry-fits-requires c κs = (omega arith, omega arith, omega arith)
 returns : tie.Need-returns Inv-loop μ-loop
 returns c =
     let l = c .before .before .before .before .loop in
-    left-fails _ _ _ _ _ _ _ (l .t) _ _ (omega arith) (c .before .before .table-at .ensures) (sym (c .before .entry-fits .ensures) ∙ not-true _ (c .if1 .taken)) (l .inv .1)
+    left-fails _ _ _ _ _ _ _ (l .t) _ _ (omega arith) (c .before .before .table-at .ensures) _ (c .before .entry-fits .ensures) (not-true _ (c .if1 .taken)) (l .inv .1)
 
 add-t : tie.Need-add-t Inv-loop μ-loop
 add-t c = omega arith
@@ -41,7 +41,7 @@ loop-less c = omega arith
 loop-again : tie.Need-loop-again Inv-loop μ-loop
 loop-again c =
     let l = c .before .before .before .before .loop in
-    (omega arith, left-more _ _ _ _ _ _ _ (l .t) _ _ (omega arith) (c .before .before .table-at .ensures) (sym (c .before .entry-fits .ensures) ∙ not-false _ (c .if1 .left)) (l .inv .1))
+    (omega arith, left-more _ _ _ _ _ _ _ (l .t) _ _ (omega arith) (c .before .before .table-at .ensures) _ (c .before .entry-fits .ensures) (not-false _ (c .if1 .left)) (l .inv .1))
 
 returns-2 : tie.Need-returns-2 Inv-loop μ-loop
 returns-2 c = let l = c .before .loop in left-ends _ _ _ _ _ _ _ (l .t) _ (omega arith) (l .inv .1)

@@ -1,5 +1,4 @@
 -- `step::entry_step` meets its contract: each return by the tests that led to it. Assumes nothing.
-use mathlib.Core.Path.{sym, _∙_}
 use denote.Ref.{now}
 use borrow.Author.Needs.{needs}
 use borrow.Author.Tests.{lt-ltb, le-ltb, not-true, not-false}
@@ -13,7 +12,7 @@ entries-fit-requires c κs = search needs
 
 returns : tie.Need-returns
 unfolding entryStep
-returns c = rw (sym (c .before .entries-fit .ensures) ∙ not-true _ (c .if1 .taken))
+returns c = rw (← c .before .entries-fit .ensures, not-true (c .before .entries-fit .result) (c .if1 .taken))
 
 add-if2 : tie.Need-add-if2
 add-if2 c = search needs
@@ -29,14 +28,14 @@ unfolding entryStep afterEntries
 returns-2 c =
     let s = c .before .before in
     let a = s .before .before .before .before .before .args in
-    rw (sym (s .before .entries-fit .ensures) ∙ not-false _ (s .if1 .left), tables-length (a .area) (now (a .words)) (now (a .ranks)), ← c .before .entry-blocks .ensures, lt-ltb _ _ (c .if2 .taken))
+    rw (← s .before .entries-fit .ensures, not-false (s .before .entries-fit .result) (s .if1 .left), tables-length (a .area) (now (a .words)) (now (a .ranks)), ← c .before .entry-blocks .ensures, lt-ltb _ _ (c .if2 .taken))
 
 returns-3 : tie.Need-returns-3
 unfolding entryStep afterEntries
 returns-3 c =
     let s = c .before .before in
     let a = s .before .before .before .before .before .args in
-    rw (sym (s .before .entries-fit .ensures) ∙ not-false _ (s .if1 .left), tables-length (a .area) (now (a .words)) (now (a .ranks)), ← c .before .entry-blocks .ensures, le-ltb _ _ (c .if2 .left))
+    rw (← s .before .entries-fit .ensures, not-false (s .before .entries-fit .result) (s .if1 .left), tables-length (a .area) (now (a .words)) (now (a .ranks)), ← c .before .entry-blocks .ensures, le-ltb _ _ (c .if2 .left))
 
 pub entry-step-spec : {M : Type 1} → statement M
 entry-step-spec =

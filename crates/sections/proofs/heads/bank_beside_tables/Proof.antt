@@ -1,19 +1,34 @@
 -- `heads::bank_beside_tables` meets its contract: at every turn the rest of the tables decide. Assumes nothing.
-use Prim.Native.Nat.{_≤_, _-_}
+use Prim.Native.Nat.{ℕ, _≤_, _<_, _-_}
 use mathlib.Core.Path.{_≡_, refl, sym, _∙_}
+use mathlib.Core.Bool.{Bool}
+use mathlib.Core.List.{List}
 use native.Mathlib.Omega.{arith}
-use lib.ListN.{length, drop}
+use lib.ListN.{length, drop, getD}
 use denote.Ref.{now}
 use borrow.Author.Needs.{needs}
 use borrow.Author.Tests.{not-true, not-false}
 use Rattle.word.specs.Lists.{every}
+use Rattle.word.specs.Runs.{apart}
+use Rattle.word.specs.Sorts.{absoluteOf}
+use Rattle.word.specs.declared.Absolute.{Absolute}
+use Rattle.word.specs.declared.Area.{Area}
 use Rattle.word.proofs.Lists.{every-more, every-fails, every-ends}
-use Rattle.lists.specs.Kept.{tablesIn}
+use Rattle.lists.specs.declared.Table.{Table}
+use Rattle.lists.specs.Kept.{tableAt, tablesIn}
+use Rattle.program.specs.declared.Bank.{Bank}
 use Rattle.lists.specs.Obey.{noTable}
 use Rattle.lists.proofs.Kept.{tables-length, tables-at}
 use Rattle.sections.specs.Heads.{besideTable}
 use Rattle.sections.proofs.heads.bank_beside_tables.Statement.{statement}
 use Rattle.sections.proofs.heads.bank_beside_tables.Tie as tie
+
+-- the table that the code reads, held against the bank at its place in core
+beside-here : (area : Area) (bank : Bank) (words ranks : List ℕ) (k : ℕ) (at : Absolute) (t : Table) (b v : Bool) → k < length ranks
+    → at ≡ absoluteOf area (bank .at) → t ≡ tableAt area words ranks k → b ≡ apart (at .0) (bank .count) (t .at .0) (t .len) → b ≡ v
+    → besideTable area bank (getD (tablesIn area words ranks) k noTable) ≡ v
+unfolding besideTable
+beside-here area bank words ranks k at t b v h p q e f = rw (tables-at area words ranks k noTable h ∙ sym q) (rw p at (sym e ∙ f))
 
 abbrev Inv-loop : tie.InvT-loop
 Inv-loop area words ranks bank at k₀ k =
@@ -36,14 +51,12 @@ runs-apart-requires : tie.Need-runs-apart-requires Inv-loop μ-loop
 runs-apart-requires c κs = search needs
 
 returns : tie.Need-returns Inv-loop μ-loop
-unfolding besideTable
 returns c = let b = c .before .before in
     let l = b .before .before .loop in
     let a = b .before .before .before .before .before .before .args in
     let n = tables-length (a .area) (now (a .words)) (now (a .ranks)) in
-    let t = tables-at (a .area) (now (a .words)) (now (a .ranks)) (l .k) noTable (b .before .loop-test .taken) in
     every-fails (besideTable (a .area) (a .bank)) noTable (tablesIn (a .area) (now (a .words)) (now (a .ranks))) (l .k) _ (omega arith)
-    (rw (t ∙ sym (b .table-at .ensures)) (rw (b .before .before .before .placed .ensures) at (sym (c .before .runs-apart .ensures) ∙ not-true _ (c .if1 .taken)))) (l .inv .1)
+    (beside-here _ _ _ _ _ _ _ _ _ (b .before .loop-test .taken) (b .before .before .before .placed .ensures) (b .table-at .ensures) (c .before .runs-apart .ensures) (not-true _ (c .if1 .taken))) (l .inv .1)
 
 add-k : tie.Need-add-k Inv-loop μ-loop
 add-k c = omega arith
@@ -52,15 +65,13 @@ loop-less : tie.Need-loop-less Inv-loop μ-loop
 loop-less c = omega arith
 
 loop-again : tie.Need-loop-again Inv-loop μ-loop
-unfolding besideTable
 loop-again c = let b = c .before .before in
     let l = b .before .before .loop in
     let a = b .before .before .before .before .before .before .args in
-    let n = tables-length (a .area) (now (a .words)) (now (a .ranks)) in
-    let t = tables-at (a .area) (now (a .words)) (now (a .ranks)) (l .k) noTable (b .before .loop-test .taken) in (
+    let n = tables-length (a .area) (now (a .words)) (now (a .ranks)) in (
       omega arith,
       every-more (besideTable (a .area) (a .bank)) noTable (tablesIn (a .area) (now (a .words)) (now (a .ranks))) (l .k) _ (omega arith)
-          (rw (t ∙ sym (b .table-at .ensures)) (rw (b .before .before .before .placed .ensures) at (sym (c .before .runs-apart .ensures) ∙ not-false _ (c .if1 .left)))) (l .inv .1),
+          (beside-here _ _ _ _ _ _ _ _ _ (b .before .loop-test .taken) (b .before .before .before .placed .ensures) (b .table-at .ensures) (c .before .runs-apart .ensures) (not-false _ (c .if1 .left))) (l .inv .1),
     )
 
 returns-2 : tie.Need-returns-2 Inv-loop μ-loop

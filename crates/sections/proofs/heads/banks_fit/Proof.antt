@@ -13,7 +13,7 @@ bank-fits-requires c κs = search needs
 
 returns : tie.Need-returns
 unfolding banksFit
-returns c = rw (sym (c .before .bank-fits .ensures) ∙ not-true _ (c .if1 .taken))
+returns c = rw (← c .before .bank-fits .ensures, not-true (c .before .bank-fits .result) (c .if1 .taken))
 
 bank-fits-requires-2 : tie.Need-bank-fits-requires-2
 bank-fits-requires-2 c κs = search needs
@@ -21,7 +21,7 @@ bank-fits-requires-2 c κs = search needs
 returns-2 : tie.Need-returns-2
 unfolding banksFit
 returns-2 c = let b = c .before .before in
-    rw (sym (b .before .bank-fits .ensures) ∙ not-false _ (b .if1 .left), sym (c .before .bank-fits2 .ensures) ∙ not-true _ (c .if2 .taken))
+    rw (← b .before .bank-fits .ensures, not-false (b .before .bank-fits .result) (b .if1 .left), ← c .before .bank-fits2 .ensures, not-true (c .before .bank-fits2 .result) (c .if2 .taken))
 
 runs-apart-requires : tie.Need-runs-apart-requires
 runs-apart-requires c κs = search needs
@@ -30,12 +30,12 @@ returns-3 : tie.Need-returns-3
 unfolding banksFit
 returns-3 c = let d = c .before .before in
     let b = d .before .before in
-    rw (sym (b .before .bank-fits .ensures) ∙ not-false _ (b .if1 .left), sym (d .before .bank-fits2 .ensures) ∙ not-false _ (d .if2 .left), sym (c .before .runs-apart .ensures) ∙ not-true _ (c .if3 .taken))
+    rw (← b .before .bank-fits .ensures, not-false (b .before .bank-fits .result) (b .if1 .left), ← d .before .bank-fits2 .ensures, not-false (d .before .bank-fits2 .result) (d .if2 .left), ← c .before .runs-apart .ensures, not-true (c .before .runs-apart .result) (c .if3 .taken))
 
 bank-beside-tables-requires : tie.Need-bank-beside-tables-requires
 bank-beside-tables-requires c κs = let b = c .before .before .before .before in
     let z = b .before .before .before .before .before .before in
-    let l = bank-inside _ _ (sym (b .before .bank-fits .ensures) ∙ not-false _ (b .if1 .left)) in
+    let l = bank-inside _ _ (sym (b .before .bank-fits .ensures) ∙ not-false (b .before .bank-fits .result) (b .if1 .left)) in
     (z .pre, omega arith)
 
 returns-4 : tie.Need-returns-4
@@ -43,12 +43,12 @@ unfolding banksFit
 returns-4 c = let r = c .before .before in
     let d = r .before .before in
     let b = d .before .before in
-    rw (sym (b .before .bank-fits .ensures) ∙ not-false _ (b .if1 .left), sym (d .before .bank-fits2 .ensures) ∙ not-false _ (d .if2 .left), sym (r .before .runs-apart .ensures) ∙ not-false _ (r .if3 .left), sym (c .before .bank-beside-tables .ensures) ∙ not-true _ (c .if4 .taken))
+    rw (← b .before .bank-fits .ensures, not-false (b .before .bank-fits .result) (b .if1 .left), ← d .before .bank-fits2 .ensures, not-false (d .before .bank-fits2 .result) (d .if2 .left), ← r .before .runs-apart .ensures, not-false (r .before .runs-apart .result) (r .if3 .left), ← c .before .bank-beside-tables .ensures, not-true (c .before .bank-beside-tables .result) (c .if4 .taken))
 
 bank-beside-tables-requires-2 : tie.Need-bank-beside-tables-requires-2
 bank-beside-tables-requires-2 c κs = let d = c .before .before .before .before in
     let z = d .before .before .before .before .before .before .before .before in
-    let l = bank-inside _ _ (sym (d .before .bank-fits2 .ensures) ∙ not-false _ (d .if2 .left)) in
+    let l = bank-inside _ _ (sym (d .before .bank-fits2 .ensures) ∙ not-false (d .before .bank-fits2 .result) (d .if2 .left)) in
     (z .pre, omega arith)
 
 returns-5 : tie.Need-returns-5
@@ -57,7 +57,7 @@ returns-5 c = let e = c .before in
     let r = e .before .before in
     let d = r .before .before in
     let b = d .before .before in
-    rw (sym (b .before .bank-fits .ensures) ∙ not-false _ (b .if1 .left), sym (d .before .bank-fits2 .ensures) ∙ not-false _ (d .if2 .left), sym (r .before .runs-apart .ensures) ∙ not-false _ (r .if3 .left), sym (e .before .bank-beside-tables .ensures) ∙ not-false _ (e .if4 .left)) (c .bank-beside-tables2 .ensures)
+    rw (← b .before .bank-fits .ensures, not-false (b .before .bank-fits .result) (b .if1 .left), ← d .before .bank-fits2 .ensures, not-false (d .before .bank-fits2 .result) (d .if2 .left), ← r .before .runs-apart .ensures, not-false (r .before .runs-apart .result) (r .if3 .left), ← e .before .bank-beside-tables .ensures, not-false (e .before .bank-beside-tables .result) (e .if4 .left)) (c .bank-beside-tables2 .ensures)
 
 pub banks-fit-spec : {M : Type 1} → statement M
 banks-fit-spec =

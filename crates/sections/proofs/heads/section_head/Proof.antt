@@ -21,7 +21,7 @@ enum-known-t c = search needs
 returns : tie.Need-returns
 unfolding sectionStep withSection
 returns c = let m = c .before .before .before .before in
-    rw (sym (m .before .before .read-table-section .ensures) ∙ m .t .given .1, lt-leb _ _ (c .if1 .taken))
+    rw (← m .before .before .read-table-section .ensures, m .t .given .1, lt-leb _ _ (c .if1 .taken))
 
 count-fits-requires : tie.Need-count-fits-requires
 count-fits-requires c κs = search needs
@@ -36,7 +36,7 @@ returns-2 : tie.Need-returns-2
 unfolding sectionStep withSection
 returns-2 c = let f = c .before .before in
     let m = f .before .before .before .before .before in
-    rw (sym (m .before .before .read-table-section .ensures) ∙ m .t .given .1, le-leb _ _ (f .before .if1 .left), sym (f .count-fits .ensures) ∙ c .before .if2 .taken, c .one-fewer .ensures)
+    rw (← m .before .before .read-table-section .ensures, m .t .given .1, le-leb _ _ (f .before .if1 .left), ← f .count-fits .ensures, c .before .if2 .taken, c .one-fewer .ensures)
 
 enum-known-f : tie.Need-enum-known-f
 enum-known-f c = search needs
@@ -45,11 +45,11 @@ returns-3 : tie.Need-returns-3
 unfolding sectionStep withSection
 returns-3 c = let f = c .before in
     let m = f .before .before .before .before .before in
-    rw (sym (m .before .before .read-table-section .ensures) ∙ m .t .given .1, le-leb _ _ (f .before .if1 .left), sym (f .count-fits .ensures) ∙ c .if2 .left)
+    rw (← m .before .before .read-table-section .ensures, m .t .given .1, le-leb _ _ (f .before .if1 .left), ← f .count-fits .ensures, c .if2 .left)
 
 returns-4 : tie.Need-returns-4
 unfolding sectionStep withSection
-returns-4 c = rw (sym (c .before .before .before .read-table-section .ensures) ∙ c .before .f .given .1)
+returns-4 c = rw (← c .before .before .before .read-table-section .ensures, c .before .f .given .1)
 
 pub section-head-spec : {M : Type 1} → statement M
 section-head-spec =

@@ -43,7 +43,7 @@ add-t23 c = search needs
 returns-2 : tie.Need-returns-2
 unfolding segmentStep withSegment
 returns-2 c = let m = c .before .before .before in
-    rw (le-leb _ _ (m .before .before .before .before .before .if1 .left), sym (m .before .before .read-segment .ensures) ∙ m .g .given .1, sym (c .before .banks-fit .ensures) ∙ c .if2 .taken)
+    rw (le-leb _ _ (m .before .before .before .before .before .if1 .left), ← m .before .before .read-segment .ensures, m .g .given .1, ← c .before .banks-fit .ensures, c .if2 .taken)
 
 enum-known-f : tie.Need-enum-known-f
 enum-known-f c = search needs
@@ -51,12 +51,12 @@ enum-known-f c = search needs
 returns-3 : tie.Need-returns-3
 unfolding segmentStep withSegment
 returns-3 c = let m = c .before .before .before in
-    rw (le-leb _ _ (m .before .before .before .before .before .if1 .left), sym (m .before .before .read-segment .ensures) ∙ m .g .given .1, sym (c .before .banks-fit .ensures) ∙ c .if2 .left)
+    rw (le-leb _ _ (m .before .before .before .before .before .if1 .left), ← m .before .before .read-segment .ensures, m .g .given .1, ← c .before .banks-fit .ensures, c .if2 .left)
 
 returns-4 : tie.Need-returns-4
 unfolding segmentStep withSegment
 returns-4 c = let m = c .before in
-    rw (le-leb _ _ (m .before .before .before .before .before .if1 .left), sym (m .before .before .read-segment .ensures) ∙ m .f .given .1)
+    rw (le-leb _ _ (m .before .before .before .before .before .if1 .left), ← m .before .before .read-segment .ensures, m .f .given .1)
 
 pub segment-head-spec : {M : Type 1} → statement M
 segment-head-spec =

@@ -1,5 +1,5 @@
 -- `items::item_step`: a head or a group, as the word is read. Assumes nothing.
-use mathlib.Core.Path.{refl, sym, _∙_}
+use mathlib.Core.Path.{refl}
 use native.Mathlib.Omega.{arith}
 use denote.Ref.{now}
 use Rattle.sections.proofs.Turns.{assigned-same, group-met}
@@ -30,19 +30,19 @@ enum-known-section c = search needs
 group-step-requires : tie.Need-group-step-requires
 group-step-requires c κs = let z = c .before .before .before .before .before .before .before .before .before .before in
     let e = c .before .before .section .given in
-    reads-group _ _ _ _ _ _ _ _ _ (z .pre .1) _ (z .pre .0) (e .0 .0) (e .0 .1 .0) (e .0 .1 .1 .0) (sym (c .before .before .before .before .reading-of .ensures) ∙ e .1) .ready
+    reads-group _ _ _ _ _ _ _ _ _ (z .pre .1) _ (z .pre .0) _ (c .before .before .before .before .reading-of .ensures) (e .0 .0) (e .0 .1 .0) (e .0 .1 .1 .0) (e .1) .ready
 
 after-group-requires : tie.Need-after-group-requires
 after-group-requires c κs = search needs
 
 returns : tie.Need-returns
 returns c = let a = c .before .before .before .before .before .before .before .before .before .args in
-    rw (reads-segment (a .area) (a .io) (now (a .words)) (now (a .ranks)) (now (a .ios)) _ _ _ _ _ (sym (c .before .before .before .reading-of .ensures) ∙ c .before .enum-told .given .1)) (record { told = c .segment-head .ensures; left = refl })
+    rw (reads-segment (a .area) (a .io) (now (a .words)) (now (a .ranks)) (now (a .ios)) _ _ _ _ _ _ (c .before .before .before .reading-of .ensures) (c .before .enum-told .given .1)) (record { told = c .segment-head .ensures; left = refl })
 
 returns-2 : tie.Need-returns-2
 returns-2 c = let a = c .before .before .before .before .before .before .before .before .before .before .args in
     let e = c .before .before .t .given in
-    rw (reads-section (a .area) (a .io) (now (a .words)) (now (a .ranks)) (now (a .ios)) _ _ _ _ _ (e .0 .0) (e .0 .1 .0) (sym (c .before .before .before .before .reading-of .ensures) ∙ e .1)) (record { told = c .section-head .ensures; left = refl })
+    rw (reads-section (a .area) (a .io) (now (a .words)) (now (a .ranks)) (now (a .ios)) _ _ _ _ _ _ (c .before .before .before .before .reading-of .ensures) (e .0 .0) (e .0 .1 .0) (e .1)) (record { told = c .section-head .ensures; left = refl })
 
 same-length : tie.Need-same-length
 same-length c = search needs
@@ -51,7 +51,7 @@ returns-3 : tie.Need-returns-3
 returns-3 c = let z = c .before .before .before .before .before .before .before .before .before .before .before .before .before .before in
     let a = z .args in
     let e = c .before .before .before .before .before .before .section .given in
-    let d = reads-group (a .area) (a .io) (now (a .words)) (now (a .ranks)) (now (a .ios)) _ _ _ _ (z .pre .1) _ (z .pre .0) (e .0 .0) (e .0 .1 .0) (e .0 .1 .1 .0) (sym (c .before .before .before .before .before .before .before .before .reading-of .ensures) ∙ e .1) in
+    let d = reads-group (a .area) (a .io) (now (a .words)) (now (a .ranks)) (now (a .ios)) _ _ _ _ (z .pre .1) _ (z .pre .0) _ (c .before .before .before .before .before .before .before .before .reading-of .ensures) (e .0 .0) (e .0 .1 .0) (e .0 .1 .1 .0) (e .1) in
     let q = assigned-same (a .area) (a .io) (now (a .words)) (now (a .ranks)) (now (a .ios)) (a .c) in
     rw (d .item) (group-met (a .c) (a .due) _ (e .0 .1 .1 .0) _ _ _ _ (rw q at (c .before .before .before .group-step .ensures)) (c .after-group .ensures))
 
