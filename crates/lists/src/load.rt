@@ -10,18 +10,20 @@ use word::Reference;
 use word::limits::TABLES_MOST;
 
 // The places of the I/O numbers, of the kept words and of the ranks, and how many numbers there are in all.
-const WORDS: usize = 32;
+pub const IO_WORDS: usize = 32;
 
-const RANKS: usize = 160;
+const WORDS: usize = IO_WORDS;
 
-pub const LISTS: usize = 288;
+const RANKS: usize = WORDS + TABLES_MOST;
+
+pub const LISTS: usize = RANKS + TABLES_MOST;
 
 // Keeps the lists that are lent to open, whose tables' kept words are these.
 pub fn keep_lists(area: Area, ios: &[u64], tables: &[u64], words: &[u64], lists: &mut [u64])
     requires { ⌜ Keepable area (now ios) (now tables) (now words) (now lists) ⌝ }
     ensures { λ _. ⌜ now (lists .exit) ≡ keptLists (now (ios .entry)) (now (tables .entry)) (now (lists .entry)) ⌝ }
 {
-    let mut numbers = [0u64; WORDS];
+    let mut numbers = [0u64; IO_WORDS];
     crate::keep_numbers(ios, &mut numbers);
     word::slices::copy_in(lists, 0, &numbers[..(ios.len() + 3) / 4]);
     word::slices::copy_in(lists, WORDS, words);
@@ -45,7 +47,7 @@ pub fn io_assigned(g: Given, lists: &[u64], k: Reference) -> u64
     ensures { λ r. ⌜ r ≡ getD (ioNumbers g (now (lists .entry))) (k .0) 0 ⌝ }
 {
     if k.0 < g.io {
-        return crate::io_number(&lists[..WORDS], k);
+        return crate::io_number(&lists[..IO_WORDS], k);
     }
     0
 }

@@ -4,10 +4,13 @@ ghost use mathlib.Core.Path.{_≡_};
 ghost use Prim.Native.Nat.{_≤_, _^_};
 ghost use Rattle.word.specs.Lists.{every};
 ghost use Rattle.lists.specs.Kept.{numbersIn};
+ghost use Rattle.lists.specs.Load.{ioNumbers, Readable};
 ghost use Rattle.label.specs.Label.{Carried};
 ghost use Rattle.modification.specs.Entries.{entryWords, entryBlocks, lengthSpot, minimum, lengthFits};
 ghost use Rattle.modification.specs.Assignments.{isChannel, assignmentsFit};
 use label::Label;
+use lists::Given;
+use lists::load::IO_WORDS;
 use word::Reference;
 
 // "Words 1 to 254 hold entries": how many words of a modification block do.
@@ -22,18 +25,18 @@ pub struct Spot {
     pub word: u64,
 }
 
-// Whether n I/O numbers, kept as ios, and as many core tables fit the label.
-pub fn assignments_fit(l: Label, ios: &[u64], n: u64, tables: u64) -> bool
-    requires { ⌜ Carried l ⌝ }
-    ensures { λ r. ⌜ r ≡ assignmentsFit l (numbersIn (now (ios .entry)) n) tables ⌝ }
+// Whether the lists that a load was given fit the label.
+pub fn assignments_fit(l: Label, g: Given, lists: &[u64]) -> bool
+    requires { ⌜ (Carried l) × (Readable g (now lists)) ⌝ }
+    ensures { λ r. ⌜ r ≡ assignmentsFit l (ioNumbers g (now (lists .entry))) (g .tables) ⌝ }
 {
-    if n != l.switches + l.channels + l.units {
+    if g.io != l.switches + l.channels + l.units {
         return false;
     }
-    if tables != l.tables {
+    if g.tables != l.tables {
         return false;
     }
-    channels_fit(ios, l.switches + l.channels)
+    channels_fit(&lists[..IO_WORDS], l.switches + l.channels)
 }
 
 // Whether each of the first m I/O numbers is one for a jump switch or a channel.

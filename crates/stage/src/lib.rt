@@ -4,11 +4,12 @@ ghost use mathlib.Core.Path.{_≡_};
 ghost use mathlib.Core.Bool.{_&&_};
 ghost use Prim.Native.Nat.{_+_, _≤_, _<_};
 ghost use lib.ListN.{length};
-ghost use Rattle.lists.specs.Kept.{tablesIn};
+ghost use Rattle.lists.specs.Load.{coreTables, Readable};
 ghost use Rattle.stage.specs.Stage.{numbersOf, stageOf};
 ghost use Rattle.stage.specs.Ranges.{courseFits, bankFits, countFits, dueFits, stageFits};
 ghost use Rattle.stage.specs.Record.{recordDue, isOver};
 use block::Record;
+use lists::Given;
 use program::Bank;
 use program::Segment;
 use program::TableSection;
@@ -194,12 +195,14 @@ fn section_of(number: u64, count: u64) -> TableSection
     }
 }
 
-// Whether a stage's numbers are in their ranges: words and ranks are the load's kept tables, io counts its I/O references.
-pub fn stage_fits(area: Area, words: &[u64], ranks: &[u64], io: u64, s: Stage) -> bool
-    requires { ⌜ (area .at .0 + area .size ≤ 65536) × (io ≤ 65536) × (length (now ranks) ≤ 65536) ⌝ }
-    ensures { λ r. ⌜ r ≡ stageFits area (tablesIn area (now (words .entry)) (now (ranks .entry))) io s ⌝ }
+// Whether a stage's numbers are in their ranges, by what the load was given and its lists.
+pub fn stage_fits(g: Given, lists: &[u64], s: Stage) -> bool
+    requires { ⌜ Readable g (now lists) ⌝ }
+    ensures { λ r. ⌜ r ≡ stageFits (g .area) (coreTables g (now (lists .entry))) (g .io) s ⌝ }
 {
-    let tables = ranks.len() as u64;
+    let area = g.area;
+    let io = g.io;
+    let tables = g.tables;
     match s {
         Stage::Label => true,
         Stage::Entry(c, _, b) => {
@@ -212,7 +215,7 @@ pub fn stage_fits(area: Area, words: &[u64], ranks: &[u64], io: u64, s: Stage) -
             if !course_fits(io, tables, c) {
                 return false;
             }
-            due_fits(area, words, ranks, due)
+            due_fits(g, lists, due)
         }
         Stage::Termination(i) => bank_fits(area, i),
         Stage::Complete => true,
@@ -236,23 +239,24 @@ pub fn bank_fits(area: Area, b: Bank) -> bool
     word::run_within(b.at.0, b.count, 0, area.size)
 }
 
-fn due_fits(area: Area, words: &[u64], ranks: &[u64], due: Due) -> bool
-    requires { ⌜ area .at .0 + area .size ≤ 65536 ⌝ }
-    ensures { λ r. ⌜ r ≡ dueFits area (tablesIn area (now (words .entry)) (now (ranks .entry))) due ⌝ }
+fn due_fits(g: Given, lists: &[u64], due: Due) -> bool
+    requires { ⌜ Readable g (now lists) ⌝ }
+    ensures { λ r. ⌜ r ≡ dueFits (g .area) (coreTables g (now (lists .entry))) due ⌝ }
 {
+    let area = g.area;
     match due {
         Due::Segment => true,
-        Due::SegmentGroup(g) => {
-            let i = g.ibank;
+        Due::SegmentGroup(segment) => {
+            let i = segment.ibank;
             if !bank_fits(area, i) {
                 return false;
             }
-            let d = g.dbank;
+            let d = segment.dbank;
             bank_fits(area, d)
         }
         Due::Section(_, i) => bank_fits(area, i),
         Due::SectionGroup(t, i) => {
-            if !count_fits(area, words, ranks, t) {
+            if !count_fits(g, lists, t) {
                 return false;
             }
             bank_fits(area, i)
@@ -261,13 +265,13 @@ fn due_fits(area: Area, words: &[u64], ranks: &[u64], due: Due) -> bool
 }
 
 // Whether a table section is of a table that there is, and of no more words than the table has.
-pub fn count_fits(area: Area, words: &[u64], ranks: &[u64], t: TableSection) -> bool
-    requires { ⌜ area .at .0 + area .size ≤ 65536 ⌝ }
-    ensures { λ r. ⌜ r ≡ countFits (tablesIn area (now (words .entry)) (now (ranks .entry))) t ⌝ }
+pub fn count_fits(g: Given, lists: &[u64], t: TableSection) -> bool
+    requires { ⌜ Readable g (now lists) ⌝ }
+    ensures { λ r. ⌜ r ≡ countFits (coreTables g (now (lists .entry))) t ⌝ }
 {
     let number = t.number;
-    if ranks.len() as u64 <= number.0 {
+    if g.tables <= number.0 {
         return false;
     }
-    t.count <= lists::table_at(words, ranks, area, number).len
+    t.count <= lists::load::core_table(g, lists, number).len
 }

@@ -1,9 +1,13 @@
 -- `modification::assignments_fit` meets its contract: each return by the tests that led to it. Assumes nothing.
 use native.Mathlib.Omega.{arith}
 use denote.Ref.{now}
+use lib.ListN.{take, length-take}
 use borrow.Author.Tests.{eq-eqb}
+use Rattle.word.specs.Lists.{range}
 use Rattle.word.proofs.Tests.{tests}
+use Rattle.lists.specs.Load.{ioWords, iosIn, ioNumbers}
 use Rattle.lists.proofs.Kept.{numbers-length}
+use Rattle.lists.proofs.Reading.{io-length}
 use Rattle.modification.specs.Assignments.{assignmentsFit}
 use Rattle.modification.proofs.Channels.{take-numbers}
 use Prim.Native.Nat.{_+_}
@@ -19,11 +23,14 @@ add-if1-2 c = search needs
 
 returns : tie.Need-returns
 unfolding assignmentsFit
-returns c = search (tests, numbers-length)
+returns c = search (tests, io-length)
 
 returns-2 : tie.Need-returns-2
 unfolding assignmentsFit
-returns-2 c = search (tests, numbers-length)
+returns-2 c = search (tests, io-length)
+
+slice-aggregate-channels-fit : tie.Need-slice-aggregate-channels-fit
+slice-aggregate-channels-fit c = simp length-take (omega arith)
 
 add-channels-fit : tie.Need-add-channels-fit
 add-channels-fit c = search needs
@@ -32,18 +39,27 @@ channels-fit-requires : tie.Need-channels-fit-requires
 channels-fit-requires c κs = search needs
 
 returns-3 : tie.Need-returns-3
-unfolding assignmentsFit
+unfolding assignmentsFit ioNumbers iosIn range
 returns-3 c =
-    let a = c .before .before .before .before .before .before .before .before .args in
+    let a = c .before .before .before .before .before .before .before .before .before .before .before .args in
+    let ios = take ioWords (now (a .lists)) in
     rw (
-      numbers-length (now (a .ios)) (a .n),
-      eq-eqb _ _ (c .before .before .before .before .if1 .left),
-      eq-eqb _ _ (c .before .before .if2 .left),
-      take-numbers (now (a .ios)) (a .l .switches + a .l .channels) (a .n) (omega arith),
+      numbers-length ios (a .g .io),
+      eq-eqb _ _ (c .before .before .before .before .before .before .if1 .left),
+      eq-eqb _ _ (c .before .before .before .if2 .left),
+      take-numbers ios (a .l .switches + a .l .channels) (a .g .io) (omega arith),
     )
     (c .channels-fit .ensures)
 
 pub assignments-fit-spec : {M : Type 1} → statement M
 assignments-fit-spec =
     tie.close
-    (tie.spec add-if1 add-if1-2 returns returns-2 add-channels-fit channels-fit-requires returns-3)
+    (tie.spec
+    add-if1
+    add-if1-2
+    returns
+    returns-2
+    slice-aggregate-channels-fit
+    add-channels-fit
+    channels-fit-requires
+    returns-3)

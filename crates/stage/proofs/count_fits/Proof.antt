@@ -2,7 +2,7 @@
 use denote.Ref.{now}
 use borrow.Author.Tests.{lt-ltb}
 use Rattle.word.proofs.Tests.{tests}
-use Rattle.lists.proofs.Kept.{tables-length, tables-at}
+use Rattle.lists.proofs.Reading.{core-length, core-at}
 use Rattle.stage.specs.Ranges.{countFits}
 use borrow.Author.Needs.{needs}
 use Rattle.stage.proofs.count_fits.Statement.{statement}
@@ -10,17 +10,18 @@ use Rattle.stage.proofs.count_fits.Tie as tie
 
 returns : tie.Need-returns
 unfolding countFits
-returns c = search (tests, tables-length)
+returns c = search (tests, core-length)
 
-table-at-requires : tie.Need-table-at-requires
-table-at-requires c κs = search needs
+core-table-requires : tie.Need-core-table-requires
+core-table-requires c κs = search needs
 
 returns-2 : tie.Need-returns-2
 unfolding countFits
 returns-2 c =
-    let a = c .before .before .before .before .before .before .before .before .args in
+    let s = c .before .before .before .before .before .before .before .before in
+    let a = s .args in
     let n = c .before .before .before .if1 .left in
-    rw (tables-length (a .area) (now (a .words)) (now (a .ranks)), lt-ltb _ _ n, tables-at (a .area) (now (a .words)) (now (a .ranks)) _ _ n, ← c .before .before .table-at .ensures)
+    rw (core-length (a .g) (now (a .lists)) (s .pre), lt-ltb _ _ n, core-at (a .g) (now (a .lists)) (s .pre) _ _ n, ← c .before .before .core-table .ensures)
 
 pub count-fits-spec : {M : Type 1} → statement M
-count-fits-spec = tie.close (tie.spec returns table-at-requires returns-2)
+count-fits-spec = tie.close (tie.spec returns core-table-requires returns-2)

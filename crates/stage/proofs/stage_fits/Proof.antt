@@ -2,7 +2,7 @@
 use mathlib.Core.Path.{sym, _∙_}
 use denote.Ref.{now}
 use borrow.Author.Tests.{not-true, not-false}
-use Rattle.lists.proofs.Kept.{tables-length}
+use Rattle.lists.proofs.Reading.{core-length}
 use Rattle.stage.specs.Ranges.{stageFits}
 use borrow.Author.Needs.{needs}
 use Rattle.stage.proofs.stage_fits.Statement.{statement}
@@ -19,8 +19,8 @@ course-fits-requires c κs = search needs
 
 returns : tie.Need-returns
 unfolding stageFits
-returns c = let a = c .before .before .before .before .before .before .before .args in
-    let e = tables-length (a .area) (now (a .words)) (now (a .ranks)) in
+returns c = let z = c .before .before .before .before .before .before .before in
+    let e = core-length (z .args .g) (now (z .args .lists)) (z .pre) in
     rw (c .before .before .before .s .given .1, e, sym (c .before .course-fits .ensures) ∙ not-true _ (c .if1 .taken))
 
 entry-blocks-requires : tie.Need-entry-blocks-requires
@@ -34,8 +34,8 @@ course-fits-requires-2 c κs = search needs
 
 returns-2 : tie.Need-returns-2
 unfolding stageFits
-returns-2 c = let a = c .before .before .before .before .before .before .before .args in
-    let e = tables-length (a .area) (now (a .words)) (now (a .ranks)) in
+returns-2 c = let z = c .before .before .before .before .before .before .before in
+    let e = core-length (z .args .g) (now (z .args .lists)) (z .pre) in
     rw (c .before .before .before .s2 .given .1, e, sym (c .before .course-fits2 .ensures) ∙ not-true _ (c .if2 .taken))
 
 due-fits-requires : tie.Need-due-fits-requires
@@ -59,14 +59,14 @@ returns-3 c = rw (c .enum-told .given .1)
 
 returns-4 : tie.Need-returns-4
 unfolding stageFits
-returns-4 c = let a = c .before .before .before .before .before .before .before .before .args in
-    let e = tables-length (a .area) (now (a .words)) (now (a .ranks)) in
+returns-4 c = let z = c .before .before .before .before .before .before .before .before in
+    let e = core-length (z .args .g) (now (z .args .lists)) (z .pre) in
     rw (c .before .before .before .before .s .given .1, e, sym (c .before .before .course-fits .ensures) ∙ not-false _ (c .before .if1 .left), ← c .entry-blocks .ensures)
 
 returns-5 : tie.Need-returns-5
 unfolding stageFits
-returns-5 c = let a = c .before .before .before .before .before .before .before .before .args in
-    let e = tables-length (a .area) (now (a .words)) (now (a .ranks)) in
+returns-5 c = let z = c .before .before .before .before .before .before .before .before in
+    let e = core-length (z .args .g) (now (z .args .lists)) (z .pre) in
     rw (c .before .before .before .before .s2 .given .1, e, sym (c .before .before .course-fits2 .ensures) ∙ not-false _ (c .before .if2 .left)) (c .due-fits .ensures)
 
 returns-6 : tie.Need-returns-6
