@@ -5,13 +5,13 @@ use mathlib.Core.Bool.{Bool, true, false}
 use mathlib.Core.List.{List}
 use native.Mathlib.Omega.{arith}
 use lib.ListN.{length, getD, drop}
-use Rattle.word.specs.declared.Area.{Area}
 use Rattle.word.specs.Lists.{every, tab}
 use Rattle.word.proofs.Lists.{length-tab, getD-tab, every-more, every-fails, every-ends}
 use Rattle.lists.specs.declared.Table.{Table as CoreTable}
-use Rattle.lists.specs.Kept.{tableAt, tablesIn}
+use Rattle.lists.specs.declared.Given.{Given}
+use Rattle.lists.specs.Load.{coreTable, coreTables, Readable}
 use Rattle.lists.specs.Obey.{noTable}
-use Rattle.lists.proofs.Kept.{tables-length, tables-at}
+use Rattle.lists.proofs.Reading.{core-length, core-at}
 use Rattle.step.specs.Entries.{entryFits, lengthOf, entriesFit}
 
 module _ (io : ℕ) (strict : Bool) (b : ℕ) (block : List ℕ) where
@@ -30,28 +30,28 @@ module _ (io : ℕ) (strict : Bool) (b : ℕ) (block : List ℕ) where
   unfolding entriesFit leftFit
   left-first ts = refl
 
-  module _ (area : Area) (ws rs : List ℕ) (t : ℕ) (r : Bool) where
+  module _ (g : Given) (l : List ℕ) (readable : Readable g l) (t : ℕ) (r : Bool) where
     abbrev ts : List CoreTable
-    ts = tablesIn area ws rs
+    ts = coreTables g l
 
-    many : length (numbers ts) ≡ length rs
-    many = length-tab (λ (k : ℕ). k) (length ts) ∙ tables-length area ws rs
+    many : length (numbers ts) ≡ g .tables
+    many = length-tab (λ (k : ℕ). k) (length ts) ∙ core-length g l readable
 
-    this : (x : CoreTable) → t < length rs → x ≡ tableAt area ws rs t → fits ts (getD (numbers ts) t 0) ≡ entryFits io strict b block (x .len) t
+    this : (x : CoreTable) → t < g .tables → x ≡ coreTable g l t → fits ts (getD (numbers ts) t 0) ≡ entryFits io strict b block (x .len) t
     this x h q =
-        ap (fits ts) (getD-tab (λ (k : ℕ). k) (length ts) t 0 (omega (arith, tables-length area ws rs)))
-        ∙ ap (λ (y : CoreTable). entryFits io strict b block (y .len) t) (tables-at area ws rs t noTable h ∙ sym q)
+        ap (fits ts) (getD-tab (λ (k : ℕ). k) (length ts) t 0 (omega (arith, core-length g l readable)))
+        ∙ ap (λ (y : CoreTable). entryFits io strict b block (y .len) t) (core-at g l readable t noTable h ∙ sym q)
 
-    pub left-more : (x : CoreTable) → t < length rs → x ≡ tableAt area ws rs t → (v : Bool) → v ≡ entryFits io strict b block (x .len) t → v ≡ true
+    pub left-more : (x : CoreTable) → t < g .tables → x ≡ coreTable g l t → (v : Bool) → v ≡ entryFits io strict b block (x .len) t → v ≡ true
         → r ≡ leftFit ts t → r ≡ leftFit ts (t + 1)
     unfolding leftFit
     left-more x h q v k e = every-more (fits ts) 0 (numbers ts) t r (omega (arith, many)) (this x h q ∙ sym k ∙ e)
 
-    pub left-fails : (x : CoreTable) → t < length rs → x ≡ tableAt area ws rs t → (v : Bool) → v ≡ entryFits io strict b block (x .len) t → v ≡ false
+    pub left-fails : (x : CoreTable) → t < g .tables → x ≡ coreTable g l t → (v : Bool) → v ≡ entryFits io strict b block (x .len) t → v ≡ false
         → r ≡ leftFit ts t → false ≡ r
     unfolding leftFit
     left-fails x h q v k e = every-fails (fits ts) 0 (numbers ts) t r (omega (arith, many)) (this x h q ∙ sym k ∙ e)
 
-    pub left-ends : length rs ≤ t → r ≡ leftFit ts t → true ≡ r
+    pub left-ends : g .tables ≤ t → r ≡ leftFit ts t → true ≡ r
     unfolding leftFit
     left-ends h = every-ends (fits ts) 0 (numbers ts) t r (omega (arith, many))

@@ -5,12 +5,13 @@ ghost use Prim.Native.Nat.{_+_, _≤_, _<_};
 ghost use lib.ListN.{length};
 ghost use Rattle.label.specs.declared.LabelRead.the-variants.{Good};
 ghost use Rattle.label.specs.Label.{Carried};
-ghost use Rattle.lists.specs.Kept.{numbersIn, tablesIn};
+ghost use Rattle.lists.specs.Load.{ioNumbers, coreTables, Readable};
 ghost use Rattle.step.specs.Label.{withLabel, labelStep};
 ghost use Rattle.step.specs.Entries.{entryFits, entriesFit, entryStep};
 ghost use Rattle.step.specs.Termination.{terminationStep};
 use label::Label;
 use label::LabelRead;
+use lists::Given;
 use program::Bank;
 use stage::Course;
 use stage::Due;
@@ -20,75 +21,60 @@ use word::Area;
 use word::Fault;
 use word::Reference;
 
-// The label, held against n I/O numbers, kept as ios, and as many core tables.
-pub fn label_step(ios: &[u64], n: u64, tables: u64, block: &[u64]) -> Step
-    requires { ⌜ (n ≤ 128) × (tables ≤ 128) × (length (now block) ≡ 256) ⌝ }
-    ensures { λ r. ⌜ r ≡ labelStep (numbersIn (now (ios .entry)) n) tables (now (block .entry)) ⌝ }
+// The label, compared with the lists that the load was given.
+pub fn label_step(g: Given, lists: &[u64], block: &[u64]) -> Step
+    requires { ⌜ (Readable g (now lists)) × (length (now block) ≡ 256) ⌝ }
+    ensures { λ r. ⌜ r ≡ labelStep (ioNumbers g (now (lists .entry))) (g .tables) (now (block .entry)) ⌝ }
 {
     match label::read_label(block) {
-        LabelRead::Good(l) => take_label(ios, n, tables, l),
+        LabelRead::Good(l) => take_label(g, lists, l),
         LabelRead::Bad(f) => Step::Refused(f),
     }
 }
 
 // A label that is one: the assignments must fit it, and entries are due if there are any.
-fn take_label(ios: &[u64], n: u64, tables: u64, l: Label) -> Step
-    requires { ⌜ (n ≤ 128) × (tables ≤ 128) × (Carried l) ⌝ }
-    ensures { λ r. ⌜ r ≡ withLabel (numbersIn (now (ios .entry)) n) tables (Good l) ⌝ }
+fn take_label(g: Given, lists: &[u64], l: Label) -> Step
+    requires { ⌜ (Readable g (now lists)) × (Carried l) ⌝ }
+    ensures { λ r. ⌜ r ≡ withLabel (ioNumbers g (now (lists .entry))) (g .tables) (Good l) ⌝ }
 {
-    if !modification::assignments_fit(l, ios, n, tables) {
+    if !modification::assignments_fit(l, g, lists) {
         return Step::Refused(Fault { number: 16 });
     }
     let c = Course {
         near: l.switches + l.channels,
         sections: l.sections,
     };
-    if modification::entry_blocks(n, tables) == 0 {
+    if modification::entry_blocks(g.io, g.tables) == 0 {
         return Step::More(Stage::Program(c, Due::Segment));
     }
     Step::More(Stage::Entry(c, l.no_longer_tables, 0))
 }
 
-// Modification block b, counted from 0: words and ranks are the load's kept tables, io counts its I/O references.
-pub fn entry_step(
-    area: Area,
-    words: &[u64],
-    ranks: &[u64],
-    io: u64,
-    c: Course,
-    strict: bool,
-    b: u64,
-    block: &[u64],
-) -> Step
-    requires { ⌜ (area .at .0 + area .size ≤ 65536) × (io ≤ 128) × (length (now ranks) ≤ 128) × (b < 65536) × (length (now block) ≡ 256) ⌝ }
-    ensures { λ r. ⌜ r ≡ entryStep io (tablesIn area (now (words .entry)) (now (ranks .entry))) c strict b (now (block .entry)) ⌝ }
+// Modification block b, counted from 0.
+pub fn entry_step(g: Given, lists: &[u64], c: Course, strict: bool, b: u64, block: &[u64]) -> Step
+    requires { ⌜ (Readable g (now lists)) × (b < 65536) × (length (now block) ≡ 256) ⌝ }
+    ensures { λ r. ⌜ r ≡ entryStep (g .io) (coreTables g (now (lists .entry))) c strict b (now (block .entry)) ⌝ }
 {
-    if !entries_fit(area, words, ranks, io, strict, b, block) {
+    if !entries_fit(g, lists, strict, b, block) {
         return Step::Refused(Fault { number: 16 });
     }
-    if b + 1 < modification::entry_blocks(io, ranks.len() as u64) {
-        return Step::More(Stage::Entry(c, strict, b + 1));
+    let next = b + 1;
+    if next < modification::entry_blocks(g.io, g.tables) {
+        return Step::More(Stage::Entry(c, strict, next));
     }
     Step::More(Stage::Program(c, Due::Segment))
 }
 
 // Whether each table's length fits its entry, as far as the entry's third word stands in block b.
-fn entries_fit(
-    area: Area,
-    words: &[u64],
-    ranks: &[u64],
-    io: u64,
-    strict: bool,
-    b: u64,
-    block: &[u64],
-) -> bool
-    requires { ⌜ (area .at .0 + area .size ≤ 65536) × (io ≤ 128) × (length (now ranks) ≤ 128) × (length (now block) ≡ 256) ⌝ }
-    ensures { λ r. ⌜ r ≡ entriesFit io (tablesIn area (now (words .entry)) (now (ranks .entry))) strict b (now (block .entry)) ⌝ }
+fn entries_fit(g: Given, lists: &[u64], strict: bool, b: u64, block: &[u64]) -> bool
+    requires { ⌜ (Readable g (now lists)) × (length (now block) ≡ 256) ⌝ }
+    ensures { λ r. ⌜ r ≡ entriesFit (g .io) (coreTables g (now (lists .entry))) strict b (now (block .entry)) ⌝ }
 {
-    let tables = ranks.len() as u64;
+    let io = g.io;
+    let tables = g.tables;
     let mut t: u64 = 0;
     while t < tables {
-        let len = lists::table_at(words, ranks, area, Reference(t)).len;
+        let len = lists::load::core_table(g, lists, Reference(t)).len;
         if !entry_fits(io, strict, b, block, len, t) {
             return false;
         }

@@ -2,7 +2,7 @@
 use denote.Ref.{now}
 use borrow.Author.Needs.{needs}
 use borrow.Author.Tests.{lt-ltb, le-ltb, not-true, not-false}
-use Rattle.lists.proofs.Kept.{tables-length}
+use Rattle.lists.proofs.Reading.{core-length}
 use Rattle.step.specs.Entries.{afterEntries, entryStep}
 use Rattle.step.proofs.entry_step.Statement.{statement}
 use Rattle.step.proofs.entry_step.Tie as tie
@@ -14,28 +14,25 @@ returns : tie.Need-returns
 unfolding entryStep
 returns c = rw (← c .before .entries-fit .ensures, not-true (c .before .entries-fit .result) (c .if1 .taken))
 
-add-if2 : tie.Need-add-if2
-add-if2 c = search needs
+add-next : tie.Need-add-next
+add-next c = search needs
 
 entry-blocks-requires : tie.Need-entry-blocks-requires
 entry-blocks-requires c κs = search needs
-
-add-t16 : tie.Need-add-t16
-add-t16 c = search needs
 
 returns-2 : tie.Need-returns-2
 unfolding entryStep afterEntries
 returns-2 c =
     let s = c .before .before in
-    let a = s .before .before .before .before .before .args in
-    rw (← s .before .entries-fit .ensures, not-false (s .before .entries-fit .result) (s .if1 .left), tables-length (a .area) (now (a .words)) (now (a .ranks)), ← c .before .entry-blocks .ensures, lt-ltb _ _ (c .if2 .taken))
+    let z = s .before .before .before .before in
+    rw (← s .before .entries-fit .ensures, not-false (s .before .entries-fit .result) (s .if1 .left), core-length (z .args .g) (now (z .args .lists)) (z .pre .0), ← c .before .entry-blocks .ensures, lt-ltb _ _ (c .if2 .taken))
 
 returns-3 : tie.Need-returns-3
 unfolding entryStep afterEntries
 returns-3 c =
     let s = c .before .before in
-    let a = s .before .before .before .before .before .args in
-    rw (← s .before .entries-fit .ensures, not-false (s .before .entries-fit .result) (s .if1 .left), tables-length (a .area) (now (a .words)) (now (a .ranks)), ← c .before .entry-blocks .ensures, le-ltb _ _ (c .if2 .left))
+    let z = s .before .before .before .before in
+    rw (← s .before .entries-fit .ensures, not-false (s .before .entries-fit .result) (s .if1 .left), core-length (z .args .g) (now (z .args .lists)) (z .pre .0), ← c .before .entry-blocks .ensures, le-ltb _ _ (c .if2 .left))
 
 pub entry-step-spec : {M : Type 1} → statement M
 entry-step-spec =
@@ -43,8 +40,7 @@ entry-step-spec =
     (tie.spec
     entries-fit-requires
     returns
-    add-if2
+    add-next
     entry-blocks-requires
-    add-t16
     returns-2
     returns-3)

@@ -15,7 +15,7 @@ enum-known-l c = search needs
 take-label-requires : tie.Need-take-label-requires
 take-label-requires c κs =
     let p = c .before .before .before .before .before .before .pre in
-    (p .0, p .1, label-carried _ _ (sym (c .before .before .before .read-label .ensures) ∙ c .before .l .given .1))
+    (p .0, label-carried _ _ (sym (c .before .before .before .read-label .ensures) ∙ c .before .l .given .1))
 
 enum-known-f : tie.Need-enum-known-f
 enum-known-f c = search needs

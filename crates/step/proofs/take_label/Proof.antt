@@ -2,7 +2,7 @@
 use mathlib.Core.Path.{sym, _∙_}
 use denote.Ref.{now}
 use borrow.Author.Tests.{eq-eqb, ne-eqb, not-true, not-false}
-use Rattle.lists.proofs.Kept.{numbers-length}
+use Rattle.lists.proofs.Reading.{io-length}
 use Rattle.step.specs.Label.{withLabel, afterLabel}
 use borrow.Author.Needs.{needs}
 use Rattle.step.proofs.take_label.Statement.{statement}
@@ -26,14 +26,14 @@ unfolding withLabel afterLabel
 returns-2 c =
     let s = c .before .before .before in
     let a = s .before .before .before .args in
-    rw (sym (s .before .assignments-fit .ensures) ∙ not-false _ (s .if1 .left), numbers-length (now (a .ios)) (a .n), ← c .before .entry-blocks .ensures, eq-eqb _ _ (c .if2 .taken))
+    rw (sym (s .before .assignments-fit .ensures) ∙ not-false _ (s .if1 .left), io-length (a .g) (now (a .lists)), ← c .before .entry-blocks .ensures, eq-eqb _ _ (c .if2 .taken))
 
 returns-3 : tie.Need-returns-3
 unfolding withLabel afterLabel
 returns-3 c =
     let s = c .before .before .before in
     let a = s .before .before .before .args in
-    rw (sym (s .before .assignments-fit .ensures) ∙ not-false _ (s .if1 .left), numbers-length (now (a .ios)) (a .n), ← c .before .entry-blocks .ensures, ne-eqb _ _ (c .if2 .left))
+    rw (sym (s .before .assignments-fit .ensures) ∙ not-false _ (s .if1 .left), io-length (a .g) (now (a .lists)), ← c .before .entry-blocks .ensures, ne-eqb _ _ (c .if2 .left))
 
 pub take-label-spec : {M : Type 1} → statement M
 take-label-spec =
