@@ -27,7 +27,7 @@ use Rattle.rooms.proofs.Rooms.{held-set, given-place}
 use Rattle.lists.specs.Obey.{listsObey}
 use Rattle.layout.specs.Layout.{coreLength, placeIn, stageIn, holders, holds}
 use Rattle.layout.proofs.Places.{length-holders, getD-holders, holders-kept, core-kept, holds-inside, holds-holder}
-use Rattle.sections.specs.Load.{Load}
+use Rattle.lists.specs.Load.{Load}
 use Rattle.desk.specs.Sound.{sound}
 use Rattle.desk.proofs.Facts.{sound-long, sound-fair}
 use Rattle.calls.specs.Outcome.{Outcome}

@@ -31,7 +31,7 @@ use Rattle.stage.specs.Record.{recordDue, isOver}
 use Rattle.step.specs.Label.{courseOf, afterLabel, withLabel, labelStep}
 use Rattle.step.specs.Entries.{entriesFit, afterEntries, entryStep}
 use Rattle.step.specs.Termination.{terminationStep}
-use Rattle.sections.specs.Load.{Load}
+use Rattle.lists.specs.Load.{Load}
 use Rattle.sections.specs.Program.{StepOutcome, programStep}
 use Rattle.feed.specs.Block.{only, dueStep, blockStep}
 use Rattle.demands.specs.Image.{Piece, pieces, noSection, storesFrom, storesBeyond, storesOf, imageOf}

@@ -21,7 +21,7 @@ use Rattle.stage.specs.declared.Stage.the-variants.{Label, Complete, Broken}
 use Rattle.stage.specs.declared.Step.{Step}
 use Rattle.stage.specs.declared.Step.the-variants.{More as step-more, Done as step-done, Refused as step-refused}
 use Rattle.stage.specs.Record.{isOver}
-use Rattle.sections.specs.Load.{Load}
+use Rattle.lists.specs.Load.{Load}
 use Rattle.layout.specs.declared.Place.{Place}
 use Rattle.layout.specs.Layout.{placeIn, holderOf, ownOf, stageIn, holders}
 use Rattle.rooms.specs.Rooms.{lowestFree}

@@ -44,7 +44,8 @@ use Rattle.stage.specs.Ranges.{bankFits, countFits}
 use Rattle.stage.specs.declared.Step.the-variants.{More, Refused}
 use Rattle.sections.specs.declared.Item.{Item}
 use Rattle.sections.specs.declared.Item.the-variants.{Go, Stop}
-use Rattle.sections.specs.Load.{Load, assignments}
+use Rattle.lists.specs.Load.{Load}
+use Rattle.sections.specs.Load.{assignments}
 use Rattle.sections.specs.Heads.{banksFit, withSegment, segmentStep, withSection, sectionStep}
 use Rattle.sections.specs.Program.{afterLast, afterGroup, itemStep, closes, followed, StepOutcome, programFrom}
 use Rattle.demands.specs.Image.{Piece, piecesFrom, Store, storeOf, tableSection, storesFrom}

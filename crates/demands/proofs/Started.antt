@@ -38,7 +38,7 @@ use Rattle.step.specs.Entries.{entriesFit, entryStep}
 use Rattle.step.specs.Termination.{terminationStep}
 use Rattle.sections.specs.declared.Item.{Item}
 use Rattle.sections.specs.declared.Item.the-variants.{Go, Stop}
-use Rattle.sections.specs.Load.{Load}
+use Rattle.lists.specs.Load.{Load}
 use Rattle.sections.specs.Heads.{banksFit, withSegment, segmentStep, withSection, sectionStep}
 use Rattle.sections.specs.Program.{afterLast, afterGroup, itemStep, closes, followed, StepOutcome, programFrom, programStep}
 use Rattle.feed.specs.Block.{dueStep, blockStep}

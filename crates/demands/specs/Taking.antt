@@ -8,7 +8,7 @@ use Rattle.stage.specs.declared.Stage.the-variants.{Complete}
 use Rattle.stage.specs.declared.Step.{Step}
 use Rattle.stage.specs.declared.Step.the-variants.{More, Done, Refused}
 use Rattle.stage.specs.Record.{isOver}
-use Rattle.sections.specs.Load.{Load}
+use Rattle.lists.specs.Load.{Load}
 use Rattle.feed.specs.Block.{blockStep}
 
 abbrev pub TakesBy : Step → (Stage → Type 0) → Type 0

@@ -23,7 +23,7 @@ use Rattle.stage.specs.declared.Step.the-variants.{More, Done, Refused}
 use Rattle.stage.specs.Record.{recordDue}
 use Rattle.step.specs.Termination.{terminationStep}
 use Rattle.step.proofs.Fits.{label-fits, entry-fits, label-not-done, entry-not-done, label-fault, entry-fault, termination-fault, termination-not-more}
-use Rattle.sections.specs.Load.{Load}
+use Rattle.lists.specs.Load.{Load}
 use Rattle.sections.specs.Program.{StepOutcome, programStep}
 use Rattle.sections.proofs.Turns.{Stands}
 use Rattle.sections.proofs.Blocks.{program-fits, program-not-done, program-faults, program-length, program-area, program-same, program-alike}

@@ -14,7 +14,8 @@ use Rattle.stage.specs.declared.Stage.{Stage}
 use Rattle.layout.specs.Layout.{coreLength, holderIn, placeIn, stageIn, iosIn}
 use Rattle.desk.specs.Sound.{sound, ownIn, HeldFacts}
 use Rattle.desk.proofs.Facts.{held-facts}
-use Rattle.sections.specs.Load.{Load, Waits}
+use Rattle.lists.specs.Load.{Load}
+use Rattle.sections.specs.Load.{Waits}
 use Rattle.feed.specs.Feed.{loadIn}
 use Rattle.feed.proofs.Laws.{Fit}
 

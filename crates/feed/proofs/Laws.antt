@@ -14,7 +14,7 @@ use Rattle.lists.specs.Obey.{tableInside}
 use Rattle.stage.specs.declared.Stage.{Stage}
 use Rattle.stage.specs.Ranges.{stageFits}
 use Rattle.stage.specs.declared.Step.the-variants.{More, Done, Refused}
-use Rattle.sections.specs.Load.{Load}
+use Rattle.lists.specs.Load.{Load}
 use Rattle.feed.specs.Block.{blockStep}
 
 -- the stage of a load is in range, and its tables lie in the area

@@ -17,7 +17,8 @@ use Rattle.stage.specs.declared.Step.{Step}
 use Rattle.step.specs.Label.{labelStep}
 use Rattle.step.specs.Entries.{entryStep}
 use Rattle.lists.specs.Kept.{numbersIn, tablesIn}
-use Rattle.sections.specs.Load.{Load, loadOf, Waits}
+use Rattle.lists.specs.Load.{Load, loadOf}
+use Rattle.sections.specs.Load.{Waits}
 use Rattle.sections.specs.Program.{StepMeets}
 use Rattle.feed.specs.Block.{dueStep}
 use Rattle.feed.proofs.Held.{length-numbers}

@@ -14,7 +14,7 @@ use Rattle.stage.specs.Record.{recordDue}
 use Rattle.step.specs.Label.{labelStep}
 use Rattle.step.specs.Entries.{entryStep}
 use Rattle.step.specs.Termination.{terminationStep}
-use Rattle.sections.specs.Load.{Load}
+use Rattle.lists.specs.Load.{Load}
 use Rattle.sections.specs.Program.{StepOutcome, programStep}
 
 -- a block that stores nothing

@@ -17,7 +17,7 @@ use Rattle.stage.specs.Stage.{numbersOf}
 use Rattle.stage.specs.declared.Step.{Step}
 use Rattle.stage.specs.declared.Step.the-variants.{More as step-more, Done as step-done, Refused as step-refused}
 use Rattle.stage.specs.Record.{recordDue, isOver}
-use Rattle.sections.specs.Load.{Load, loadOf}
+use Rattle.lists.specs.Load.{Load, loadOf}
 use Rattle.sections.specs.Program.{StepOutcome}
 use Rattle.layout.specs.declared.Place.{Place}
 use Rattle.layout.specs.Layout.{base, placeIn, ownOf, stageIn, iosIn, wordsIn, ranksIn, holds}

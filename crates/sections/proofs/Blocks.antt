@@ -23,7 +23,8 @@ use Rattle.stage.specs.declared.Step.{Step}
 use Rattle.stage.specs.declared.Step.the-variants.{More, Done, Refused}
 use Rattle.sections.specs.declared.Item.{Item}
 use Rattle.sections.specs.declared.Item.the-variants.{Go, Stop}
-use Rattle.sections.specs.Load.{Load, assignments}
+use Rattle.lists.specs.Load.{Load}
+use Rattle.sections.specs.Load.{assignments}
 use Rattle.sections.specs.Program.{afterGroup, itemStep, ItemOutcome, StepOutcome, StepMeets, closes, followed, programFrom, programStep}
 use Rattle.sections.proofs.Ranges.{Fits}
 use Rattle.sections.proofs.Leads.{Told, Leads, item-leads}

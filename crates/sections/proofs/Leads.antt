@@ -37,7 +37,8 @@ use Rattle.stage.specs.declared.Step.{Step}
 use Rattle.stage.specs.declared.Step.the-variants.{More, Done, Refused}
 use Rattle.sections.specs.declared.Item.{Item}
 use Rattle.sections.specs.declared.Item.the-variants.{Go, Stop}
-use Rattle.sections.specs.Load.{Load, assignments}
+use Rattle.lists.specs.Load.{Load}
+use Rattle.sections.specs.Load.{assignments}
 use Rattle.sections.specs.Heads.{banksFit, withSegment, segmentStep, withSection, sectionStep}
 use Rattle.sections.specs.Program.{inSection, afterLast, afterGroup, itemStep}
 use Rattle.sections.proofs.Ranges.{Fits, CourseFits, BankFits, says-first, says-segment, says-section, says-table}

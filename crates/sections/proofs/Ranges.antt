@@ -25,7 +25,9 @@ use Rattle.stage.specs.declared.Due.the-variants.{Segment as segment-due, Segme
 use Rattle.stage.specs.declared.Stage.{Stage}
 use Rattle.stage.specs.declared.Stage.the-variants.{Program}
 use Rattle.stage.specs.Ranges.{courseFits, bankFits, countFits, dueFits, stageFits}
-use Rattle.sections.specs.Load.{Load, Waits}
+use Rattle.lists.specs.declared.Given.{Given}
+use Rattle.lists.specs.Load.{Load, loadOf, Readable}
+use Rattle.sections.specs.Load.{Waits}
 
 pub bank-inside : (area : Area) (b : Bank) → bankFits area b ≡ true → b .at .0 + b .count ≤ area .size
 unfolding bankFits
@@ -93,22 +95,26 @@ module _ (x : Load) where
       let h = table-there c t ibank q in
       let f = says-inside (x .area) (getD (x .tables) (t .number .0) noTable) .fact (every-place noTable (tableInside (x .area)) (x .tables) (t .number .0) (h .0) e) in
       (f .0, f .1, h .1)
-
   -- a load that waits for a group is ready for it
-  module _ (block core : List ℕ) (i : ℕ) (place : i ≤ 254) where
-    ready : (s : Stage) (section : Section) → InArea (x .area) section → Waits x s block core → Ready (x .area) section block i core
-    ready s section room w = record {
-      inside = w .inside;
-      most = w .most;
-      room = room;
-      long = w .long;
-      words = w .words;
-      place = place;
-    }
 
-    pub segment-ready : (c : Course) (g : Segment) → Waits x (Program c (SegmentGroup g)) block core → Ready (x .area) (in-segment g) block i core
-    segment-ready c g w = ready _ _ (segment-room c g (w .stage)) w
+module _ (g : Given) (l : List ℕ) (readable : Readable g l) (block core : List ℕ) (i : ℕ) (place : i ≤ 254) where
+  abbrev x : Load
+  x = loadOf g l
 
-    pub table-ready : (c : Course) (t : TableSection) (ibank : Bank) → Waits x (Program c (SectionGroup t ibank)) block core
-        → Ready (x .area) (in-table (getD (x .tables) (t .number .0) noTable) (t .count)) block i core
-    table-ready c t ibank w = ready _ _ (table-room c t ibank (w .tables) (w .stage)) w
+  ready : (s : Stage) (section : Section) → InArea (x .area) section → Waits x s block core → Ready g l section block i core
+  ready s section room w = record {
+    lists = readable;
+    inside = w .inside;
+    most = w .most;
+    room = room;
+    long = w .long;
+    words = w .words;
+    place = place;
+  }
+
+  pub segment-ready : (c : Course) (s : Segment) → Waits x (Program c (SegmentGroup s)) block core → Ready g l (in-segment s) block i core
+  segment-ready c s w = ready _ _ (segment-room x c s (w .stage)) w
+
+  pub table-ready : (c : Course) (t : TableSection) (ibank : Bank) → Waits x (Program c (SectionGroup t ibank)) block core
+      → Ready g l (in-table (getD (x .tables) (t .number .0) noTable) (t .count)) block i core
+  table-ready c t ibank w = ready _ _ (table-room x c t ibank (w .tables) (w .stage)) w

@@ -8,17 +8,16 @@ use native.Mathlib.Omega.{arith}
 use lib.ListN.{length, getD, replicate}
 use lib.Dec.{leb}
 use borrow.Author.Tests.{le-leb, lt-leb, leb-false, eq-eqb, ne-eqb}
-use Rattle.word.specs.declared.Area.{Area}
 use Rattle.word.specs.Lists.{every, splice}
 use Rattle.word.proofs.Lists.{splice-whole}
 use Rattle.word.proofs.Cases.{by-test}
 use Rattle.program.specs.declared.Bank.{Bank}
 use Rattle.program.specs.declared.TableSection.{TableSection}
 use Rattle.lists.specs.declared.Table.{Table as CoreTable}
-use Rattle.lists.specs.Kept.{tableAt, tablesIn}
+use Rattle.lists.specs.declared.Given.{Given}
 use Rattle.lists.specs.Obey.{noTable, tableInside}
-use Rattle.lists.proofs.Kept.{numbers-length, tables-length, tables-at}
-use Rattle.field.specs.Field.{assigned}
+use Rattle.lists.proofs.Reading.{core-length, core-at}
+use Rattle.field.specs.Field.{assignedBy}
 use Rattle.group.specs.declared.GroupStep.{GroupStep}
 use Rattle.group.specs.declared.Section.{Section}
 use Rattle.group.specs.declared.Section.the-variants.{Segment as in-segment}
@@ -33,32 +32,33 @@ use Rattle.stage.specs.declared.Step.{Step}
 use Rattle.stage.specs.declared.Step.the-variants.{More}
 use Rattle.sections.specs.declared.Item.{Item}
 use Rattle.sections.specs.declared.Item.the-variants.{Go, Stop}
-use Rattle.sections.specs.Load.{Load, loadOf, assignments, Waits}
+use Rattle.lists.specs.Load.{Load, loadOf, coreTable, coreTables, Readable}
+use Rattle.sections.specs.Load.{assignments, Waits}
 use Rattle.sections.specs.Program.{inSection, afterGroup, grouped, headed, itemStep, ItemOutcome, ItemMeets, StepOutcome, StepMeets, closes, followed, programFrom}
 use Rattle.sections.proofs.Ranges.{Fits, segment-room, table-there, table-room}
 use Rattle.sections.proofs.Leads.{item-onward, item-fits}
 
 -- ---- a group: what its fields are changed by is what the code hands over
-pub assigned-same : (area : Area) (io : ℕ) (words ranks ios : List ℕ) (c : Course)
-    → assigned (record { area = area; near = c .near; all = io }) words ranks ios ≡ assignments (loadOf area io words ranks ios) c
-unfolding assigned
-assigned-same area io words ranks ios c = rw (numbers-length ios io)
+pub assigned-same : (g : Given) (l : List ℕ) (c : Course)
+    → assignedBy (record { given = g; channels = c .near }) l ≡ assignments (loadOf g l) c
+unfolding assignedBy
+assigned-same g l c = refl
 
 pub group-met : (c : Course) (same : Due) (least : ℕ) (ibank : Bank) (o : GroupOutcome) (r : GroupStep) (core : List ℕ) (it : Item)
     → Meets o r core → it ≡ afterGroup c same least ibank r → ItemMeets (grouped c same least ibank o) it core
 group-met c same least ibank o r core it m e = record { told = e ∙ ap (afterGroup c same least ibank) (m .told); left = m .left }
 
 -- a table section's table is there, so the one that the code reads is it
-module _ (area : Area) (io : ℕ) (words ranks ios : List ℕ) (c : Course) (t : TableSection) (ibank : Bank) (block core : List ℕ)
-    (w : Waits (loadOf area io words ranks ios) (Program c (SectionGroup t ibank)) block core) where
-  there : t .number .0 < length (tablesIn area words ranks)
-  there = table-there (loadOf area io words ranks ios) c t ibank (w .stage) .0
+module _ (g : Given) (l : List ℕ) (readable : Readable g l) (c : Course) (t : TableSection) (ibank : Bank) (block core : List ℕ)
+    (w : Waits (loadOf g l) (Program c (SectionGroup t ibank)) block core) where
+  there : t .number .0 < length (coreTables g l)
+  there = table-there (loadOf g l) c t ibank (w .stage) .0
 
   pub table-number : t .number .0 < 128
   table-number = omega (arith, there, w .few)
 
-  pub table-read : (r : CoreTable) → r ≡ tableAt area words ranks (t .number .0) → r ≡ getD (tablesIn area words ranks) (t .number .0) noTable
-  table-read r e = e ∙ sym (tables-at area words ranks (t .number .0) noTable (omega (arith, there, tables-length area words ranks)))
+  pub table-read : (r : CoreTable) → r ≡ coreTable g l (t .number .0) → r ≡ getD (coreTables g l) (t .number .0) noTable
+  table-read r e = e ∙ sym (core-at g l readable (t .number .0) noTable (omega (arith, there, core-length g l readable)))
 
 -- what the laws below ask of a load: its area lies in the core, its tables in the area, and its stage is in range
 pub record Stands (x : Load) (s : Stage) (core : List ℕ) : Type 0 where

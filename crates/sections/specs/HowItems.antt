@@ -2,8 +2,8 @@
 -- place of the code.
 use Prim.Native.Nat.{ℕ, _+_, _<_}
 use mathlib.Core.List.{List}
-use Rattle.word.specs.declared.Area.{Area}
-use Rattle.lists.specs.Kept.{tableAt}
+use Rattle.lists.specs.declared.Given.{Given}
+use Rattle.lists.specs.Load.{coreTable}
 use Rattle.group.specs.declared.Section.the-variants.{Segment as in-segment, Table as in-table}
 use Rattle.stage.specs.declared.Due.{Due}
 use Rattle.stage.specs.declared.Due.the-variants.{Segment, SegmentGroup, Section, SectionGroup}
@@ -11,12 +11,12 @@ use Rattle.sections.specs.declared.items.Reading.{Reading}
 use Rattle.sections.specs.declared.items.Reading.the-variants.{Segment as segment-head, Section as section-head, Group}
 
 -- a group with its section, the least number of a table section after it, and the IBANK
-unfoldable pub readingOf : Area → List ℕ → List ℕ → Due → Reading
-readingOf area words ranks Segment = segment-head
-readingOf area words ranks (SegmentGroup g) = Group (in-segment g) (record { 0 = 0 }) (g .ibank)
-readingOf area words ranks (Section least ibank) = section-head least ibank
-readingOf area words ranks (SectionGroup t ibank) =
-    Group (in-table (tableAt area words ranks (t .number .0)) (t .count)) (record { 0 = t .number .0 + 1 }) ibank
+unfoldable pub readingOf : Given → List ℕ → Due → Reading
+readingOf g l Segment = segment-head
+readingOf g l (SegmentGroup s) = Group (in-segment s) (record { 0 = 0 }) (s .ibank)
+readingOf g l (Section least ibank) = section-head least ibank
+readingOf g l (SectionGroup t ibank) =
+    Group (in-table (coreTable g l (t .number .0)) (t .count)) (record { 0 = t .number .0 + 1 }) ibank
 
 -- a table section's number is one of a table
 abbrev pub Numbered : Due → Type 0

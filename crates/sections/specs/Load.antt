@@ -1,32 +1,22 @@
--- What a load was given at open: its area and the two lists.
+-- What a load's fields are changed by, and what has been seen to before a block is read for it.
 use Prim.Native.Nat.{ℕ, _≤_, _+_}
 use mathlib.Core.Path.{_≡_}
 use mathlib.Core.Bool.{true}
 use mathlib.Core.List.{List}
 use lib.ListN.{length}
-use Rattle.word.specs.declared.Area.{Area}
 use Rattle.word.specs.Lists.{every}
 use Rattle.word.specs.Word.{isWord}
-use Rattle.lists.specs.declared.Table.{Table as CoreTable}
-use Rattle.lists.specs.Kept.{numbersIn, tablesIn}
+use Rattle.lists.specs.declared.Given.{Given}
+use Rattle.lists.specs.Load.{Load, loadOf, Readable}
 use Rattle.lists.specs.Obey.{tableInside}
 use Rattle.field.specs.Field.{Assignments}
 use Rattle.stage.specs.declared.Course.{Course}
 use Rattle.stage.specs.declared.Stage.{Stage}
 use Rattle.stage.specs.Ranges.{stageFits}
 
-pub record Load : Type 0 where
-  pub area : Area
-  pub tables : List CoreTable
-  pub ios : List ℕ
-
--- as the desk keeps it: io I/O numbers packed, the tables' kept words and ranks
-abbrev pub loadOf : Area → ℕ → List ℕ → List ℕ → List ℕ → Load
-loadOf area io words ranks ios = record { area = area; tables = tablesIn area words ranks; ios = numbersIn ios io }
-
 -- what its fields are changed by: the label's count of references of types 0 and 2 is still in the course
 abbrev pub assignments : Load → Course → Assignments
-assignments x c = record { area = x .area; tables = x .tables; ios = x .ios; near = c .near; all = length (x .ios) }
+assignments x c = record { area = x .area; tables = x .tables; ios = x .ios; channels = c .near }
 
 -- what has been seen to before a block is read for a load that waits for s
 pub record Waits (x : Load) (s : Stage) (block core : List ℕ) : Type 0 where
@@ -38,3 +28,8 @@ pub record Waits (x : Load) (s : Stage) (block core : List ℕ) : Type 0 where
   pub stage : stageFits (x .area) (x .tables) (length (x .ios)) s ≡ true
   pub long : length block ≡ 256
   pub words : every isWord block ≡ true
+
+-- the same of a load whose lists the desk keeps
+pub record KeptWaits (g : Given) (l : List ℕ) (s : Stage) (block core : List ℕ) : Type 0 where
+  pub lists : Readable g l
+  pub waits : Waits (loadOf g l) s block core

@@ -22,7 +22,8 @@ use Rattle.stage.specs.declared.Step.{Step}
 use Rattle.stage.specs.declared.Step.the-variants.{More, Refused}
 use Rattle.sections.specs.declared.Item.{Item}
 use Rattle.sections.specs.declared.Item.the-variants.{Go, Stop}
-use Rattle.sections.specs.Load.{Load, assignments}
+use Rattle.lists.specs.Load.{Load}
+use Rattle.sections.specs.Load.{assignments}
 use Rattle.sections.specs.Heads.{segmentStep, sectionStep}
 
 -- what an item leads to, and the core as its stores left it

@@ -3,9 +3,10 @@ ghost use mathlib.Core.Path.{_≡_};
 ghost use Prim.Native.Nat.{_+_, _-_, _≤_};
 ghost use lib.ListN.{length};
 ghost use Rattle.word.specs.Lists.{every};
-ghost use Rattle.lists.specs.Kept.{tablesIn};
+ghost use Rattle.lists.specs.Load.{coreTables, Readable};
 ghost use Rattle.sections.specs.Heads.{besideTable, banksFit, segmentStep, sectionStep};
 use crate::Item;
+use lists::Given;
 use program::Bank;
 use program::Segment;
 use program::SegmentRead;
@@ -13,29 +14,22 @@ use program::TableSectionRead;
 use stage::Course;
 use stage::Due;
 use stage::Step;
-use word::Area;
 use word::Fault;
 use word::Reference;
 
 // The segment section's four words at place i: 17 where they do not stay in the block, are none, or the banks do not fit.
-pub fn segment_head(
-    area: Area,
-    words: &[u64],
-    ranks: &[u64],
-    c: Course,
-    block: &[u64],
-    i: usize,
-) -> Item
-    requires { ⌜ (area .at .0 + area .size ≤ 65536) × (length (now block) ≡ 256) × (i ≤ 254) ⌝ }
-    ensures { λ r. ⌜ r ≡ segmentStep area (tablesIn area (now (words .entry)) (now (ranks .entry))) c (now (block .entry)) i ⌝ }
+pub fn segment_head(g: Given, lists: &[u64], c: Course, block: &[u64], i: usize) -> Item
+    requires { ⌜ (Readable g (now lists)) × (length (now block) ≡ 256) × (i ≤ 254) ⌝ }
+    ensures { λ r. ⌜ r ≡ segmentStep (g .area) (coreTables g (now (lists .entry))) c (now (block .entry)) i ⌝ }
 {
     if 254 < i + 3 {
         return Item::Stop(Step::Refused(Fault { number: 17 }));
     }
     match program::read_segment(block[i], block[i + 1]) {
-        SegmentRead::Good(g) => {
-            if banks_fit(area, words, ranks, g) {
-                return Item::Go(c, Due::SegmentGroup(g), i + 4);
+        SegmentRead::Good(segment) => {
+            if banks_fit(g, lists, segment) {
+                let past = i + 4;
+                return Item::Go(c, Due::SegmentGroup(segment), past);
             }
             Item::Stop(Step::Refused(Fault { number: 17 }))
         }
@@ -45,25 +39,25 @@ pub fn segment_head(
 
 // A table section's word at place i: 17 where it is none, its number does not rise, or there is no such table or one too short.
 pub fn section_head(
-    area: Area,
-    words: &[u64],
-    ranks: &[u64],
+    g: Given,
+    lists: &[u64],
     c: Course,
     least: Reference,
     ibank: Bank,
     block: &[u64],
     i: usize,
 ) -> Item
-    requires { ⌜ (area .at .0 + area .size ≤ 65536) × (length (now block) ≡ 256) × (i ≤ 254) ⌝ }
-    ensures { λ r. ⌜ r ≡ sectionStep (tablesIn area (now (words .entry)) (now (ranks .entry))) c (least .0) ibank (now (block .entry)) i ⌝ }
+    requires { ⌜ (Readable g (now lists)) × (length (now block) ≡ 256) × (i ≤ 254) ⌝ }
+    ensures { λ r. ⌜ r ≡ sectionStep (coreTables g (now (lists .entry))) c (least .0) ibank (now (block .entry)) i ⌝ }
 {
     match program::read_table_section(block[i]) {
         TableSectionRead::Good(t) => {
             if t.number.0 < least.0 {
                 return Item::Stop(Step::Refused(Fault { number: 17 }));
             }
-            if stage::count_fits(area, words, ranks, t) {
-                return Item::Go(one_fewer(c), Due::SectionGroup(t, ibank), i + 1);
+            if stage::count_fits(g, lists, t) {
+                let past = i + 1;
+                return Item::Go(one_fewer(c), Due::SectionGroup(t, ibank), past);
             }
             Item::Stop(Step::Refused(Fault { number: 17 }))
         }
@@ -85,12 +79,13 @@ fn one_fewer(c: Course) -> Course
 }
 
 // Whether the banks lie in the area and share no word with each other or a table.
-fn banks_fit(area: Area, words: &[u64], ranks: &[u64], g: Segment) -> bool
-    requires { ⌜ area .at .0 + area .size ≤ 65536 ⌝ }
-    ensures { λ r. ⌜ r ≡ banksFit area (tablesIn area (now (words .entry)) (now (ranks .entry))) g ⌝ }
+fn banks_fit(g: Given, lists: &[u64], segment: Segment) -> bool
+    requires { ⌜ Readable g (now lists) ⌝ }
+    ensures { λ r. ⌜ r ≡ banksFit (g .area) (coreTables g (now (lists .entry))) segment ⌝ }
 {
-    let i = g.ibank;
-    let d = g.dbank;
+    let area = g.area;
+    let i = segment.ibank;
+    let d = segment.dbank;
     if !stage::bank_fits(area, i) {
         return false;
     }
@@ -100,21 +95,23 @@ fn banks_fit(area: Area, words: &[u64], ranks: &[u64], g: Segment) -> bool
     if !word::runs_apart(i.at.0, i.count, d.at.0, d.count) {
         return false;
     }
-    if !bank_beside_tables(area, words, ranks, i) {
+    if !bank_beside_tables(g, lists, i) {
         return false;
     }
-    bank_beside_tables(area, words, ranks, d)
+    bank_beside_tables(g, lists, d)
 }
 
 // Whether a bank in the area shares no word with a table.
-fn bank_beside_tables(area: Area, words: &[u64], ranks: &[u64], bank: Bank) -> bool
-    requires { ⌜ (area .at .0 + area .size ≤ 65536) × (bank .at .0 ≤ area .size) ⌝ }
-    ensures { λ r. ⌜ r ≡ every (besideTable area bank) (tablesIn area (now (words .entry)) (now (ranks .entry))) ⌝ }
+fn bank_beside_tables(g: Given, lists: &[u64], bank: Bank) -> bool
+    requires { ⌜ (Readable g (now lists)) × (bank .at .0 ≤ g .area .size) ⌝ }
+    ensures { λ r. ⌜ r ≡ every (besideTable (g .area) bank) (coreTables g (now (lists .entry))) ⌝ }
 {
+    let area = g.area;
+    let tables = g.tables;
     let at = word::placed(area, bank.at);
-    let mut k: usize = 0;
-    while k < ranks.len() {
-        let t = lists::table_at(words, ranks, area, Reference(k as u64));
+    let mut k: u64 = 0;
+    while k < tables {
+        let t = lists::load::core_table(g, lists, Reference(k));
         if !word::runs_apart(at.0, bank.count, t.at.0, t.len) {
             return false;
         }

@@ -1,20 +1,21 @@
 // A program block, item after item: what is due at a place says how the word there is read.
 ghost use mathlib.Core.Path.{_≡_};
 ghost use Prim.Native.Nat.{_+_, _≤_};
-ghost use Rattle.sections.specs.Load.{loadOf, Waits};
+ghost use Rattle.lists.specs.Load.{loadOf, Readable};
+ghost use Rattle.sections.specs.Load.{KeptWaits};
 ghost use Rattle.sections.specs.HowItems.{Numbered, readingOf};
 ghost use Rattle.sections.specs.Program.{afterLast, afterGroup, itemStep, programStep, ItemMeets, StepMeets};
 use crate::Item;
 use crate::heads;
-use field::Setting;
+use field::Assigned;
 use group::GroupStep;
 use group::Section;
+use lists::Given;
 use program::Bank;
 use stage::Course;
 use stage::Due;
 use stage::Stage;
 use stage::Step;
-use word::Area;
 use word::Reference;
 
 // How the word at a place is read: as a section's head, or as the identifier of a group, with its section, the least number of a
@@ -28,38 +29,25 @@ enum Reading {
 // A program block for a load of course c where due is due, into the core. The lent block is copied first (01, "blocks of 256 words
 // built with repeat arrays").
 pub fn program_step(
-    area: Area,
-    io: u64,
-    words: &[u64],
-    ranks: &[u64],
-    ios: &[u64],
+    g: Given,
+    lists: &[u64],
     c: Course,
     due: Due,
     block: &[u64],
     core: &mut [u64],
 ) -> Step
-    requires { ⌜ Waits (loadOf area io (now words) (now ranks) (now ios)) (Stage.Program c due) (now block) (now core) ⌝ }
-    ensures { λ r. ⌜ StepMeets (programStep (loadOf area io (now (words .entry)) (now (ranks .entry)) (now (ios .entry))) c due (now (block .entry)) (now (core .entry))) r (now (core .exit)) ⌝ }
+    requires { ⌜ KeptWaits g (now lists) (Stage.Program c due) (now block) (now core) ⌝ }
+    ensures { λ r. ⌜ StepMeets (programStep (loadOf g (now (lists .entry))) c due (now (block .entry)) (now (core .entry))) r (now (core .exit)) ⌝ }
 {
     let mut b = [0u64; 256];
     word::slices::copy_in(&mut b, 0, block);
-    walk_items(area, io, words, ranks, ios, c, due, &b, core)
+    walk_items(g, lists, c, due, &b, core)
 }
 
 // Item after item, from word 1 on.
-fn walk_items(
-    area: Area,
-    io: u64,
-    words: &[u64],
-    ranks: &[u64],
-    ios: &[u64],
-    c: Course,
-    due: Due,
-    block: &[u64],
-    core: &mut [u64],
-) -> Step
-    requires { ⌜ Waits (loadOf area io (now words) (now ranks) (now ios)) (Stage.Program c due) (now block) (now core) ⌝ }
-    ensures { λ r. ⌜ StepMeets (programStep (loadOf area io (now (words .entry)) (now (ranks .entry)) (now (ios .entry))) c due (now (block .entry)) (now (core .entry))) r (now (core .exit)) ⌝ }
+fn walk_items(g: Given, lists: &[u64], c: Course, due: Due, block: &[u64], core: &mut [u64]) -> Step
+    requires { ⌜ KeptWaits g (now lists) (Stage.Program c due) (now block) (now core) ⌝ }
+    ensures { λ r. ⌜ StepMeets (programStep (loadOf g (now (lists .entry))) c due (now (block .entry)) (now (core .entry))) r (now (core .exit)) ⌝ }
 {
     let mut course = c;
     let mut next = due;
@@ -68,7 +56,7 @@ fn walk_items(
         if block[i] == 0 {
             return Step::More(Stage::Program(course, next));
         }
-        match item_step(area, io, words, ranks, ios, course, next, block, i, core) {
+        match item_step(g, lists, course, next, block, i, core) {
             Item::Go(d, t, p) => {
                 course = d;
                 next = t;
@@ -85,53 +73,47 @@ fn walk_items(
 // What stands at place i, where due is due. Groups of either section are read here, at one place, so that the compiler makes their
 // code once and for this place.
 fn item_step(
-    area: Area,
-    io: u64,
-    words: &[u64],
-    ranks: &[u64],
-    ios: &[u64],
+    g: Given,
+    lists: &[u64],
     c: Course,
     due: Due,
     block: &[u64],
     i: usize,
     core: &mut [u64],
 ) -> Item
-    requires { ⌜ (Waits (loadOf area io (now words) (now ranks) (now ios)) (Stage.Program c due) (now block) (now core)) × (i ≤ 254) ⌝ }
-    ensures { λ r. ⌜ ItemMeets (itemStep (loadOf area io (now (words .entry)) (now (ranks .entry)) (now (ios .entry))) c due (now (block .entry)) i (now (core .entry))) r (now (core .exit)) ⌝ }
+    requires { ⌜ (KeptWaits g (now lists) (Stage.Program c due) (now block) (now core)) × (i ≤ 254) ⌝ }
+    ensures { λ r. ⌜ ItemMeets (itemStep (loadOf g (now (lists .entry))) c due (now (block .entry)) i (now (core .entry))) r (now (core .exit)) ⌝ }
 {
-    match reading_of(area, words, ranks, due) {
-        Reading::Segment => heads::segment_head(area, words, ranks, c, block, i),
-        Reading::Section(t, b) => heads::section_head(area, words, ranks, c, t, b, block, i),
+    match reading_of(g, lists, due) {
+        Reading::Segment => heads::segment_head(g, lists, c, block, i),
+        Reading::Section(t, b) => heads::section_head(g, lists, c, t, b, block, i),
         Reading::Group(section, least, ibank) => {
-            let near = c.near;
-            let set = Setting {
-                area,
-                near,
-                all: io,
-            };
-            let r = group::group_step(set, section, words, ranks, ios, block, i, core);
+            let channels = c.near;
+            let set = Assigned { given: g, channels };
+            let r = group::group_step(set, section, lists, block, i, core);
             after_group(c, due, least, ibank, r)
         }
     }
 }
 
 // How the word is read where due is due.
-fn reading_of(area: Area, words: &[u64], ranks: &[u64], due: Due) -> Reading
-    requires { ⌜ (area .at .0 + area .size ≤ 65536) × (Numbered due) ⌝ }
-    ensures { λ r. ⌜ r ≡ readingOf area (now (words .entry)) (now (ranks .entry)) due ⌝ }
+fn reading_of(g: Given, lists: &[u64], due: Due) -> Reading
+    requires { ⌜ (Readable g (now lists)) × (Numbered due) ⌝ }
+    ensures { λ r. ⌜ r ≡ readingOf g (now (lists .entry)) due ⌝ }
 {
     match due {
         Due::Segment => Reading::Segment,
-        Due::SegmentGroup(g) => {
-            let ibank = g.ibank;
-            Reading::Group(Section::Segment(g), Reference(0), ibank)
+        Due::SegmentGroup(segment) => {
+            let ibank = segment.ibank;
+            Reading::Group(Section::Segment(segment), Reference(0), ibank)
         }
         Due::Section(t, ibank) => Reading::Section(t, ibank),
         Due::SectionGroup(t, ibank) => {
             let number = t.number;
             let count = t.count;
-            let table = lists::table_at(words, ranks, area, number);
-            Reading::Group(Section::Table(table, count), Reference(number.0 + 1), ibank)
+            let table = lists::load::core_table(g, lists, number);
+            let above = number.0 + 1;
+            Reading::Group(Section::Table(table, count), Reference(above), ibank)
         }
     }
 }

@@ -12,31 +12,31 @@ use Rattle.word.specs.Lists.{every}
 use Rattle.word.specs.Runs.{apart}
 use Rattle.word.specs.Sorts.{absoluteOf}
 use Rattle.word.specs.declared.Absolute.{Absolute}
-use Rattle.word.specs.declared.Area.{Area}
 use Rattle.word.proofs.Lists.{every-more, every-fails, every-ends}
 use Rattle.lists.specs.declared.Table.{Table}
-use Rattle.lists.specs.Kept.{tableAt, tablesIn}
+use Rattle.lists.specs.declared.Given.{Given}
+use Rattle.lists.specs.Load.{coreTable, coreTables, Readable}
 use Rattle.program.specs.declared.Bank.{Bank}
 use Rattle.lists.specs.Obey.{noTable}
-use Rattle.lists.proofs.Kept.{tables-length, tables-at}
+use Rattle.lists.proofs.Reading.{core-length, core-at}
 use Rattle.sections.specs.Heads.{besideTable}
 use Rattle.sections.proofs.heads.bank_beside_tables.Statement.{statement}
 use Rattle.sections.proofs.heads.bank_beside_tables.Tie as tie
 
 -- the table that the code reads, held against the bank at its place in core
-beside-here : (area : Area) (bank : Bank) (words ranks : List ℕ) (k : ℕ) (at : Absolute) (t : Table) (b v : Bool) → k < length ranks
-    → at ≡ absoluteOf area (bank .at) → t ≡ tableAt area words ranks k → b ≡ apart (at .0) (bank .count) (t .at .0) (t .len) → b ≡ v
-    → besideTable area bank (getD (tablesIn area words ranks) k noTable) ≡ v
+beside-here : (g : Given) (l : List ℕ) → Readable g l → (bank : Bank) (k : ℕ) (at : Absolute) (t : Table) (b v : Bool) → k < g .tables
+    → at ≡ absoluteOf (g .area) (bank .at) → t ≡ coreTable g l k → b ≡ apart (at .0) (bank .count) (t .at .0) (t .len) → b ≡ v
+    → besideTable (g .area) bank (getD (coreTables g l) k noTable) ≡ v
 unfolding besideTable
-beside-here area bank words ranks k at t b v h p q e f = rw (tables-at area words ranks k noTable h ∙ sym q) (rw p at (sym e ∙ f))
+beside-here g l r bank k at t b v h p q e f = rw (core-at g l r k noTable h ∙ sym q) (rw p at (sym e ∙ f))
 
 abbrev Inv-loop : tie.InvT-loop
-Inv-loop area words ranks bank at k₀ k =
-    (k ≤ length ranks)
-    × (every (besideTable area bank) (tablesIn area words ranks) ≡ every (besideTable area bank) (drop k (tablesIn area words ranks)))
+Inv-loop g lists bank tables at k₀ k =
+    (k ≤ g .tables)
+    × (every (besideTable (g .area) bank) (coreTables g lists) ≡ every (besideTable (g .area) bank) (drop k (coreTables g lists)))
 
 abbrev μ-loop : tie.MeasureT-loop
-μ-loop area words ranks bank at k₀ k = length ranks - k
+μ-loop g lists bank tables at k₀ k = g .tables - k
 
 placed-requires : tie.Need-placed-requires Inv-loop μ-loop
 placed-requires c κs = omega arith
@@ -44,8 +44,8 @@ placed-requires c κs = omega arith
 loop-holds : tie.Need-loop-holds Inv-loop μ-loop
 loop-holds c = (omega arith, refl)
 
-table-at-requires : tie.Need-table-at-requires Inv-loop μ-loop
-table-at-requires c κs = omega arith
+core-table-requires : tie.Need-core-table-requires Inv-loop μ-loop
+core-table-requires c κs = search needs
 
 runs-apart-requires : tie.Need-runs-apart-requires Inv-loop μ-loop
 runs-apart-requires c κs = search needs
@@ -53,10 +53,11 @@ runs-apart-requires c κs = search needs
 returns : tie.Need-returns Inv-loop μ-loop
 returns c = let b = c .before .before in
     let l = b .before .before .loop in
-    let a = b .before .before .before .before .before .before .args in
-    let n = tables-length (a .area) (now (a .words)) (now (a .ranks)) in
-    every-fails (besideTable (a .area) (a .bank)) noTable (tablesIn (a .area) (now (a .words)) (now (a .ranks))) (l .k) _ (omega arith)
-    (beside-here _ _ _ _ _ _ _ _ _ (b .before .loop-test .taken) (b .before .before .before .placed .ensures) (b .table-at .ensures) (c .before .runs-apart .ensures) (not-true _ (c .if1 .taken))) (l .inv .1)
+    let z = b .before .before .before .before .before .before in
+    let a = z .args in
+    let n = core-length (a .g) (now (a .lists)) (z .pre .0) in
+    every-fails (besideTable (a .g .area) (a .bank)) noTable (coreTables (a .g) (now (a .lists))) (l .k) _ (omega arith)
+    (beside-here _ _ (z .pre .0) _ _ _ _ _ _ (b .before .loop-test .taken) (b .before .before .before .placed .ensures) (b .core-table .ensures) (c .before .runs-apart .ensures) (not-true _ (c .if1 .taken))) (l .inv .1)
 
 add-k : tie.Need-add-k Inv-loop μ-loop
 add-k c = omega arith
@@ -67,18 +68,20 @@ loop-less c = omega arith
 loop-again : tie.Need-loop-again Inv-loop μ-loop
 loop-again c = let b = c .before .before in
     let l = b .before .before .loop in
-    let a = b .before .before .before .before .before .before .args in
-    let n = tables-length (a .area) (now (a .words)) (now (a .ranks)) in (
+    let z = b .before .before .before .before .before .before in
+    let a = z .args in
+    let n = core-length (a .g) (now (a .lists)) (z .pre .0) in (
       omega arith,
-      every-more (besideTable (a .area) (a .bank)) noTable (tablesIn (a .area) (now (a .words)) (now (a .ranks))) (l .k) _ (omega arith)
-          (beside-here _ _ _ _ _ _ _ _ _ (b .before .loop-test .taken) (b .before .before .before .placed .ensures) (b .table-at .ensures) (c .before .runs-apart .ensures) (not-false _ (c .if1 .left))) (l .inv .1),
+      every-more (besideTable (a .g .area) (a .bank)) noTable (coreTables (a .g) (now (a .lists))) (l .k) _ (omega arith)
+          (beside-here _ _ (z .pre .0) _ _ _ _ _ _ (b .before .loop-test .taken) (b .before .before .before .placed .ensures) (b .core-table .ensures) (c .before .runs-apart .ensures) (not-false _ (c .if1 .left))) (l .inv .1),
     )
 
 returns-2 : tie.Need-returns-2 Inv-loop μ-loop
 returns-2 c = let l = c .before .loop in
-    let a = c .before .before .before .before .before .args in
-    let n = tables-length (a .area) (now (a .words)) (now (a .ranks)) in
-    every-ends (besideTable (a .area) (a .bank)) noTable (tablesIn (a .area) (now (a .words)) (now (a .ranks))) (l .k) _ (omega arith) (l .inv .1)
+    let z = c .before .before .before .before .before in
+    let a = z .args in
+    let n = core-length (a .g) (now (a .lists)) (z .pre .0) in
+    every-ends (besideTable (a .g .area) (a .bank)) noTable (coreTables (a .g) (now (a .lists))) (l .k) _ (omega arith) (l .inv .1)
 
 pub bank-beside-tables-spec : {M : Type 1} → statement M
 bank-beside-tables-spec =
@@ -88,7 +91,7 @@ bank-beside-tables-spec =
     μ-loop
     placed-requires
     loop-holds
-    table-at-requires
+    core-table-requires
     runs-apart-requires
     returns
     add-k

@@ -29,8 +29,8 @@ count-fits-requires c κs = search needs
 one-fewer-requires : tie.Need-one-fewer-requires
 one-fewer-requires c κs = search needs
 
-add-t22 : tie.Need-add-t22
-add-t22 c = search needs
+add-past : tie.Need-add-past
+add-past c = search needs
 
 returns-2 : tie.Need-returns-2
 unfolding sectionStep withSection
@@ -61,8 +61,8 @@ section-head-spec =
     enum-known-t
     returns
     count-fits-requires
+    add-past
     one-fewer-requires
-    add-t22
     returns-2
     enum-known-f
     returns-3

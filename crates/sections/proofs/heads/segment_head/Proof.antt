@@ -31,19 +31,19 @@ shared-slice-read-read-segment-2 c = search needs
 read-segment-requires : tie.Need-read-segment-requires
 read-segment-requires c κs = search needs
 
-enum-known-g : tie.Need-enum-known-g
-enum-known-g c = search needs
+enum-known-segment : tie.Need-enum-known-segment
+enum-known-segment c = search needs
 
 banks-fit-requires : tie.Need-banks-fit-requires
 banks-fit-requires c κs = search needs
 
-add-t23 : tie.Need-add-t23
-add-t23 c = search needs
+add-past : tie.Need-add-past
+add-past c = search needs
 
 returns-2 : tie.Need-returns-2
 unfolding segmentStep withSegment
 returns-2 c = let m = c .before .before .before in
-    rw (le-leb _ _ (m .before .before .before .before .before .if1 .left), ← m .before .before .read-segment .ensures, m .g .given .1, ← c .before .banks-fit .ensures, c .if2 .taken)
+    rw (le-leb _ _ (m .before .before .before .before .before .if1 .left), ← m .before .before .read-segment .ensures, m .segment .given .1, ← c .before .banks-fit .ensures, c .if2 .taken)
 
 enum-known-f : tie.Need-enum-known-f
 enum-known-f c = search needs
@@ -51,7 +51,7 @@ enum-known-f c = search needs
 returns-3 : tie.Need-returns-3
 unfolding segmentStep withSegment
 returns-3 c = let m = c .before .before .before in
-    rw (le-leb _ _ (m .before .before .before .before .before .if1 .left), ← m .before .before .read-segment .ensures, m .g .given .1, ← c .before .banks-fit .ensures, c .if2 .left)
+    rw (le-leb _ _ (m .before .before .before .before .before .if1 .left), ← m .before .before .read-segment .ensures, m .segment .given .1, ← c .before .banks-fit .ensures, c .if2 .left)
 
 returns-4 : tie.Need-returns-4
 unfolding segmentStep withSegment
@@ -70,9 +70,9 @@ segment-head-spec =
     mul-read-segment-2
     shared-slice-read-read-segment-2
     read-segment-requires
-    enum-known-g
+    enum-known-segment
     banks-fit-requires
-    add-t23
+    add-past
     returns-2
     enum-known-f
     returns-3

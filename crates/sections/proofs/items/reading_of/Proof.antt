@@ -17,11 +17,11 @@ enum-known-due-2 c = search needs
 enum-known-due-3 : tie.Need-enum-known-due-3
 enum-known-due-3 c = search needs
 
-table-at-requires : tie.Need-table-at-requires
-table-at-requires c κs = search needs
+core-table-requires : tie.Need-core-table-requires
+core-table-requires c κs = search needs
 
-add-t18 : tie.Need-add-t18
-add-t18 c = let b = rw (c .before .before .before .before .due3 .given .1) at (c .before .before .before .before .before .before .before .before .pre .1) in
+add-above : tie.Need-add-above
+add-above c = let b = rw (c .before .before .before .before .due3 .given .1) at (c .before .before .before .before .before .before .before .pre .1) in
     omega arith
 
 returns : tie.Need-returns
@@ -38,7 +38,7 @@ returns-3 c = rw (c .before .due2 .given .1)
 
 returns-4 : tie.Need-returns-4
 unfolding readingOf
-returns-4 c = rw (c .before .before .before .before .due3 .given .1, c .before .table-at .ensures)
+returns-4 c = rw (c .before .before .before .before .due3 .given .1, c .before .core-table .ensures)
 
 pub reading-of-spec : {M : Type 1} → statement M
 reading-of-spec =
@@ -48,8 +48,8 @@ reading-of-spec =
     enum-known-due
     enum-known-due-2
     enum-known-due-3
-    table-at-requires
-    add-t18
+    core-table-requires
+    add-above
     returns
     returns-2
     returns-3

@@ -5,23 +5,24 @@ use native.Mathlib.Omega.{arith}
 use lib.ListN.{length}
 use borrow.Author.Needs.{needs}
 use Rattle.stage.specs.declared.Stage.the-variants.{Program}
-use Rattle.sections.specs.Load.{loadOf, Waits}
+use Rattle.lists.specs.Load.{loadOf}
+use Rattle.sections.specs.Load.{Waits}
 use Rattle.sections.specs.Program.{programFrom, programStep}
 use Rattle.sections.proofs.Turns.{turn-zero, turn-end, turn-on, turn-stop, turn-waits, turn-length}
 use Rattle.sections.proofs.items.walk_items.Statement.{statement}
 use Rattle.sections.proofs.items.walk_items.Tie as tie
 
 abbrev Inv-loop : tie.InvT-loop
-Inv-loop area io words ranks ios block core₀ course₀ next₀ i₀ core course next i =
-    (i ≤ 255) × (length core ≡ length core₀) × (Waits (loadOf area io words ranks ios) (Program course next) block core)
-    × (programStep (loadOf area io words ranks ios) course₀ next₀ block core₀ ≡ programFrom (255 - i) (loadOf area io words ranks ios) course next block i core)
+Inv-loop g lists block core₀ course₀ next₀ i₀ core course next i =
+    (i ≤ 255) × (length core ≡ length core₀) × (Waits (loadOf g lists) (Program course next) block core)
+    × (programStep (loadOf g lists) course₀ next₀ block core₀ ≡ programFrom (255 - i) (loadOf g lists) course next block i core)
 
 abbrev μ-loop : tie.MeasureT-loop
-μ-loop area io words ranks ios block core₀ course₀ next₀ i₀ core course next i = 255 - i
+μ-loop g lists block core₀ course₀ next₀ i₀ core course next i = 255 - i
 
 loop-holds : tie.Need-loop-holds Inv-loop μ-loop
 unfolding programStep
-loop-holds c = (omega arith, refl, c .before .before .before .before .before .pre, refl)
+loop-holds c = (omega arith, refl, c .before .before .before .pre .waits, refl)
 
 mul-if1 : tie.Need-mul-if1 Inv-loop μ-loop
 mul-if1 c = omega arith
@@ -37,7 +38,9 @@ returns c = let l = c .before .before .before .loop in
     turn-zero _ _ (l .course) (l .next) (l .i) (l .core) _ (c .before .before .loop-test .taken) (c .if1 .taken) (l .inv .3)
 
 item-step-requires : tie.Need-item-step-requires Inv-loop μ-loop
-item-step-requires c κs = let l = c .before .before .before .before .loop in (l .inv .2, omega arith)
+item-step-requires c κs = let l = c .before .before .before .before .loop in
+    let z = c .before .before .before .before .before .before .before .before in
+    (record { lists = z .pre .lists; waits = l .inv .2 }, omega arith)
 
 enum-known-d : tie.Need-enum-known-d Inv-loop μ-loop
 enum-known-d c = search needs
