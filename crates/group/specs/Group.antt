@@ -89,7 +89,8 @@ inOneBlock i g = leb (i + g .words) 254
 abbrev pub holdsProgram : Group → Bool
 holdsProgram g = leb (g .program) (g .words)
 
--- "the words must lie in that bank, or in the table section's count"; "bit 16 zero for the IBANK and set for the DBANK or a table section"
+-- "the words must lie in that bank, or in the table section's count"; "bit 16 zero for the IBANK and set for the DBANK or a table
+-- section"
 abbrev pub liesIn : Bank → Group → Bool
 liesIn bank g = within (g .at .0) (g .program) (bank .at .0) (bank .count)
 
@@ -120,8 +121,9 @@ unfoldable pub addressOf : Area → Section → Group → Absolute
 addressOf area (InSegment segment) g = absoluteOf area (g .at)
 addressOf area (InTable t count) g = fromTable (t .at) (g .at)
 
--- a refused group leaves zeros in the words that it goes to, if these lie where they must, and nothing else is changed. The whole area is
--- set to zero at such a refusal (01, "Refusal numbers"); here zeros are said, so that the code is free to store before all is read.
+-- a refused group leaves zeros in the words that it goes to, if these lie where they must, and nothing else is changed. The whole
+-- area is set to zero at such a refusal (01, "Refusal numbers"); here zeros are said, so that the code is free to store before all is
+-- read.
 unfoldable pub refusedGroup : Area → Section → Group → List ℕ → Fault → Outcome
 refusedGroup area section g core f =
     record { answer = Refused f; core = cond (wordsLie section g) (cleared core (addressOf area section g .0) (g .program)) core }

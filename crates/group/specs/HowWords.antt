@@ -49,10 +49,12 @@ nextStep a given c k out =
 abbrev pub pastTwo : Cursor → Cursor
 pastTwo c = record { at = c .at + 2; ahead = c .ahead * 2 ^ 2 % 2 ^ 64; words = c .words; edge = c .edge }
 
--- where the next two bits are 0: many words at once, or the one (`unchanged-next`, proofs/Steps.antt: it is what `nextStep` says)
+-- where the next two bits are 0: many words at once, or the one (`unchanged-next`, proofs/Loop.antt: it is what `nextStep` says)
 unfoldable pub unchangedStep : Cursor → ℕ → ℕ → NextWord
 unchangedStep c k n =
-    cond (eqb (plainWords c (n - k)) 0) (At (pastTwo c) (k + 1)) (At (pastPlain c (plainWords c (n - k))) (k + plainWords c (n - k)))
+    cond (eqb (plainWords c (n - k)) 0)
+    (At (pastTwo c) (k + 1))
+    (At (pastPlain c (plainWords c (n - k))) (k + plainWords c (n - k)))
 
 -- what is known before: word number k has not been reached, and stands in the core as it was given
 pub record NextReady (g : Given) (l given : List ℕ) (c : Cursor) (k : ℕ) (out : List ℕ) : Type 0 where

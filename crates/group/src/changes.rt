@@ -1,6 +1,6 @@
-// The program words of a group, changed word after word. They are read from the block and stored into the core, where all of them are
-// copied first: a group without any change is seen at a glance, words without change are passed many at once, and the commonest
-// change has a way of its own.
+// The program words of a group, changed word after word. They are read from the block and stored into the core, where all are copied
+// first: a group without any change is seen at a glance, words without change are passed many at once, and the commonest change has a
+// way of its own.
 ghost use mathlib.Core.Path.{_≡_};
 ghost use Prim.Native.Nat.{_+_, _-_, _*_, _<_, _≤_, _^_};
 ghost use lib.ListN.{length};

@@ -1,5 +1,6 @@
-// One group of a program block: its program words are copied into the lent core, and stored anew where they change, each one's left and
-// right half in order, while the indicators are counted. 18 comes before a refusal of a field: where a field is refused, the count decides which.
+// One group of a program block: its program words are copied into the lent core, and stored anew where they change, each one's left
+// and right half in order, while the indicators are counted. 18 comes before a refusal of a field: where a field is refused, the count
+// decides which.
 mod changes;
 mod halves;
 

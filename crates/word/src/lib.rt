@@ -66,7 +66,7 @@ pub fn from_table(at: Absolute, r: Relative) -> Absolute
     Absolute(at.0 + r.0)
 }
 
-// The word whose right field, a relative address, is made absolute by the area's address: one sum, where the field does not overflow.
+// The word whose right field, a relative address, is made absolute by the area's address: one sum, as the field does not overflow.
 pub fn move_right(area: Area, w: u64) -> u64
     requires { ⌜ (w < 2 ^ 36) × (area .at .0 + w % 65536 < 65536) ⌝ }
     ensures { λ r. ⌜ r ≡ rightMoved area w ⌝ }
