@@ -1,6 +1,6 @@
--- "Feed takes room, place and one block." Refusals 1, 2, 4, 9, 10, 11 and 12 in that order, which change nothing; then 13 to 22, which "set the
--- whole area to zero and mark the load broken". "An accepted block answers *more*, and the termination block answers *done* with the
--- absolute start."
+-- "Feed takes room, place and one block." Refusals 1, 2, 4, 9, 10, 11 and 12 in that order, which change nothing; then 13 to 22, which
+-- "set the whole area to zero and mark the load broken". "An accepted block answers *more*, and the termination block answers *done*
+-- with the absolute start."
 use Prim.Native.Nat.{ℕ, _+_, _≤_}
 use mathlib.Core.Bool.{cond}
 use mathlib.Core.List.{List}
@@ -51,10 +51,10 @@ settledOf d core p area (step-more s) after = record { answer = More; desk = sta
 settledOf d core p area (step-done a) after = record { answer = Done a; desk = staged d p Complete; core = after }
 settledOf d core p area (step-refused f) after = record { answer = Refused f; desk = staged d p Broken; core = wiped area core }
 
--- from refusal 13 on: the load at place p was given x and waits for s
 abbrev pub settledBy : List ℕ → List ℕ → ℕ → Area → StepOutcome → Outcome
 settledBy d core p area o = settledOf d core p area (o .step) (o .core)
 
+-- from refusal 13 on: the load at place p was given x and waits for s
 unfoldable pub takenOf : List ℕ → List ℕ → ℕ → Load → Stage → List ℕ → Outcome
 takenOf d core p x s block = settledBy d core p (x .area) (blockStep x s block core)
 

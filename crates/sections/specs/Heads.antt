@@ -1,4 +1,5 @@
--- The words that head a section: the segment's four, and a table section's one. "All other words, and a number with no table, are 17."
+-- The words that head a section: the segment's four, and a table section's one. "All other words, and a number with no table, are
+-- 17."
 use Prim.Native.Nat.{ℕ, _+_, _-_}
 use mathlib.Core.Bool.{Bool, cond, _&&_}
 use mathlib.Core.List.{List}
@@ -55,8 +56,8 @@ segmentStep area ts c block i =
 
 -- ---- a table section
 
--- "a count from 1 to the assigned length, .. the table's number, rising from section to section": at least `least`. One section fewer is
--- then to come.
+-- "a count from 1 to the assigned length, .. the table's number, rising from section to section": at least `least`. One section fewer
+-- is then to come.
 unfoldable pub withSection : List CoreTable → Course → ℕ → Bank → ℕ → TableSectionRead → Item
 withSection ts c least ibank p (section-read t) =
     cond (leb least (t .number .0))

@@ -1,5 +1,5 @@
--- How the code goes, not a rule of 01: it asks first how the word at a place is read, so that groups of either section are read at one
--- place of the code.
+-- How the code goes, not a rule of 01: it asks first how the word at a place is read, so that groups of either section are read at
+-- one place of the code.
 use Prim.Native.Nat.{ℕ, _+_, _<_}
 use mathlib.Core.List.{List}
 use Rattle.lists.specs.declared.Given.{Given}

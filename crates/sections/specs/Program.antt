@@ -1,5 +1,5 @@
--- A program block, from place 1 on: "where an identifier's first word is due, a zero word or the end at word 254 closes the block. A section
--- runs on through as many blocks as it needs."
+-- A program block, from place 1 on: "where an identifier's first word is due, a zero word or the end at word 254 closes the block. A
+-- section runs on through as many blocks as it needs."
 use Prim.Native.Nat.{ℕ, zero, suc, _+_}
 use mathlib.Core.Path.{_≡_}
 use mathlib.Core.Bool.{Bool, cond, _||_}
@@ -37,8 +37,8 @@ pub record ItemMeets (o : ItemOutcome) (item : Item) (core : List ℕ) : Type 0 
 
 -- ---- after a group, at place p
 
--- of the section's last one: "After the last section's last group the rest of the block is disregarded and the termination block is due."
--- Else the word of a table section is due, its number at least `least`.
+-- of the section's last one: "After the last section's last group the rest of the block is disregarded and the termination block is
+-- due." Else the word of a table section is due, its number at least `least`.
 unfoldable pub afterLast : Course → ℕ → Bank → ℕ → Item
 afterLast c least ibank p =
     cond (eqb (c .sections) 0) (Stop (More (Termination ibank))) (Go c (Section (record { 0 = least }) ibank) p)
@@ -65,7 +65,7 @@ inSection x t = in-table (getD (x .tables) (t .number .0) noTable) (t .count)
 unfoldable pub itemStep : Load → Course → Due → List ℕ → ℕ → List ℕ → ItemOutcome
 -- "Segment section, first and once, four words"
 itemStep x c Segment block i core = headed (segmentStep (x .area) (x .tables) c block i) core
--- "Group addresses count from the Program Name": a group of the segment section; the table section after its last may have any number
+-- "Group addresses count from the Program Name": a group of the segment section; the table section after its last has any number
 itemStep x c (SegmentGroup g) block i core =
     grouped c (SegmentGroup g) 0 (g .ibank) (groupStep (assignments x c) (in-segment g) block i core)
 -- "Table section, one word"
@@ -97,7 +97,8 @@ programFrom zero x c due block i core = record { step = More (Program c due); co
 programFrom (suc n) x c due block i core =
     cond (closes block i)
     (record { step = More (Program c due); core = core })
-    (followed (itemStep x c due block i core .item) (itemStep x c due block i core .core) (λ d next p after. programFrom n x d next block p after))
+    (followed (itemStep x c due block i core .item) (itemStep x c due block i core .core)
+    (λ d next p after. programFrom n x d next block p after))
 
 -- each item takes a word or more, so 254 are all there can be
 unfoldable pub programStep : Load → Course → Due → List ℕ → List ℕ → StepOutcome

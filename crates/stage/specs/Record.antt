@@ -1,5 +1,5 @@
--- Which record a load waits for: "Order: one label, modification blocks, program blocks, one termination block." A load that is complete
--- or broken waits for none; it meets refusal 10 before its record is asked for.
+-- Which record a load waits for: "Order: one label, modification blocks, program blocks, one termination block." A load that is
+-- complete or broken waits for none; it meets refusal 10 before its record is asked for.
 use mathlib.Core.Bool.{Bool, true, false}
 use Rattle.block.specs.declared.Record.{Record}
 use Rattle.block.specs.declared.Record.the-variants.{Label as label-record, Modification, Program as program-record, Termination as termination-record}
