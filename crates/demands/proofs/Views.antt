@@ -16,8 +16,7 @@ use Rattle.word.proofs.Lists.{length-range, length-range-min, length-range-most
 use Rattle.word.proofs.Stretch.{Beside}
 use Rattle.stage.specs.declared.Stage.{Stage}
 use Rattle.stage.specs.Stage.{numbersOf}
-use Rattle.stage.proofs.Back.{stage-length}
-use Rattle.stage.proofs.Back.{stage-back}
+use Rattle.stage.proofs.Back.{stage-length, stage-back}
 use Rattle.layout.specs.declared.Place.{Place}
 use Rattle.layout.specs.Layout.{base, placeIn, holderOf, ownOf, stageIn, iosIn, wordsIn, ranksIn}
 use Rattle.layout.proofs.Places.{place-length, written-length, place-written, place-kept}
