@@ -13,7 +13,7 @@ use Rattle.word.specs.Lists.{range, splice}
 use Rattle.word.specs.Limits.{placeCount}
 use Rattle.word.proofs.Cases.{and-left, and-right, by-eq, by-lt}
 use Rattle.word.proofs.Lists.{length-range, getD-range, length-splice, range-splice-before, range-splice-after, range-splice-inner, getD-splice-in, getD-splice-out, length-tab, getD-tab}
-use Rattle.layout.specs.Layout.{deskWords, base, coreLength, mapNumbers, placeIn, holderOf, holderIn, holders, holds}
+use Rattle.layout.specs.Layout.{deskWords, base, coreLength, mapNumbers, placeIn, holderOf, holderIn, holders, holds, listsIn}
 
 pub holder-at : (d : List ℕ) (p : ℕ) → getD d (base p) 0 ≡ holderOf (placeIn d p)
 unfolding placeIn
@@ -78,6 +78,11 @@ module _ (d : List ℕ) (long : length d ≡ deskWords) (p : ℕ) (in-p : p < 12
         rw i at (getD-splice-in d (base p + o) vs 0 h (omega arith)) ∙ sym (rw y (getD-set-same (holders d) p (getD vs 0 0) 0 (omega arith))))
         (λ y. getD-splice-out d (base p + o) vs (base q) (omega arith) (λ a b. y (omega arith))
         ∙ sym (getD-set-other (holders d) p q (getD vs 0 0) 0 y ∙ getD-holders d q k)))
+
+-- ---- the lists of a place
+pub lists-length : (l : List ℕ) → length l ≡ 303 → length (listsIn l) ≡ 288
+unfolding listsIn
+lists-length l h = length-range l 15 288 (omega arith)
 
 -- ---- a place that a room holds is one of the twelve, and the room is its holder
 module _ (d : List ℕ) (r p : ℕ) (q : holds d r p ≡ true) where

@@ -1,13 +1,14 @@
 -- Where each number of a desk stands (docs/DESK.md has the table). A desk is the core length, the map's sixteen numbers and twelve
 -- places; a place is its holder, its area, the counts of its lists, its stage, and the lists as the crate lists keeps them. Only
 -- what a count says is there is read: of a free place nothing but its holder.
-use Prim.Native.Nat.{ℕ, _+_, _*_, _/_}
+use Prim.Native.Nat.{ℕ, _+_, _*_}
 use mathlib.Core.Bool.{Bool, _&&_}
 use mathlib.Core.List.{List}
 use lib.ListN.{getD}
 use lib.Dec.{eqb, ltb}
 use Rattle.word.specs.Lists.{range, tab}
-use Rattle.word.specs.Limits.{placeCount, mapWords, ioMost, tablesMost}
+use Rattle.word.specs.Limits.{placeCount, mapWords}
+use Rattle.lists.specs.Load.{listWords}
 use Rattle.stage.specs.Stage.{stageOf}
 use Rattle.stage.specs.declared.Stage.{Stage}
 use Rattle.layout.specs.declared.Place.{Place}
@@ -41,27 +42,18 @@ tablesAt = 4
 abbrev pub keptAt : ℕ
 keptAt = 5
 
--- and behind them those of its stage, the I/O numbers, four to a word, the kept words of the tables, the ranks
+-- and behind them those of its stage, and those of its lists in one stretch
 abbrev pub stageAt : ℕ
 stageAt = 6
 
 abbrev pub stageWords : ℕ
 stageWords = 9
 
-abbrev pub iosAt : ℕ
-iosAt = stageAt + stageWords
-
-abbrev pub iosWords : ℕ
-iosWords = ioMost / 4
-
-abbrev pub wordsAt : ℕ
-wordsAt = iosAt + iosWords
-
-abbrev pub ranksAt : ℕ
-ranksAt = wordsAt + tablesMost
+abbrev pub listsAt : ℕ
+listsAt = stageAt + stageWords
 
 abbrev pub placeWords : ℕ
-placeWords = ranksAt + tablesMost
+placeWords = listsAt + listWords
 
 abbrev pub deskWords : ℕ
 deskWords = fixedWords + placeCount * placeWords
@@ -86,33 +78,29 @@ places d = tab (placeIn d) placeCount
 
 -- ---- of a place's numbers l
 
--- the numbers of its own: the holder, 0 where the place is free and r + 1 where room r holds it; the area; how many I/O references,
--- core tables and kept words there are
+-- the numbers of its own: the holder, 0 where the place is free and r + 1 where room r holds it; and what its load was given: the
+-- area; how many I/O references, core tables and kept words there are
 abbrev pub holderOf : List ℕ → ℕ
 holderOf l = getD l holderAt 0
 
 unfoldable pub ownOf : List ℕ → Place
 ownOf l = record {
   holder = holderOf l;
-  area = record { at = record { 0 = getD l areaAt 0 }; size = getD l sizeAt 0 };
-  io = getD l ioAt 0;
-  tables = getD l tablesAt 0;
-  kept = getD l keptAt 0;
+  given = record {
+    area = record { at = record { 0 = getD l areaAt 0 }; size = getD l sizeAt 0 };
+    io = getD l ioAt 0;
+    tables = getD l tablesAt 0;
+    kept = getD l keptAt 0;
+  };
 }
 
 -- what the load waits for
 unfoldable pub stageIn : List ℕ → Stage
 stageIn l = stageOf (range l stageAt stageWords)
 
--- its lists: packed I/O numbers, n kept words, n ranks
-unfoldable pub iosIn : List ℕ → List ℕ
-iosIn l = range l iosAt iosWords
-
-unfoldable pub wordsIn : List ℕ → ℕ → List ℕ
-wordsIn l n = range l wordsAt n
-
-unfoldable pub ranksIn : List ℕ → ℕ → List ℕ
-ranksIn l n = range l ranksAt n
+-- its lists; what stands where in them says the crate lists
+unfoldable pub listsIn : List ℕ → List ℕ
+listsIn l = range l listsAt listWords
 
 -- who holds place p of a desk, and who holds each
 abbrev pub holderIn : List ℕ → ℕ → ℕ

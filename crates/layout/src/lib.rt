@@ -1,17 +1,17 @@
 // Where the numbers of a desk stand, and reading them.
 ghost use mathlib.Core.Path.{_≡_};
-ghost use Prim.Native.Nat.{_+_, _≤_, _<_};
-ghost use lib.ListN.{length, getD};
-ghost use Rattle.word.specs.Limits.{roomCount, placeCount, tablesMost};
+ghost use Prim.Native.Nat.{_+_, _<_};
+ghost use lib.ListN.{length};
+ghost use Rattle.word.specs.Limits.{roomCount, placeCount};
 ghost use Rattle.layout.specs.Layout.{deskWords, placeWords, mapNumbers, placeIn, holders, holds};
-ghost use Rattle.layout.specs.Layout.{ownOf, stageIn, iosIn, wordsIn, ranksIn};
+ghost use Rattle.layout.specs.Layout.{ownOf, stageIn, listsIn};
+use lists::Given;
+use lists::load::LISTS;
 use stage::Stage;
 use word::Absolute;
 use word::Area;
-use word::limits::IO_MOST;
 use word::limits::MAP_WORDS;
 use word::limits::PLACES;
-use word::limits::TABLES_MOST;
 
 // A desk: its core length, the map's numbers, the places.
 pub const CORE_AT: usize = 0;
@@ -35,27 +35,17 @@ pub const TABLES_AT: usize = 4;
 
 pub const KEPT_AT: usize = 5;
 
-// Behind them: those of its stage, the I/O numbers, four to a word, the kept words of the tables, the ranks.
+// Behind them: those of its stage, and those of its lists.
 pub const STAGE_AT: usize = 6;
 
-pub const IOS_AT: usize = STAGE_AT + 9;
+pub const LISTS_AT: usize = STAGE_AT + 9;
 
-pub const IOS_WORDS: usize = IO_MOST / 4;
+pub const PLACE_WORDS: usize = LISTS_AT + LISTS;
 
-pub const WORDS_AT: usize = IOS_AT + IOS_WORDS;
-
-pub const RANKS_AT: usize = WORDS_AT + TABLES_MOST;
-
-pub const PLACE_WORDS: usize = RANKS_AT + TABLES_MOST;
-
-// A place's own numbers: who holds it (0: nobody, r + 1: room r), its area, and how many I/O references, core tables and kept words
-// its lists have.
+// A place's own numbers: who holds it (0: nobody, r + 1: room r), and what its load was given.
 pub struct Place {
     pub holder: u64,
-    pub area: Area,
-    pub io: u64,
-    pub tables: u64,
-    pub kept: u64,
+    pub given: Given,
 }
 
 // The numbers of place p.
@@ -74,13 +64,15 @@ pub fn own_of(place: &[u64]) -> Place
 {
     Place {
         holder: place[HOLDER_AT],
-        area: Area {
-            at: Absolute(place[AREA_AT]),
-            size: place[SIZE_AT],
+        given: Given {
+            area: Area {
+                at: Absolute(place[AREA_AT]),
+                size: place[SIZE_AT],
+            },
+            io: place[IO_AT],
+            tables: place[TABLES_AT],
+            kept: place[KEPT_AT],
         },
-        io: place[IO_AT],
-        tables: place[TABLES_AT],
-        kept: place[KEPT_AT],
     }
 }
 
@@ -89,29 +81,15 @@ pub fn stage_of(place: &[u64]) -> Stage
     requires { ⌜ length (now place) ≡ placeWords ⌝ }
     ensures { λ r. ⌜ r ≡ stageIn (now (place .entry)) ⌝ }
 {
-    stage::read_stage(&place[STAGE_AT..IOS_AT])
+    stage::read_stage(&place[STAGE_AT..LISTS_AT])
 }
 
-// The lists of the load at a place: its packed I/O numbers, its n kept words, its n ranks.
-pub fn ios_of(place: &[u64]) -> &[u64]
+// The lists of the load at a place.
+pub fn lists_of(place: &[u64]) -> &[u64]
     requires { ⌜ length (now place) ≡ placeWords ⌝ }
-    ensures { λ r. ⌜ now r ≡ iosIn (now (place .entry)) ⌝ }
+    ensures { λ r. ⌜ now r ≡ listsIn (now (place .entry)) ⌝ }
 {
-    &place[IOS_AT..WORDS_AT]
-}
-
-pub fn words_of(place: &[u64], n: usize) -> &[u64]
-    requires { ⌜ (length (now place) ≡ placeWords) × (n ≤ tablesMost) ⌝ }
-    ensures { λ r. ⌜ now r ≡ wordsIn (now (place .entry)) n ⌝ }
-{
-    &place[WORDS_AT..WORDS_AT + n]
-}
-
-pub fn ranks_of(place: &[u64], n: usize) -> &[u64]
-    requires { ⌜ (length (now place) ≡ placeWords) × (n ≤ tablesMost) ⌝ }
-    ensures { λ r. ⌜ now r ≡ ranksIn (now (place .entry)) n ⌝ }
-{
-    &place[RANKS_AT..RANKS_AT + n]
+    &place[LISTS_AT..PLACE_WORDS]
 }
 
 // Who holds each place.
