@@ -1,7 +1,7 @@
 -- Soundness as facts of each place and of each two, both ways; that a free place asks nothing; and what a held one has. Assumes nothing.
 use Prim.Native.Nat.{ℕ, _+_, _-_, _≤_, _<_}
 use mathlib.Core.Path.{_≡_, _∙_}
-use mathlib.Core.Bool.{true}
+use mathlib.Core.Bool.{true, _&&_}
 use mathlib.Core.List.{List}
 use native.Mathlib.Omega.{arith}
 use lib.ListN.{length, getD}
@@ -11,7 +11,6 @@ use Rattle.word.specs.Runs.{Says}
 use Rattle.word.specs.declared.Area.{Area}
 use Rattle.word.proofs.Cases.{by-test, and-left, and-right}
 use Rattle.word.proofs.Says.{says-eq, says-and, says-as, says-within}
-use Rattle.word.proofs.Lists.{length-range}
 use Rattle.map.specs.declared.Stretch.{Stretch}
 use Rattle.map.specs.Map.{mapOf, mapObeys, none, MapObeys}
 use Rattle.map.proofs.Map.{map-length, map-obeys-says}
@@ -19,11 +18,12 @@ use Rattle.rooms.specs.Rooms.{Fair}
 use Rattle.rooms.proofs.Rooms.{fair-says}
 use Rattle.lists.specs.Chain.{chain}
 use Rattle.lists.specs.Obey.{tablesObey}
-use Rattle.lists.proofs.Kept.{numbers-obey, tables-length}
-use Rattle.layout.specs.Layout.{deskWords, coreLength, mapNumbers, placeIn, holderOf, holderIn, iosIn, wordsIn, ranksIn, holders}
+use Rattle.lists.specs.Load.{wordsIn, coreTables, Readable}
+use Rattle.lists.proofs.Reading.{io-obey, core-length}
+use Rattle.layout.specs.Layout.{deskWords, coreLength, mapNumbers, placeIn, holderOf, holderIn, holders}
 use Rattle.layout.proofs.Places.{holder-at, length-holders, getD-holders, place-length}
-use Rattle.desk.specs.Sound.{sound, coreFits, areaIn, countsFit, tablesHeld, loadFits, heldFits, placeFits, areasApart, Sound, ownIn, HeldFacts}
-use Rattle.desk.proofs.Tested.{counts-small, says-self, places-say}
+use Rattle.desk.specs.Sound.{sound, coreFits, areaIn, countsFit, loadFits, heldFits, placeFits, areasApart, Sound, givenIn, listsHeld, HeldFacts}
+use Rattle.desk.proofs.Tested.{lists-readable, says-self, places-say}
 
 pub sound-says : (d : List ℕ) → Says (sound d) (Sound d)
 unfolding sound
@@ -88,28 +88,42 @@ module _ (d : List ℕ) (s : sound d ≡ true) where
     unfolding placeFits
     held-fits h = rw (ne-eqb (holderOf (placeIn d p)) 0 (λ z. h (holder-at d p ∙ z))) at (sound-says d .fact s .place p in-p)
 
+    -- its area ends in the core, and its counts are within the limits
+    held-area : (holderIn d p ≡ 0 → ⊥) → areaIn (getD (mapOf (mapNumbers d)) (holderOf (placeIn d p) - 1) none) (givenIn d p .area) ≡ true
+    unfolding heldFits
+    held-area h = and-left (areaIn (getD (mapOf (mapNumbers d)) (holderOf (placeIn d p) - 1) none) (givenIn d p .area)) _ (held-fits h)
+
+    held-rest : (holderIn d p ≡ 0 → ⊥) → (countsFit (givenIn d p) && loadFits (givenIn d p) (placeIn d p)) ≡ true
+    unfolding heldFits
+    held-rest h = and-right (areaIn (getD (mapOf (mapNumbers d)) (holderOf (placeIn d p) - 1) none) (givenIn d p .area)) _ (held-fits h)
+
+    held-inside : (holderIn d p ≡ 0 → ⊥) → givenIn d p .area .at .0 + givenIn d p .area .size ≤ coreLength d
+    held-inside h =
+        let z : holderOf (placeIn d p) ≡ 0 → ⊥ = λ e. h (holder-at d p ∙ e) in
+        stretch-in-core (holderOf (placeIn d p) - 1) (givenIn d p .area) (omega (arith, holder-known, z)) (held-area h)
+
+    -- its lists can be read
+    pub held-readable : (holderIn d p ≡ 0 → ⊥) → Readable (givenIn d p) (listsHeld d p)
+    held-readable h =
+        lists-readable (givenIn d p) (placeIn d p) (place-length d (sound-long d s) p in-p)
+        (and-left (countsFit (givenIn d p)) _ (held-rest h)) (omega (arith, held-inside h, core-small))
+
     pub held-facts : (holderIn d p ≡ 0 → ⊥) → HeldFacts d p
-    unfolding heldFits loadFits areaIn ranksIn
+    unfolding loadFits areaIn
     held-facts h =
-        let l = placeIn d p in
-        let o = ownIn d p in
-        let t = getD (mapOf (mapNumbers d)) (holderOf l - 1) none in
-        let z : holderOf l ≡ 0 → ⊥ = λ e. h (holder-at d p ∙ e) in
-        let f = held-fits h in
-        let a = and-left (areaIn t (o .area)) _ f in
-        let g = and-right (areaIn t (o .area)) _ f in
-        let n = counts-small o (and-left (countsFit o) _ g) in
-        let k = and-right (countsFit o) _ g in
-        let e = length-range l 175 (o .tables) (omega (arith, n .1 .0, place-length d (sound-long d s) p in-p)) in
+        let g = givenIn d p in
+        let l = listsHeld d p in
+        let r = held-readable h in
+        let k = and-right (countsFit g) _ (held-rest h) in
         record {
-          inside = stretch-in-core (holderOf l - 1) (o .area) (omega (arith, holder-known, z)) a;
+          inside = held-inside h;
           core = core-small;
-          some = leb-true 1 (o .area .size) (and-left (leb 1 (o .area .size)) _ a);
-          io = n .0;
-          tables = n .1 .0;
-          kept = n .1 .1;
-          numbers = numbers-obey (iosIn l) (o .io);
-          count = tables-length (o .area) (wordsIn l (o .kept)) (ranksIn l (o .tables)) ∙ e;
-          obey = and-left (tablesObey (o .area) (tablesHeld o l)) _ k;
-          stage = and-right (chain (o .area) (wordsIn l (o .kept))) _ (and-right (tablesObey (o .area) (tablesHeld o l)) _ k);
+          some = leb-true 1 (g .area .size) (and-left (leb 1 (g .area .size)) _ (held-area h));
+          io = r .io;
+          tables = r .tables;
+          kept = r .kept;
+          numbers = io-obey g l;
+          count = core-length g l r;
+          obey = and-left (tablesObey (g .area) (coreTables g l)) _ k;
+          stage = and-right (chain (g .area) (wordsIn l (g .kept))) _ (and-right (tablesObey (g .area) (coreTables g l)) _ k);
         }

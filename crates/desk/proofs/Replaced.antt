@@ -9,7 +9,7 @@ use lib.ListN.{length, getD, set, length-set}
 use lib.Seq.{ext-getD, getD-set-same, getD-set-other, set-getD}
 use lib.Dec.{eqb}
 use borrow.Author.Tests.{ne-eqb}
-use Rattle.word.specs.Lists.{splice, range}
+use Rattle.word.specs.Lists.{splice}
 use Rattle.word.specs.Runs.{apart}
 use Rattle.word.proofs.Cases.{by-test, by-eq, by-lt, and-left, and-right}
 use Rattle.word.proofs.Lists.{range-splice-same, range-splice-after, getD-splice-out}
@@ -19,14 +19,16 @@ use Rattle.map.specs.Map.{mapOf, none}
 use Rattle.rooms.specs.Rooms.{Fair}
 use Rattle.lists.specs.Chain.{chain}
 use Rattle.lists.specs.Obey.{tablesObey}
+use Rattle.lists.specs.Load.{wordsIn, coreTables}
+use Rattle.lists.specs.declared.Given.{Given}
 use Rattle.stage.specs.Stage.{numbersOf, stageOf}
 use Rattle.stage.specs.Ranges.{stageFits}
 use Rattle.stage.specs.declared.Stage.{Stage}
 use Rattle.stage.proofs.Back.{stage-back, stage-length}
 use Rattle.layout.specs.declared.Place.{Place}
-use Rattle.layout.specs.Layout.{deskWords, coreLength, mapNumbers, base, placeIn, holderOf, ownOf, stageIn, iosIn, wordsIn, ranksIn, holders}
+use Rattle.layout.specs.Layout.{deskWords, coreLength, mapNumbers, base, placeIn, holderOf, ownOf, stageIn, listsIn, holders}
 use Rattle.layout.proofs.Places.{holder-at, length-holders, getD-holders, place-length, written-length, place-written, place-kept, map-kept, core-kept}
-use Rattle.desk.specs.Sound.{areaIn, countsFit, tablesHeld, loadFits, heldFits, placeFits, areasApart, sound, ownIn}
+use Rattle.desk.specs.Sound.{areaIn, countsFit, loadFits, heldFits, placeFits, areasApart, sound, ownIn, givenIn, listsHeld}
 use Rattle.desk.proofs.Facts.{sound-says, sound-long, free-fits}
 
 -- ---- a desk with one place written anew: e is d, but for place p, whose numbers are l
@@ -60,7 +62,7 @@ holders-replaced d p l e h w =
     ∙ sym (getD-set-other (holders d) p q (holderOf l) 0 y ∙ getD-holders d q k ∙ holder-at d q)))
 
 -- ---- areas that share no word
-pub areas-by : (l k : List ℕ) → apart (ownOf l .area .at .0) (ownOf l .area .size) (ownOf k .area .at .0) (ownOf k .area .size) ≡ true
+pub areas-by : (l k : List ℕ) → apart (ownOf l .given .area .at .0) (ownOf l .given .area .size) (ownOf k .given .area .at .0) (ownOf k .given .area .size) ≡ true
     → areasApart l k ≡ true
 unfolding areasApart
 areas-by l k h = rw (h, or-true (eqb (holderOf k) 0), or-true (eqb (holderOf l) 0))
@@ -68,8 +70,8 @@ areas-by l k h = rw (h, or-true (eqb (holderOf k) 0), or-true (eqb (holderOf l) 
 pub areas-turned : (l k : List ℕ) → areasApart l k ≡ true → areasApart k l ≡ true
 unfolding areasApart
 areas-turned l k q =
-    let a = ownOf l .area in
-    let b = ownOf k .area in
+    let a = ownOf l .given .area in
+    let b = ownOf k .given .area in
     by-test (eqb (holderOf k) 0) (λ x. rw x)
     (λ x. by-test (eqb (holderOf l) 0) (λ y. rw (x, y))
     (λ y. let f = says-apart (a .at .0) (a .size) (b .at .0) (b .size) .fact (rw (y, x) at q) in
@@ -135,9 +137,6 @@ module _ (l : List ℕ) (long : length l ≡ 303) (s : Stage) where
   staged-first : (i : ℕ) → i < 6 → getD staged i 0 ≡ getD l i 0
   staged-first i h = getD-splice-out l 6 (numbersOf s) i fits-in (λ x y. omega arith)
 
-  staged-after : (a n : ℕ) → 15 ≤ a → range staged a n ≡ range l a n
-  staged-after a n h = range-splice-after l 6 (numbersOf s) a n (omega (arith, stage-length s)) fits-in
-
   pub staged-own : ownOf staged ≡ ownOf l
   unfolding ownOf
   staged-own =
@@ -154,37 +153,28 @@ module _ (l : List ℕ) (long : length l ≡ 303) (s : Stage) where
   unfolding stageIn
   staged-stage = ap stageOf (rw stage-length at (range-splice-same l 6 (numbersOf s) fits-in)) ∙ stage-back s
 
-  pub staged-ios : iosIn staged ≡ iosIn l
-  unfolding iosIn
-  staged-ios = staged-after 15 32 (omega arith)
-
-  pub staged-words : (n : ℕ) → wordsIn staged n ≡ wordsIn l n
-  unfolding wordsIn
-  staged-words n = staged-after 47 n (omega arith)
-
-  pub staged-ranks : (n : ℕ) → ranksIn staged n ≡ ranksIn l n
-  unfolding ranksIn
-  staged-ranks n = staged-after 175 n (omega arith)
+  pub staged-lists : listsIn staged ≡ listsIn l
+  unfolding listsIn
+  staged-lists = range-splice-after l 6 (numbersOf s) 15 288 (omega (arith, stage-length s)) fits-in
 
   -- its lists are as they were, so the new stage is all that is asked
-  staged-load : (o : Place) → loadFits o l ≡ true → stageFits (o .area) (tablesHeld o l) (o .io) s ≡ true → loadFits o staged ≡ true
+  staged-load : (g : Given) → loadFits g l ≡ true → stageFits (g .area) (coreTables g (listsIn l)) (g .io) s ≡ true → loadFits g staged ≡ true
   unfolding loadFits
-  staged-load o q f =
-      let k = and-right (tablesObey (o .area) (tablesHeld o l)) _ q in
+  staged-load g q f =
+      let k = and-right (tablesObey (g .area) (coreTables g (listsIn l))) _ q in
       rw (
-        staged-words (o .kept),
-        staged-ranks (o .tables),
+        staged-lists,
         staged-stage,
-        and-left (tablesObey (o .area) (tablesHeld o l)) _ q,
-        and-left (chain (o .area) (wordsIn l (o .kept))) _ k,
+        and-left (tablesObey (g .area) (coreTables g (listsIn l))) _ q,
+        and-left (chain (g .area) (wordsIn (listsIn l) (g .kept))) _ k,
         f,
       )
 
-  staged-held : (t : Stretch) → heldFits t l ≡ true → stageFits (ownOf l .area) (tablesHeld (ownOf l) l) (ownOf l .io) s ≡ true
+  staged-held : (t : Stretch) → heldFits t l ≡ true → stageFits (ownOf l .given .area) (coreTables (ownOf l .given) (listsIn l)) (ownOf l .given .io) s ≡ true
       → heldFits t staged ≡ true
   unfolding heldFits
   staged-held t q f =
-      let o = ownOf l in
+      let o = ownOf l .given in
       let k = and-right (areaIn t (o .area)) _ q in
       rw (
         staged-own,
@@ -193,7 +183,7 @@ module _ (l : List ℕ) (long : length l ≡ 303) (s : Stage) where
         staged-load o (and-right (countsFit o) _ k) f,
       )
 
-  pub staged-fits : (m : List Stretch) → placeFits m l ≡ true → stageFits (ownOf l .area) (tablesHeld (ownOf l) l) (ownOf l .io) s ≡ true
+  pub staged-fits : (m : List Stretch) → placeFits m l ≡ true → stageFits (ownOf l .given .area) (coreTables (ownOf l .given) (listsIn l)) (ownOf l .given .io) s ≡ true
       → placeFits m staged ≡ true
   unfolding placeFits
   staged-fits m q f =
@@ -205,7 +195,7 @@ module _ (l : List ℕ) (long : length l ≡ 303) (s : Stage) where
 
 -- a sound desk stays sound where a stage in range is written
 pub stage-written-sound : (d : List ℕ) (p : ℕ) (s : Stage) → sound d ≡ true → p < 12
-    → stageFits (ownIn d p .area) (tablesHeld (ownIn d p) (placeIn d p)) (ownIn d p .io) s ≡ true
+    → stageFits (givenIn d p .area) (coreTables (givenIn d p) (listsHeld d p)) (givenIn d p .io) s ≡ true
     → sound (splice d (base p + 6) (numbersOf s)) ≡ true
 stage-written-sound d p s q h f =
     let l = placeIn d p in

@@ -13,16 +13,18 @@ use Rattle.word.specs.declared.Area.{Area}
 use Rattle.word.proofs.Cases.{by-test, and-left, and-right}
 use Rattle.word.proofs.Each.{says-each, says-two}
 use Rattle.word.proofs.Says.{says-and, says-as}
-use Rattle.word.proofs.Lists.{length-tab, getD-tab, length-range-most, every-more, every-fails, every-ends}
+use Rattle.word.proofs.Lists.{length-tab, getD-tab, every-more, every-fails, every-ends}
+use Rattle.lists.specs.declared.Given.{Given}
 use Rattle.lists.specs.Chain.{chain}
 use Rattle.lists.specs.Obey.{tablesObey}
+use Rattle.lists.specs.Load.{wordsIn, ranksIn, coreTables, Readable}
 use Rattle.lists.proofs.Sound.{order-sound}
 use Rattle.stage.specs.Ranges.{stageFits}
 use Rattle.map.specs.declared.Stretch.{Stretch}
 use Rattle.map.specs.Map.{mapOf}
-use Rattle.layout.specs.declared.Place.{Place}
-use Rattle.layout.specs.Layout.{mapNumbers, placeIn, places, stageIn, wordsIn, ranksIn}
-use Rattle.desk.specs.Sound.{areaIn, countsFit, tablesHeld, loadFits, placeFits, areasApart, SmallStretch, placesFit}
+use Rattle.layout.specs.Layout.{mapNumbers, placeIn, places, stageIn, listsIn}
+use Rattle.layout.proofs.Places.{lists-length}
+use Rattle.desk.specs.Sound.{areaIn, countsFit, loadFits, placeFits, areasApart, SmallStretch, placesFit}
 
 -- an area in a small stretch ends in the numbers of a core
 pub area-small : (s : Stretch) (a : Area) → SmallStretch s → areaIn s a ≡ true → a .at .0 + a .size ≤ 65536
@@ -32,20 +34,28 @@ area-small s a h q =
     let l = leb-true (a .at .0 + a .size) (s .start .0 + s .len) (and-right (leb (s .start .0) (a .at .0)) _ w) in
     omega arith
 
-pub counts-small : (o : Place) → countsFit o ≡ true → (o .io ≤ 128) × ((o .tables ≤ 128) × (o .kept ≤ 128))
+pub counts-small : (g : Given) → countsFit g ≡ true → (g .io ≤ 128) × ((g .tables ≤ 128) × (g .kept ≤ 128))
 unfolding countsFit
-counts-small o q =
-    let r = and-right (leb (o .io) 128) _ q in
-    (leb-true (o .io) 128 (and-left (leb (o .io) 128) _ q), (leb-true (o .tables) 128 (and-left (leb (o .tables) 128) _ r), leb-true (o .kept) 128 (and-right (leb (o .tables) 128) _ r)))
+counts-small g q =
+    let r = and-right (leb (g .io) 128) _ q in
+    (leb-true (g .io) 128 (and-left (leb (g .io) 128) _ q), (leb-true (g .tables) 128 (and-left (leb (g .tables) 128) _ r), leb-true (g .kept) 128 (and-right (leb (g .tables) 128) _ r)))
+
+-- so the lists of a place can be read
+pub lists-readable : (g : Given) (l : List ℕ) → length l ≡ 303 → countsFit g ≡ true → g .area .at .0 + g .area .size ≤ 65536
+    → Readable g (listsIn l)
+lists-readable g l h q k =
+    let n = counts-small g q in
+    record { long = lists-length l h; io = n .0; tables = n .1 .0; kept = n .1 .1; small = k }
 
 -- kept words that pass the one pass are tables that obey refusal 8, so that the code need not look at the tables
-pub load-is : (o : Place) (l : List ℕ)
-    → loadFits o l ≡ (chain (o .area) (wordsIn l (o .kept)) && stageFits (o .area) (tablesHeld o l) (o .io) (stageIn l))
-unfolding loadFits
-load-is o l =
-    by-test (chain (o .area) (wordsIn l (o .kept)))
-    (λ q. rw (order-sound (o .area) (wordsIn l (o .kept)) q (ranksIn l (o .tables))))
-    (λ q. rw q (and-false (tablesObey (o .area) (tablesHeld o l))))
+pub load-is : (g : Given) (l : List ℕ)
+    → loadFits g l
+    ≡ (chain (g .area) (wordsIn (listsIn l) (g .kept)) && stageFits (g .area) (coreTables g (listsIn l)) (g .io) (stageIn l))
+unfolding loadFits coreTables
+load-is g l =
+    by-test (chain (g .area) (wordsIn (listsIn l) (g .kept)))
+    (λ q. rw (order-sound (g .area) (wordsIn (listsIn l) (g .kept)) q (ranksIn (listsIn l) (g .tables))))
+    (λ q. rw q (and-false (tablesObey (g .area) (coreTables g (listsIn l)))))
 
 -- the twelve places
 pub places-length : (d : List ℕ) → length (places d) ≡ 12
@@ -55,11 +65,6 @@ places-length d = length-tab (placeIn d) 12
 pub places-at : (d : List ℕ) (p : ℕ) → p < 12 → getD (places d) p [] ≡ placeIn d p
 unfolding places
 places-at d p h = getD-tab (placeIn d) 12 p [] h
-
--- no more ranks are read than there are
-pub ranks-most : (l : List ℕ) (n : ℕ) → length (ranksIn l n) ≤ n
-unfolding ranksIn
-ranks-most l n = length-range-most l 175 n
 
 -- a loop over the places: a turn, a test that fails, the end
 module _ (f : List ℕ → Bool) (d : List ℕ) (p : ℕ) (b : Bool) where

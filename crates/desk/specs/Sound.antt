@@ -14,39 +14,35 @@ use Rattle.word.specs.declared.Area.{Area}
 use Rattle.map.specs.declared.Stretch.{Stretch}
 use Rattle.map.specs.Map.{mapOf, mapObeys, none}
 use Rattle.rooms.specs.Rooms.{fair, Fair}
-use Rattle.lists.specs.declared.Table.{Table}
-use Rattle.lists.specs.Kept.{numbersIn, tablesIn}
+use Rattle.lists.specs.declared.Given.{Given}
 use Rattle.lists.specs.Chain.{chain}
 use Rattle.lists.specs.Obey.{tablesObey, isIoNumber}
+use Rattle.lists.specs.Load.{wordsIn, coreTables, ioNumbers}
 use Rattle.stage.specs.Ranges.{stageFits}
 use Rattle.layout.specs.declared.Place.{Place}
-use Rattle.layout.specs.Layout.{deskWords, coreLength, mapNumbers, placeIn, places, holderOf, ownOf, stageIn, iosIn, wordsIn, ranksIn, holders}
+use Rattle.layout.specs.Layout.{deskWords, coreLength, mapNumbers, placeIn, places, holderOf, ownOf, stageIn, listsIn, holders}
 
 -- an area lies in a stretch, and is not empty
 unfoldable pub areaIn : Stretch → Area → Bool
 areaIn s a = leb 1 (a .size) && within (a .at .0) (a .size) (s .start .0) (s .len)
 
 -- refusal 8, "over 128 entries": the counts of a place's lists are within the limits
-unfoldable pub countsFit : Place → Bool
-countsFit o = leb (o .io) ioMost && (leb (o .tables) tablesMost && leb (o .kept) tablesMost)
-
--- the core tables of a place, as they are read
-abbrev pub tablesHeld : Place → List ℕ → List Table
-tablesHeld o l = tablesIn (o .area) (wordsIn l (o .kept)) (ranksIn l (o .tables))
+unfoldable pub countsFit : Given → Bool
+countsFit g = leb (g .io) ioMost && (leb (g .tables) tablesMost && leb (g .kept) tablesMost)
 
 -- refusal 8, "a table not inside the area, or two tables sharing a word": of the tables one by one and pair by pair. Then the ranges
 -- of the kept words and of the stage. The code looks at the kept words alone: where those pass, the tables obey, whatever the ranks
 -- are (`order-sound`, crate lists). "Half a pair, an I/O number over 65,535": a desk has no room for either. It keeps tables, not
--- numbers of a list, and 16 bits an I/O number (`numbers-obey`, crate lists).
-unfoldable pub loadFits : Place → List ℕ → Bool
-loadFits o l =
-    tablesObey (o .area) (tablesHeld o l)
-    && (chain (o .area) (wordsIn l (o .kept))
-    && stageFits (o .area) (tablesHeld o l) (o .io) (stageIn l))
+-- numbers of a list, and 16 bits an I/O number (`io-obey`, crate lists).
+unfoldable pub loadFits : Given → List ℕ → Bool
+loadFits g l =
+    tablesObey (g .area) (coreTables g (listsIn l))
+    && (chain (g .area) (wordsIn (listsIn l) (g .kept))
+    && stageFits (g .area) (coreTables g (listsIn l)) (g .io) (stageIn l))
 
 -- a place that a room holds, s its stretch
 unfoldable pub heldFits : Stretch → List ℕ → Bool
-heldFits s l = areaIn s (ownOf l .area) && (countsFit (ownOf l) && loadFits (ownOf l) l)
+heldFits s l = areaIn s (ownOf l .given .area) && (countsFit (ownOf l .given) && loadFits (ownOf l .given) l)
 
 -- of a free place nothing is asked
 unfoldable pub placeFits : List Stretch → List ℕ → Bool
@@ -57,7 +53,7 @@ unfoldable pub areasApart : List ℕ → List ℕ → Bool
 areasApart l k =
     eqb (holderOf l) 0
     || (eqb (holderOf k) 0
-    || apart (ownOf l .area .at .0) (ownOf l .area .size) (ownOf k .area .at .0) (ownOf k .area .size))
+    || apart (ownOf l .given .area .at .0) (ownOf l .given .area .size) (ownOf k .given .area .at .0) (ownOf k .given .area .size))
 
 -- a core has from 1 to 65,536 words
 abbrev pub coreFits : ℕ → Bool
@@ -85,18 +81,25 @@ pub record Sound (d : List ℕ) : Type 0 where
 abbrev pub ownIn : List ℕ → ℕ → Place
 ownIn d p = ownOf (placeIn d p)
 
+-- what the load at place p was given, and its lists
+abbrev pub givenIn : List ℕ → ℕ → Given
+givenIn d p = ownIn d p .given
+
+abbrev pub listsHeld : List ℕ → ℕ → List ℕ
+listsHeld d p = listsIn (placeIn d p)
+
 -- and what a sound desk says of a place p that is held (`held-facts`, proofs/Facts.antt): its area, its lists, its stage
 pub record HeldFacts (d : List ℕ) (p : ℕ) : Type 0 where
-  pub inside : ownIn d p .area .at .0 + ownIn d p .area .size ≤ coreLength d
+  pub inside : givenIn d p .area .at .0 + givenIn d p .area .size ≤ coreLength d
   pub core : coreLength d ≤ coreMost
-  pub some : 1 ≤ ownIn d p .area .size
-  pub io : ownIn d p .io ≤ ioMost
-  pub tables : ownIn d p .tables ≤ tablesMost
-  pub kept : ownIn d p .kept ≤ tablesMost
-  pub numbers : every isIoNumber (numbersIn (iosIn (placeIn d p)) (ownIn d p .io)) ≡ true
-  pub count : length (tablesHeld (ownIn d p) (placeIn d p)) ≡ ownIn d p .tables
-  pub obey : tablesObey (ownIn d p .area) (tablesHeld (ownIn d p) (placeIn d p)) ≡ true
-  pub stage : stageFits (ownIn d p .area) (tablesHeld (ownIn d p) (placeIn d p)) (ownIn d p .io) (stageIn (placeIn d p)) ≡ true
+  pub some : 1 ≤ givenIn d p .area .size
+  pub io : givenIn d p .io ≤ ioMost
+  pub tables : givenIn d p .tables ≤ tablesMost
+  pub kept : givenIn d p .kept ≤ tablesMost
+  pub numbers : every isIoNumber (ioNumbers (givenIn d p) (listsHeld d p)) ≡ true
+  pub count : length (coreTables (givenIn d p) (listsHeld d p)) ≡ givenIn d p .tables
+  pub obey : tablesObey (givenIn d p .area) (coreTables (givenIn d p) (listsHeld d p)) ≡ true
+  pub stage : stageFits (givenIn d p .area) (coreTables (givenIn d p) (listsHeld d p)) (givenIn d p .io) (stageIn (placeIn d p)) ≡ true
 
 -- a stretch that ends in the numbers of a core: what the test of a map has shown
 abbrev pub SmallStretch : Stretch → Type 0

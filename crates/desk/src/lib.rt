@@ -1,19 +1,20 @@
 // The test of a desk that comes first in every call: whatever memory is lent, it is sound or it is refused.
 ghost use mathlib.Core.Path.{_≡_};
 ghost use mathlib.Core.Bool.{true, _&&_, _||_};
-ghost use Prim.Native.Nat.{_+_, _-_, _≤_, _<_};
+ghost use Prim.Native.Nat.{_-_, _≤_, _<_};
 ghost use lib.ListN.{length};
 ghost use lib.Dec.{eqb};
-ghost use Rattle.word.specs.Limits.{placeCount, coreMost, ioMost, tablesMost};
+ghost use Rattle.word.specs.Limits.{placeCount};
 ghost use Rattle.rooms.specs.Rooms.{fair, heldPlaces};
-ghost use Rattle.layout.specs.Layout.{deskWords, placeWords, placeIn, holderOf, holders};
+ghost use Rattle.lists.specs.Load.{Readable};
+ghost use Rattle.layout.specs.Layout.{deskWords, placeWords, placeIn, listsIn, holderOf, holders};
 ghost use Rattle.desk.specs.Sound.{areaIn, countsFit, loadFits, heldFits, areasApart, SmallStretch, MapTested, placesFit, sound};
 use layout::AREA_AT;
 use layout::CORE_AT;
 use layout::DESK_WORDS;
 use layout::HOLDER_AT;
-use layout::Place;
 use layout::SIZE_AT;
+use lists::Given;
 use map::Stretch;
 use word::Area;
 use word::limits::CORE_MOST;
@@ -110,14 +111,15 @@ fn held_fits(place: &[u64], s: Stretch) -> bool
     ensures { λ r. ⌜ r ≡ heldFits s (now (place .entry)) ⌝ }
 {
     let o = layout::own_of(place);
-    let area = o.area;
+    let g = o.given;
+    let area = g.area;
     if !area_in(s, area) {
         return false;
     }
-    if !counts_fit(o) {
+    if !counts_fit(g) {
         return false;
     }
-    load_fits(place, o)
+    load_fits(place, g)
 }
 
 // Whether an area is not empty and lies in a stretch.
@@ -130,28 +132,26 @@ pub fn area_in(s: Stretch, a: Area) -> bool
     word::run_within(a.at.0, a.size, s.start.0, s.len)
 }
 
-fn counts_fit(o: Place) -> bool
-    ensures { λ r. ⌜ r ≡ countsFit o ⌝ }
+fn counts_fit(g: Given) -> bool
+    ensures { λ r. ⌜ r ≡ countsFit g ⌝ }
 {
-    if (IO_MOST as u64) < o.io {
+    if (IO_MOST as u64) < g.io {
         return false;
     }
-    if (TABLES_MOST as u64) < o.tables {
+    if (TABLES_MOST as u64) < g.tables {
         return false;
     }
-    o.kept <= TABLES_MOST as u64
+    g.kept <= TABLES_MOST as u64
 }
 
 // Whether the kept tables and the stage of a held place are in order.
-fn load_fits(place: &[u64], o: Place) -> bool
-    requires { ⌜ (length (now place) ≡ placeWords) × (o .io ≤ ioMost) × (o .tables ≤ tablesMost) × (o .kept ≤ tablesMost) × (o .area .at .0 + o .area .size ≤ coreMost) ⌝ }
-    ensures { λ r. ⌜ r ≡ loadFits o (now (place .entry)) ⌝ }
+fn load_fits(place: &[u64], g: Given) -> bool
+    requires { ⌜ (length (now place) ≡ placeWords) × (Readable g (listsIn (now place))) ⌝ }
+    ensures { λ r. ⌜ r ≡ loadFits g (now (place .entry)) ⌝ }
 {
-    let area = o.area;
-    let words = layout::words_of(place, o.kept as usize);
-    if !lists::chain_fits(words, area) {
+    let numbers = layout::lists_of(place);
+    if !lists::load::kept_fits(g, numbers) {
         return false;
     }
-    let ranks = layout::ranks_of(place, o.tables as usize);
-    stage::stage_fits(area, words, ranks, o.io, layout::stage_of(place))
+    stage::stage_fits(g, numbers, layout::stage_of(place))
 }

@@ -1,5 +1,5 @@
 -- `desk::held_fits` meets its contract: each return by the tests that led to it. Assumes nothing.
-use Rattle.desk.proofs.Tested.{counts-small, area-small}
+use Rattle.desk.proofs.Tested.{lists-readable, area-small}
 use mathlib.Core.Path.{sym, _∙_}
 use borrow.Author.Tests.{not-true, not-false}
 use Rattle.desk.specs.Sound.{heldFits}
@@ -15,24 +15,26 @@ area-in-requires c κs = search needs
 
 returns : tie.Need-returns
 unfolding heldFits
-returns c = rw (← c .before .before .before .own-of .ensures, sym (c .before .area-in .ensures) ∙ not-true _ (c .if1 .taken))
+returns c = rw (← c .before .before .before .before .own-of .ensures, sym (c .before .area-in .ensures) ∙ not-true _ (c .if1 .taken))
 
 counts-fit-requires : tie.Need-counts-fit-requires
 counts-fit-requires c κs = search needs
 
 returns-2 : tie.Need-returns-2
 unfolding heldFits
-returns-2 c = rw (← c .before .before .before .before .before .own-of .ensures, sym (c .before .before .before .area-in .ensures) ∙ not-false _ (c .before .before .if1 .left), sym (c .before .counts-fit .ensures) ∙ not-true _ (c .if2 .taken))
+returns-2 c = rw (← c .before .before .before .before .before .before .own-of .ensures, sym (c .before .before .before .area-in .ensures) ∙ not-false _ (c .before .before .if1 .left), sym (c .before .counts-fit .ensures) ∙ not-true _ (c .if2 .taken))
 
 load-fits-requires : tie.Need-load-fits-requires
 load-fits-requires c κs =
-    let b = c .before .before .before .before .before .before .before in
-    let n = counts-small _ (sym (c .before .counts-fit .ensures) ∙ not-false _ (c .if2 .left)) in
-    (b .pre .0, n .0, n .1 .0, n .1 .1, area-small _ _ (b .pre .1) (sym (c .before .before .before .area-in .ensures) ∙ not-false _ (c .before .before .if1 .left)))
+    let b = c .before .before .before .before .before .before .before .before in (
+      b .pre .0,
+      lists-readable _ _ (b .pre .0) (sym (c .before .counts-fit .ensures) ∙ not-false _ (c .if2 .left))
+          (area-small _ _ (b .pre .1) (sym (c .before .before .before .area-in .ensures) ∙ not-false _ (c .before .before .if1 .left))),
+    )
 
 returns-3 : tie.Need-returns-3
 unfolding heldFits
-returns-3 c = rw (← c .before .before .before .before .before .before .own-of .ensures, sym (c .before .before .before .before .area-in .ensures) ∙ not-false _ (c .before .before .before .if1 .left), sym (c .before .before .counts-fit .ensures) ∙ not-false _ (c .before .if2 .left)) (c .load-fits .ensures)
+returns-3 c = rw (← c .before .before .before .before .before .before .before .own-of .ensures, sym (c .before .before .before .before .area-in .ensures) ∙ not-false _ (c .before .before .before .if1 .left), sym (c .before .before .counts-fit .ensures) ∙ not-false _ (c .before .if2 .left)) (c .load-fits .ensures)
 
 pub held-fits-spec : {M : Type 1} → statement M
 held-fits-spec =
