@@ -33,7 +33,8 @@ use Rattle.stage.specs.declared.Step.the-variants.{More as step-more, Done as s
 use Rattle.stage.specs.Record.{recordDue, isOver}
 use Rattle.layout.specs.Layout.{coreLength, holderIn, placeIn, stageIn, iosIn, holds}
 use Rattle.layout.proofs.Places.{holds-inside, holds-holder}
-use Rattle.desk.specs.Sound.{sound, ownIn}
+use Rattle.lists.proofs.Reading.{io-length}
+use Rattle.desk.specs.Sound.{sound, givenIn, listsHeld}
 use Rattle.desk.proofs.Facts.{core-small}
 use Rattle.desk.proofs.Replaced.{stage-written-sound}
 use Rattle.calls.specs.declared.Answer.the-variants.{Refused, More, Done}
@@ -47,7 +48,7 @@ use Rattle.sections.specs.Program.{StepMeets}
 use Rattle.feed.specs.Feed.{loadIn, wiped, staged, settledOf, takenOf, checkedOf, heldOf, feedOf}
 use Rattle.feed.proofs.Blocked.{block-laws}
 use Rattle.feed.proofs.Wiped.{settled-same}
-use Rattle.feed.proofs.Held.{length-numbers, held-inside, held-fit, fit-waiting}
+use Rattle.feed.proofs.Held.{held-inside, held-fit, fit-waiting}
 
 -- a place that a room holds is one, and is held
 pub holds-place : (d : List ℕ) (r p : ℕ) → holds d r p ≡ true → (p < 12) × (holderIn d p ≡ 0 → ⊥)
@@ -91,7 +92,7 @@ module _ (d core block : List ℕ) (r p : ℕ) (P : Outcome → Type 0) (none : 
 written-sound : (d : List ℕ) (p : ℕ) (t : Stage) → sound d ≡ true → p < 12
     → stageFits (loadIn (placeIn d p) .area) (loadIn (placeIn d p) .tables) (length (loadIn (placeIn d p) .ios)) t ≡ true → sound (staged d p t) ≡ true
 unfolding staged loadIn
-written-sound d p t s h f = stage-written-sound d p t s h (rw (length-numbers (iosIn (placeIn d p)) (ownIn d p .io)) at f)
+written-sound d p t s h f = stage-written-sound d p t s h (rw (io-length (givenIn d p) (listsHeld d p)) at f)
 
 -- what a step leads to, arm by arm
 settled-cases : (d core : List ℕ) (p : ℕ) (area : Area) (x : Step) (after : List ℕ) (P : Outcome → Type 0)

@@ -7,22 +7,16 @@ use lib.ListN.{length}
 use Rattle.word.specs.Lists.{every}
 use Rattle.word.specs.Word.{isWord}
 use Rattle.word.proofs.Cases.{and-left}
-use Rattle.word.proofs.Lists.{length-tab}
-use Rattle.lists.specs.Kept.{numberIn, numbersIn}
+use Rattle.lists.proofs.Reading.{io-length}
 use Rattle.lists.specs.Obey.{tableInside, tablesObey}
 use Rattle.stage.specs.declared.Stage.{Stage}
-use Rattle.layout.specs.Layout.{coreLength, holderIn, placeIn, stageIn, iosIn}
-use Rattle.desk.specs.Sound.{sound, ownIn, HeldFacts}
-use Rattle.desk.proofs.Facts.{held-facts}
+use Rattle.layout.specs.Layout.{coreLength, holderIn, placeIn, stageIn}
+use Rattle.desk.specs.Sound.{sound, givenIn, listsHeld, HeldFacts}
+use Rattle.desk.proofs.Facts.{held-readable, held-facts}
 use Rattle.lists.specs.Load.{Load}
-use Rattle.sections.specs.Load.{Waits}
+use Rattle.sections.specs.Load.{Waits, KeptWaits}
 use Rattle.feed.specs.Feed.{loadIn}
 use Rattle.feed.proofs.Laws.{Fit}
-
--- as many I/O numbers as there are references
-pub length-numbers : (ws : List ℕ) (n : ℕ) → length (numbersIn ws n) ≡ n
-unfolding numbersIn
-length-numbers ws n = length-tab (numberIn ws) n
 
 -- a load that waits for a block fits
 pub fit-waiting : (x : Load) (s : Stage) (block core : List ℕ) → Waits x s block core → Fit x s
@@ -43,7 +37,7 @@ module _ (d : List ℕ) (s : sound d ≡ true) (p : ℕ) (h : p < 12) (z : holde
   pub held-fit : Fit (loadIn (placeIn d p)) (stageIn (placeIn d p))
   held-fit = record {
     tables = tables-inside;
-    stage = unfold loadIn in (rw (length-numbers (iosIn (placeIn d p)) (ownIn d p .io)) (facts .stage));
+    stage = unfold loadIn in (rw (io-length (givenIn d p) (listsHeld d p)) (facts .stage));
   }
 
   -- and so does its whole block
@@ -52,10 +46,14 @@ module _ (d : List ℕ) (s : sound d ≡ true) (p : ℕ) (h : p < 12) (z : holde
   held-waits block core e l w = record {
     inside = rw e held-inside;
     most = rw e (facts .core);
-    io = unfold loadIn in (rw (length-numbers (iosIn (placeIn d p)) (ownIn d p .io)) (facts .io));
+    io = unfold loadIn in (rw (io-length (givenIn d p) (listsHeld d p)) (facts .io));
     few = unfold loadIn in (rw (facts .count) (facts .tables));
     tables = held-fit .tables;
     stage = held-fit .stage;
     long = l;
     words = w;
   }
+
+  pub held-kept-waits : (block core : List ℕ) → length core ≡ coreLength d → length block ≡ 256 → every isWord block ≡ true
+      → KeptWaits (givenIn d p) (listsHeld d p) (stageIn (placeIn d p)) block core
+  held-kept-waits block core e l w = record { lists = held-readable d s p h z; waits = unfold loadIn in (held-waits block core e l w) }

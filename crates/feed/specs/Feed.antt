@@ -1,7 +1,7 @@
 -- "Feed takes room, place and one block." Refusals 1, 2, 4, 9, 10, 11 and 12 in that order, which change nothing; then 13 to 22, which
 -- "set the whole area to zero and mark the load broken". "An accepted block answers *more*, and the termination block answers *done*
 -- with the absolute start."
-use Prim.Native.Nat.{ℕ, _+_, _≤_}
+use Prim.Native.Nat.{ℕ, _+_, _≤_, _<_}
 use mathlib.Core.Bool.{cond}
 use mathlib.Core.List.{List}
 use lib.ListN.{length}
@@ -17,29 +17,23 @@ use Rattle.stage.specs.Stage.{numbersOf}
 use Rattle.stage.specs.declared.Step.{Step}
 use Rattle.stage.specs.declared.Step.the-variants.{More as step-more, Done as step-done, Refused as step-refused}
 use Rattle.stage.specs.Record.{recordDue, isOver}
+use Rattle.word.specs.Limits.{placeCount}
+use Rattle.sections.specs.Load.{KeptWaits}
 use Rattle.lists.specs.Load.{Load, loadOf}
 use Rattle.sections.specs.Program.{StepOutcome}
-use Rattle.layout.specs.declared.Place.{Place}
-use Rattle.layout.specs.Layout.{base, placeIn, ownOf, stageIn, iosIn, wordsIn, ranksIn, holds}
+use Rattle.layout.specs.Layout.{deskWords, base, placeIn, ownOf, stageIn, stageAt, listsIn, holds}
 use Rattle.calls.specs.declared.Answer.the-variants.{Refused, More, Done}
 use Rattle.calls.specs.Outcome.{Outcome, refused}
 use Rattle.calls.specs.Entry.{entered}
 use Rattle.feed.specs.Block.{blockStep}
 
 -- what the load at a place was given, from the place's numbers
-abbrev pub loadBy : Place → List ℕ → Load
-loadBy o l = loadOf (o .area) (o .io) (wordsIn l (o .kept)) (ranksIn l (o .tables)) (iosIn l)
-
--- its kept words and its tables are no more than the place has room for
-abbrev pub Listed : Place → Type 0
-Listed o = (o .kept ≤ 128) × (o .tables ≤ 128)
-
 unfoldable pub loadIn : List ℕ → Load
-loadIn l = loadBy (ownOf l) l
+loadIn l = loadOf (ownOf l .given) (listsIn l)
 
 -- place p waits for s
 unfoldable pub staged : List ℕ → ℕ → Stage → List ℕ
-staged d p s = splice d (base p + 6) (numbersOf s)
+staged d p s = splice d (base p + stageAt) (numbersOf s)
 
 -- the area's words, all zero
 abbrev pub wiped : Area → List ℕ → List ℕ
@@ -76,3 +70,9 @@ feedOf d core r p block =
     entered d (length core) r core
     (unless (holds d r p) (refused 9 d core)
     (heldOf d core p block))
+
+-- what has been seen to before a block is taken
+pub record TakeReady (d : List ℕ) (p : ℕ) (s : Stage) (block core : List ℕ) : Type 0 where
+  pub long : length d ≡ deskWords
+  pub place : p < placeCount
+  pub load : KeptWaits (ownOf (placeIn d p) .given) (listsIn (placeIn d p)) s block core

@@ -4,17 +4,20 @@ ghost use mathlib.Core.Path.{_≡_};
 ghost use mathlib.Core.Bool.{true};
 ghost use Prim.Native.Nat.{_+_, _≤_, _<_};
 ghost use lib.ListN.{length};
-ghost use Rattle.layout.specs.Layout.{deskWords, coreLength, holderIn, placeIn, ownOf};
+ghost use Rattle.layout.specs.Layout.{deskWords, coreLength, holderIn, placeIn};
 ghost use Rattle.desk.specs.Sound.{sound};
 ghost use Rattle.calls.specs.Outcome.{Meets};
 ghost use Rattle.lists.specs.Load.{loadOf};
-ghost use Rattle.sections.specs.Load.{Waits};
+ghost use Rattle.sections.specs.Load.{KeptWaits};
 ghost use Rattle.sections.specs.Program.{StepMeets};
 ghost use Rattle.feed.specs.Block.{dueStep, blockStep};
-ghost use Rattle.feed.specs.Feed.{loadIn, staged, settledOf, takenOf, heldOf, feedOf, Listed, loadBy};
+ghost use Rattle.feed.specs.Feed.{loadIn, staged, settledOf, takenOf, heldOf, feedOf, TakeReady};
 use block::Verdict;
 use calls::Answer;
-use layout::Place;
+use layout::PLACE_WORDS;
+use layout::PLACES_AT;
+use layout::STAGE_AT;
+use lists::Given;
 use stage::Stage;
 use stage::Step;
 use word::Area;
@@ -57,58 +60,37 @@ fn feed_held(desk: &mut [u64], core: &mut [u64], p: usize, block: &[u64]) -> Ans
 
 // A block that is whole and has its checksum, for the load at place p, which waits for s.
 fn take_block(desk: &mut [u64], core: &mut [u64], p: usize, s: Stage, block: &[u64]) -> Answer
-    requires { ⌜ (length (now desk) ≡ deskWords) × (p < 12) × (Listed (ownOf (placeIn (now desk) p))) × (Waits (loadIn (placeIn (now desk) p)) s (now block) (now core)) ⌝ }
+    requires { ⌜ TakeReady (now desk) p s (now block) (now core) ⌝ }
     ensures { λ a. ⌜ Meets (takenOf (now (desk .entry)) (now (core .entry)) p (loadIn (placeIn (now (desk .entry)) p)) s (now (block .entry))) a (now (desk .exit)) (now (core .exit)) ⌝ }
 {
     let place = layout::place_at(desk, p);
     let own = layout::own_of(place);
-    let r = load_step(place, own, s, block, core);
-    settle(desk, core, p, own.area, r)
+    let g = own.given;
+    let r = load_step(g, layout::lists_of(place), s, block, core);
+    settle(desk, core, p, g.area, r)
 }
 
-// What the block leads to for the load at a place, whose own numbers are given.
-fn load_step(place: &[u64], own: Place, s: Stage, block: &[u64], core: &mut [u64]) -> Step
-    requires { ⌜ (length (now place) ≡ 303) × (Listed own) × (Waits (loadBy own (now place)) s (now block) (now core)) ⌝ }
-    ensures { λ r. ⌜ StepMeets (blockStep (loadBy own (now (place .entry))) s (now (block .entry)) (now (core .entry))) r (now (core .exit)) ⌝ }
+// What the block leads to for a load that waits for s.
+fn load_step(g: Given, lists: &[u64], s: Stage, block: &[u64], core: &mut [u64]) -> Step
+    requires { ⌜ KeptWaits g (now lists) s (now block) (now core) ⌝ }
+    ensures { λ r. ⌜ StepMeets (blockStep (loadOf g (now (lists .entry))) s (now (block .entry)) (now (core .entry))) r (now (core .exit)) ⌝ }
 {
     if !block::of_record(block, stage::record_due(s)) {
         return Step::Refused(Fault { number: 13 });
     }
-    let words = layout::words_of(place, own.kept as usize);
-    let ranks = layout::ranks_of(place, own.tables as usize);
-    due_step(
-        own.area,
-        own.io,
-        words,
-        ranks,
-        layout::ios_of(place),
-        s,
-        block,
-        core,
-    )
+    due_step(g, lists, s, block, core)
 }
 
 // A block of the record that is due.
-fn due_step(
-    area: Area,
-    io: u64,
-    words: &[u64],
-    ranks: &[u64],
-    ios: &[u64],
-    s: Stage,
-    block: &[u64],
-    core: &mut [u64],
-) -> Step
-    requires { ⌜ Waits (loadOf area io (now words) (now ranks) (now ios)) s (now block) (now core) ⌝ }
-    ensures { λ r. ⌜ StepMeets (dueStep (loadOf area io (now (words .entry)) (now (ranks .entry)) (now (ios .entry))) s (now (block .entry)) (now (core .entry))) r (now (core .exit)) ⌝ }
+fn due_step(g: Given, lists: &[u64], s: Stage, block: &[u64], core: &mut [u64]) -> Step
+    requires { ⌜ KeptWaits g (now lists) s (now block) (now core) ⌝ }
+    ensures { λ r. ⌜ StepMeets (dueStep (loadOf g (now (lists .entry))) s (now (block .entry)) (now (core .entry))) r (now (core .exit)) ⌝ }
 {
     match s {
-        Stage::Label => step::label_step(ios, io, ranks.len() as u64, block),
-        Stage::Entry(c, strict, b) => step::entry_step(area, words, ranks, io, c, strict, b, block),
-        Stage::Program(c, due) => {
-            sections::items::program_step(area, io, words, ranks, ios, c, due, block, core)
-        }
-        Stage::Termination(i) => step::termination_step(area, i, block),
+        Stage::Label => step::label_step(g, lists, block),
+        Stage::Entry(c, strict, b) => step::entry_step(g, lists, c, strict, b, block),
+        Stage::Program(c, due) => sections::items::program_step(g, lists, c, due, block, core),
+        Stage::Termination(i) => step::termination_step(g.area, i, block),
         Stage::Complete => Step::More(Stage::Complete),
         Stage::Broken => Step::More(Stage::Broken),
     }
@@ -142,5 +124,5 @@ fn write_stage(desk: &mut [u64], p: usize, s: Stage)
     ensures { λ _. ⌜ now (desk .exit) ≡ staged (now (desk .entry)) p s ⌝ }
 {
     let n = stage::stage_numbers(s);
-    word::slices::copy_in(desk, 17 + p * 303 + 6, &n);
+    word::slices::copy_in(desk, PLACES_AT + p * PLACE_WORDS + STAGE_AT, &n);
 }

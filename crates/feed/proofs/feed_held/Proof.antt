@@ -1,10 +1,10 @@
 -- `feed::feed_held`: the stage is the place's; each return by the tests that led to it. Assumes nothing.
 use mathlib.Core.Path.{refl, sym, _∙_}
 use native.Mathlib.Omega.{arith}
-use Rattle.desk.proofs.Facts.{sound-long, held-facts}
+use Rattle.desk.proofs.Facts.{sound-long}
 use Rattle.layout.proofs.Places.{place-length}
 use Rattle.feed.specs.Feed.{heldOf, checkedOf}
-use Rattle.feed.proofs.Held.{held-waits}
+use Rattle.feed.proofs.Held.{held-kept-waits}
 use Rattle.feed.proofs.Fed.{verdict-pass}
 use borrow.Author.Needs.{needs}
 use Rattle.feed.proofs.feed_held.Statement.{statement}
@@ -39,9 +39,12 @@ enum-told c = search needs
 take-block-requires : tie.Need-take-block-requires
 take-block-requires c κs = let q = c .before .before .before .before .before .before .before .before .before .before .before .before .before .before .pre in
     let e = rw (c .before .before .before .before .before .before .before .before .before .place-at .ensures) at (c .before .before .before .before .before .before .before .before .stage-of .ensures) in
-    let f = held-facts _ (q .0) _ (q .2) (λ z. omega (arith, q .3)) in
     let v = verdict-pass _ _ (sym (c .before .before .before .before .check-block .ensures) ∙ c .before .before .enum-told .given .1) in
-    (sound-long _ (q .0), q .2, (f .kept, f .tables), rw e (held-waits _ (q .0) _ (q .2) (λ z. omega (arith, q .3)) _ _ (q .1) (v .0) (v .1)))
+    record {
+      long = sound-long _ (q .0);
+      place = q .2;
+      load = rw e (held-kept-waits _ (q .0) _ (q .2) (λ z. omega (arith, q .3)) _ _ (q .1) (v .0) (v .1));
+    }
 
 enum-known-f : tie.Need-enum-known-f
 enum-known-f c = search needs
