@@ -1,16 +1,17 @@
 /* clamp.h: the CLAMP loader for an emulated UNIVAC 1107, to be linked with libclamp.a (x86-64).
 
    The loader reads program files of the 1962 CLAMP reference, a block at a time, for eight rooms at once. This header is its
-   manual: what each call takes, every answer that it can give and when, and what it leaves behind.
+   manual: what each call takes, every answer that it can give and when, and what it leaves behind. examples/host.c is a whole host;
+   a short one is at the end of this file. docs/FORMAT.md describes the file.
 
 
    WHAT THE EMULATOR KEEPS
 
-   Everything is a uint64_t. The loader keeps nothing of its own between two calls, and takes no memory: all that it knows stands
-   in a desk, which the emulator keeps and lends to each call.
+   Everything is a uint64_t. The loader keeps nothing of its own between two calls, and allocates no memory: all that it knows
+   stands in a desk, which the emulator keeps and lends to each call.
 
-     desk     clamp_desk_words() numbers. Make fills it, the other calls keep it. Do not write into it: each call tests the whole
-              desk first, and meets one that cannot be right with refusal 1. Two desks have nothing to do with each other.
+     desk     CLAMP_DESK_WORDS numbers. Make fills it, the other calls keep it. Do not write into it: each call tests the whole
+              desk first, and answers one that cannot be right with refusal 1. Two desks have nothing to do with each other.
      core     the words of the emulated core, one 36-bit word in each number, from 1 to 65,536 of them. The loader reads no core
               word, and stores only values below 2^36.
      map      which stretch of the core belongs to which room: start and length of room 0's, of room 1's, and so on to room 7's,
@@ -24,21 +25,54 @@
    to lie inside what holds it, but may start at its very end. A sum past 2^64 does not wrap: such a run lies inside nothing.
 
 
+   WORDS OF THE FILE
+
+     block          256 words of the tape. The first of a file is its label, the last its termination block.
+     entry          what the file says of one thing that it refers to by number: an I/O reference or a table.
+     I/O reference  a jump switch, a channel or a unit. Open is given the number that is to stand for it.
+     table          a core table: words of the area beside the program's own. Open is given its address and length.
+     IBANK, DBANK   the program's own two runs of words: its instructions and its data.
+     section        a part of the program blocks: the segment section has IBANK and DBANK, a table section has one table.
+     group          a run of program words with one address, and after them which of their fields are changed, and how.
+
+
    WHAT IS TAKEN ON TRUST
 
-   A pointer and the number after it lend a call so many numbers. The loader cannot see whether that is so, and trusts that
+   A pointer and the number after it lend a call that many numbers. The loader cannot see whether that is so, and trusts that
 
-     - lent memory is as long as said, and may be written where the pointer is not to const;
-     - no two slices lent to one call overlap;
-     - nothing else writes into them while the call runs.
+     - lent memory is as long as said, aligned as a uint64_t is, and may be written where the pointer is not to const;
+     - no two slices lent to one call overlap. So do not lend make a map that lies inside the desk (copy it out first), nor feed a
+       block that lies inside the core (read it into a buffer of its own);
+     - nothing else reads or writes the desk and the core, or writes into the others, while the call runs.
 
-   A slice of length 0 is not followed, so its pointer may be NULL. All other arguments may be any number whatever: a wrong one is
-   refused.
+   A slice of length 0 is not dereferenced, so its pointer may be NULL. All other arguments may be any number whatever: a wrong one
+   is refused.
+
+   What done says, that the area holds the program's image, is proved for a desk and a core that nothing but calls with this desk
+   wrote into from open to done, with the same core lent each time. A program that runs in another area between two calls does no
+   harm, since the loader reads no core word. One that writes into the load's own area does, and no call can tell.
 
 
-   ANSWERS
+   THREADS, COPIES, STACK, COST
 
-   An answer is one number: its code times 2^32, and its value. */
+   Threads. The library has no variables, so threads may call it at the same time for different desks and cores. Calls that share a
+   desk or a core must take turns, under a lock of the host's, and the emulated processor must not run on that core meanwhile.
+
+   Copies. A desk is plain numbers, without a pointer. It may be moved, copied and saved, and brought back bit by bit, at another
+   address and in another process. It knows nothing of what the core holds. So save the core with it, or at least the areas of its
+   loads, and bring both back together: a load that goes on over another core ends in another image, and no call can tell. A desk
+   is for the library that made it: save CLAMP_VERSION_STRING beside it.
+
+   Stack. Open takes at most 2,704 bytes of it, feed 2,768, release 432, make 160 (docs/PERFORMANCE.md says how they were measured).
+   No call is recursive.
+
+   Cost. Every call tests the whole desk: some 400 instructions with one load of few tables, 8,700 with twelve loads of 128 tables
+   each. To that a program block adds from 1,300 (no field changed) to 25,000 (every field), and open has the area to clear and the
+   tables to sort. No call waits, calls the operating system or calls back.
+
+   A call that does not return (longjmp out of a signal handler, a thread that is ended) may leave any desk and core: make the desk
+   again. The library has no unwind tables, because the Rattle kit makes none: a debugger that stops inside a call may not find the
+   caller, and no C++ exception may pass through a call. None can arise in one. */
 
 #ifndef CLAMP_H
 #define CLAMP_H
@@ -49,25 +83,61 @@
 extern "C" {
 #endif
 
+/* The version of this header, and of the library that it came with. The last number rises with a correction, the one before it with
+   a new call or answer; the first where a program has to change, or a saved desk is of no use any more. */
+
+#define CLAMP_VERSION_MAJOR 1
+#define CLAMP_VERSION_MINOR 0
+#define CLAMP_VERSION_PATCH 0
+#define CLAMP_VERSION_STRING "1.0.0"
+#define CLAMP_VERSION_NUMBER (CLAMP_VERSION_MAJOR * 10000 + CLAMP_VERSION_MINOR * 100 + CLAMP_VERSION_PATCH)
+
+/* How many numbers a desk has, 29,224 bytes: what clamp_desk_words() answers. Where the two differ, the program was compiled with
+   the header of another library. */
+
+#define CLAMP_DESK_WORDS 3653
+
+
+/* An answer is one number: its code times 2^32, and its value. */
+
 #define CLAMP_CODE(answer) ((uint64_t)(answer) >> 32)
 #define CLAMP_VALUE(answer) ((uint64_t)(answer) & 0xffffffffu)
 
-/* A code from 1 to 63 is a refusal's number, and the value is 0. The calls below give 1 to 22. Refusals 1 to 12 change nothing: desk
-   and core are left as they were. Of several that are due the lowest is given. Refusals 13 to 22 are feed's alone, and break the load.
+/* Whether an answer is a refusal: a code from 1 to 63, which is the refusal's number. The value is 0. */
 
-     1   the desk is not clamp_desk_words() long, or cannot be right
-     2   the core length is 0, over 65,536, or not the one that the desk was made with
-     3   the map is not eight pairs, a stretch is not inside the core, or two stretches share a word
-     4   the room is over 7
-     5   the room already holds two places
-     6   the room holds one place, and the others are kept for rooms that hold none
-     7   the area is empty, not inside the room's stretch, or shares a word with another that the room holds
-     8   a list is too long, ends in half a pair or has a number out of range; a table is not inside the area; or two tables share
-         a word
-     9   the place is over 11, free, or another room's
-     10 to 22   see feed
+#define CLAMP_IS_REFUSAL(answer) (CLAMP_CODE(answer) - 1u < 63u)
 
-   The codes from 64 on are the answers of a call that was accepted. The value is 0 but where it is named. */
+/* Refusals 1 to 12 change nothing: desk and core are left as they were. Of several that are due the lowest is given. */
+
+#define CLAMP_REFUSED_DESK 1u         /* the desk is not CLAMP_DESK_WORDS long, or cannot be right */
+#define CLAMP_REFUSED_CORE 2u         /* the core length is 0, over 65,536, or not the one that the desk was made with */
+#define CLAMP_REFUSED_MAP 3u          /* the map is not eight pairs, a stretch is not inside the core, or two share a word */
+#define CLAMP_REFUSED_ROOM 4u         /* the room is over 7 */
+#define CLAMP_REFUSED_HOLDS_TWO 5u    /* the room already holds two places */
+#define CLAMP_REFUSED_KEPT 6u         /* the room holds one place, and the free ones are kept for rooms that hold none */
+#define CLAMP_REFUSED_AREA 7u         /* the area is empty, not inside the room's stretch, or shares a word with the room's other */
+#define CLAMP_REFUSED_LISTS 8u        /* a list is too long, ends in half a pair or has a number out of range; a table is not inside
+                                         the area, or two tables share a word */
+#define CLAMP_REFUSED_PLACE 9u        /* the place is over 11, free, or another room's */
+#define CLAMP_REFUSED_ENDED 10u       /* the load is complete or broken */
+#define CLAMP_REFUSED_BLOCK 11u       /* the block is not 256 words, or a word is 2^36 or more */
+#define CLAMP_REFUSED_CHECKSUM 12u    /* the block's checksum word differs */
+
+/* Refusals 13 to 22 are feed's alone. They set the area to zero and break the load. The first fault in reading order is given, and
+   of several at one word or field the lowest. */
+
+#define CLAMP_REFUSED_RECORD 13u      /* the block is of the wrong record */
+#define CLAMP_REFUSED_TYPE_FLAG 14u   /* the label's program type flag is not 001 */
+#define CLAMP_REFUSED_LABEL 15u       /* the label is at fault */
+#define CLAMP_REFUSED_ASSIGNMENTS 16u /* the lists that were given to open do not fit the file */
+#define CLAMP_REFUSED_SECTION 17u     /* a section is at fault */
+#define CLAMP_REFUSED_GROUP 18u       /* a group is at fault */
+#define CLAMP_REFUSED_FORM 19u        /* a modification type that is not carried, or a field of the wrong form */
+#define CLAMP_REFUSED_REFERENCE 20u   /* a field refers to an entry that does not exist */
+#define CLAMP_REFUSED_VALUE 21u       /* a field's value would be outside 0 to 65,535 */
+#define CLAMP_REFUSED_START 22u       /* the start is not in the IBANK */
+
+/* The codes from 64 on are the answers of a call that was accepted. The value is 0 except where noted. */
 
 #define CLAMP_MADE 64u     /* by make */
 #define CLAMP_OPENED 65u   /* by open; the value is the place, 0 to 11 */
@@ -75,8 +145,43 @@ extern "C" {
 #define CLAMP_DONE 67u     /* by feed: the load is complete; the value is the absolute address of its start */
 #define CLAMP_RELEASED 68u /* by release */
 
+/* A code in words, for a person to read: what was refused and why, or what was accepted. It is never NULL. */
 
-/* How many numbers a desk has: always the same. Nothing is changed. */
+static inline const char *clamp_text(uint64_t code) {
+  switch (code) {
+  case CLAMP_REFUSED_DESK: return "the desk is not of its length, or cannot be right";
+  case CLAMP_REFUSED_CORE: return "the core length is 0, over 65,536, or not the desk's";
+  case CLAMP_REFUSED_MAP: return "the map is not eight pairs, or a stretch is not inside the core or shares a word with another";
+  case CLAMP_REFUSED_ROOM: return "the room is over 7";
+  case CLAMP_REFUSED_HOLDS_TWO: return "the room already holds two places";
+  case CLAMP_REFUSED_KEPT: return "the room holds a place, and the free ones are kept for rooms that hold none";
+  case CLAMP_REFUSED_AREA: return "the area is empty, not inside the room's stretch, or shares a word with the room's other";
+  case CLAMP_REFUSED_LISTS: return "a list is too long or has a wrong number, or a table is not inside the area or shares a word";
+  case CLAMP_REFUSED_PLACE: return "the place is over 11, free, or another room's";
+  case CLAMP_REFUSED_ENDED: return "the load is complete or broken";
+  case CLAMP_REFUSED_BLOCK: return "the block is not 256 words, or a word is over 36 bits";
+  case CLAMP_REFUSED_CHECKSUM: return "the block's checksum differs";
+  case CLAMP_REFUSED_RECORD: return "the block is of the wrong record";
+  case CLAMP_REFUSED_TYPE_FLAG: return "the label's program type flag is not 001";
+  case CLAMP_REFUSED_LABEL: return "the label is at fault";
+  case CLAMP_REFUSED_ASSIGNMENTS: return "the assigned numbers and tables do not fit the file";
+  case CLAMP_REFUSED_SECTION: return "a section is at fault";
+  case CLAMP_REFUSED_GROUP: return "a group is at fault";
+  case CLAMP_REFUSED_FORM: return "a modification type is not carried, or a field has the wrong form";
+  case CLAMP_REFUSED_REFERENCE: return "a field refers to an entry that does not exist";
+  case CLAMP_REFUSED_VALUE: return "a field's value would be outside 0 to 65,535";
+  case CLAMP_REFUSED_START: return "the start is not in the IBANK";
+  case CLAMP_MADE: return "made";
+  case CLAMP_OPENED: return "opened";
+  case CLAMP_MORE: return "more";
+  case CLAMP_DONE: return "done";
+  case CLAMP_RELEASED: return "released";
+  default: return "no answer of this version";
+  }
+}
+
+
+/* How many numbers a desk has, in this library: always the same, CLAMP_DESK_WORDS. Nothing is changed. */
 
 uint64_t clamp_desk_words(void);
 
@@ -147,7 +252,7 @@ uint64_t clamp_open(uint64_t *desk, uint64_t desk_len,
      block, block_len   the block: 256 words, each below 2^36. It is only read.
 
    The blocks of a file are fed in the file's order: one label, the modification blocks (none where the label counts no entries),
-   the program blocks, one termination block. Loads of several places may be fed by turns, in any order.
+   the program blocks, one termination block. Loads of several places may be interleaved in any order.
 
    Answers:
 
@@ -168,13 +273,13 @@ uint64_t clamp_open(uint64_t *desk, uint64_t desk_len,
      17, 0                a section is at fault
      18, 0                a group is at fault
      19, 0                a modification type that is not carried, or a field of the wrong form
-     20, 0                a field refers to an entry that there is not
+     20, 0                a field refers to an entry that does not exist
      21, 0                a field's value would be outside 0 to 65,535
      22, 0                the start is not in the IBANK
 
-   Refused with 1 to 12, desk and core are as they were: the load still waits for the same block. Refused with 13 to 22, every word of
-   the area is zero and the load is broken; it holds its place and area until released. In every case no core word outside the
-   area is changed. From 13 on the first fault in reading order is given, and of several at one word or field the lowest. */
+   Refused with 1 to 12, desk and core are as they were: the load still waits for the same block. Refused with 13 to 22, every word
+   of the area is zero and the load is broken; it holds its place and area until released. In every case no core word outside the
+   area is changed. */
 
 uint64_t clamp_feed(uint64_t *desk, uint64_t desk_len,
                     uint64_t *core, uint64_t core_len,
@@ -204,32 +309,37 @@ uint64_t clamp_release(uint64_t *desk, uint64_t desk_len,
 
 
 /* An example: a core of 4,096 words, all of them room 0's; a load of 64 words at 512 with one I/O reference, which is assigned 3,
-   and one core table, the area's last 16 words.
+   and one core table, the area's last 16 words. read_block gives 0 at the end of the tape; back_up goes back by one block. A tape
+   that never reads well is fed again at most three times a block. examples/host.c is the whole of this, for two rooms.
 
-     static uint64_t core[4096];
-     const uint64_t map[16] = {0, 4096};
-     const uint64_t io[1] = {3};
-     const uint64_t tables[2] = {560, 16};
-     uint64_t words = clamp_desk_words();
-     uint64_t *desk = malloc(words * sizeof *desk);
+     static uint64_t desk[CLAMP_DESK_WORDS], core[4096];
+     const uint64_t map[16] = {0, 4096}, io[1] = {3}, tables[2] = {560, 16};
      uint64_t answer, place, block[256];
+     int again = 0;
 
-     answer = clamp_make(desk, words, 4096, map, 16);
-     if (CLAMP_CODE(answer) != CLAMP_MADE)
-       return refused(CLAMP_CODE(answer));
-     answer = clamp_open(desk, words, core, 4096, 0, 512, 64, io, 1, tables, 2);
-     if (CLAMP_CODE(answer) != CLAMP_OPENED)
-       return refused(CLAMP_CODE(answer));
+     answer = clamp_make(desk, CLAMP_DESK_WORDS, 4096, map, 16);
+     if (CLAMP_IS_REFUSAL(answer))
+       return say(clamp_text(CLAMP_CODE(answer)));
+     answer = clamp_open(desk, CLAMP_DESK_WORDS, core, 4096, 0, 512, 64, io, 1, tables, 2);
+     if (CLAMP_IS_REFUSAL(answer))
+       return say(clamp_text(CLAMP_CODE(answer)));
      place = CLAMP_VALUE(answer);
-     do {
-       read_block(block);
-       answer = clamp_feed(desk, words, core, 4096, 0, place, block, 256);
-     } while (CLAMP_CODE(answer) == CLAMP_MORE);
+     while (read_block(block)) {
+       answer = clamp_feed(desk, CLAMP_DESK_WORDS, core, 4096, 0, place, block, 256);
+       if (CLAMP_CODE(answer) == CLAMP_REFUSED_CHECKSUM && again++ < 3)
+         back_up();
+       else if (CLAMP_CODE(answer) != CLAMP_MORE)
+         break;
+       else
+         again = 0;
+     }
      if (CLAMP_CODE(answer) == CLAMP_DONE)
        run_from(CLAMP_VALUE(answer));
-     answer = clamp_release(desk, words, 4096, 0, place);
-     if (CLAMP_CODE(answer) != CLAMP_RELEASED)
-       return refused(CLAMP_CODE(answer)); */
+     else if (CLAMP_IS_REFUSAL(answer))
+       say(clamp_text(CLAMP_CODE(answer)));
+     else
+       say("the tape ended before the load was complete");
+     clamp_release(desk, CLAMP_DESK_WORDS, 4096, 0, place); */
 
 #ifdef __cplusplus
 }
