@@ -1,17 +1,24 @@
-/* host.c: a small host. Two rooms load the same program at two addresses, block by block and by turns, and the host prints each
-   answer and the two areas.
+/* host.c: a small host with tapes. Two rooms hold two loads each, of one program at four addresses, and the host feeds the four in
+   turn, block by block. One tape is misread once and read again. One load is assigned a channel that does not exist, and is
+   refused. One tape is cut off. The host says how each load ended, and why, and prints the areas of those that are complete.
 
    Build it with the header and the library that `make lib` puts into build/:
 
-     cc -Ibuild examples/host.c build/libclamp.a -o host */
+     cc -Ibuild examples/host.c build/libclamp.a -o host
+
+   or, after `make install`, with what pkg-config says of them:
+
+     cc examples/host.c $(pkg-config --cflags --libs clamp) -o host */
 
 #include <inttypes.h>
 #include <stdio.h>
 #include <stdlib.h>
+#include <string.h>
 
 #include "clamp.h"
 
-enum { CORE_WORDS = 4096, BLOCK_WORDS = 256, BLOCKS = 4, LOADS = 2, AREA_WORDS = 12, TABLE_AT = 8, TABLE_WORDS = 4 };
+enum { CORE_WORDS = 4096, BLOCK_WORDS = 256, BLOCKS = 4, LOADS = 4, AGAIN_MOST = 3 };
+enum { AREA_WORDS = 12, TABLE_AT = 8, TABLE_WORDS = 4 };
 
 /* The program file, in octal; words that are not named are zero, and seal sets the checksums. It has one channel reference
    and one core table of at least two words. */
@@ -63,15 +70,30 @@ static const struct word program[] = {
     {3, 1, 0000000000001},
 };
 
-/* A load: the room, its area, the channel that it is assigned, and the place that open gives. */
-struct load {
-  uint64_t room, area, channel, place;
+/* A tape: how many blocks it has, the next to be read, and which is misread the first time (none: BLOCKS). */
+struct tape {
+  unsigned blocks, next, misread;
 };
 
-static struct load loads[LOADS] = {{0, 0001000, 3, 0}, {1, 0005000, 14, 0}};
+/* A load: the room, its area, the channel that it is assigned, and its tape; then the place that open gives and whether
+   it did, the last answer, which keeps the reason of a refusal, how often the block was read again, and whether none will follow. */
+struct load {
+  uint64_t room, area, channel;
+  struct tape tape;
+  uint64_t place, answer;
+  unsigned again;
+  int held, ended;
+};
+
+static struct load loads[LOADS] = {
+    {0, 0001000, 3, {BLOCKS, 0, 2}, 0, 0, 0, 0, 0},
+    {1, 0005000, 14, {BLOCKS, 0, BLOCKS}, 0, 0, 0, 0, 0},
+    {0, 0002000, 16, {BLOCKS, 0, BLOCKS}, 0, 0, 0, 0, 0},
+    {1, 0006000, 5, {2, 0, BLOCKS}, 0, 0, 0, 0, 0},
+};
 static uint64_t blocks[BLOCKS][BLOCK_WORDS];
 static uint64_t core[CORE_WORDS];
-static uint64_t *desk, desk_words;
+static uint64_t *desk;
 
 /* The checksum: the sum of the other words, its upper half added to its lower. It is word 254 of a label and word 255 elsewhere. */
 static void seal(uint64_t *block, unsigned at) {
@@ -89,27 +111,31 @@ static void write_blocks(void) {
     seal(blocks[i], i == 0 ? 254 : 255);
 }
 
-static void print_answer(uint64_t answer) {
-  switch (CLAMP_CODE(answer)) {
-  case CLAMP_MADE:
-    printf("made\n");
-    break;
-  case CLAMP_OPENED:
-    printf("opened, place %" PRIu64 "\n", CLAMP_VALUE(answer));
-    break;
-  case CLAMP_MORE:
-    printf("more\n");
-    break;
-  case CLAMP_DONE:
-    printf("done, start %06" PRIo64 "\n", CLAMP_VALUE(answer));
-    break;
-  case CLAMP_RELEASED:
-    printf("released\n");
-    break;
-  default:
-    printf("refused %" PRIu64 "\n", CLAMP_CODE(answer));
-    exit(1);
+/* The next block of the tape; 0 at the tape's end. */
+static int read_block(struct tape *tape, uint64_t *block) {
+  if (tape->next == tape->blocks)
+    return 0;
+  memcpy(block, blocks[tape->next], sizeof blocks[0]);
+  if (tape->next == tape->misread) {
+    block[100] ^= 1;
+    tape->misread = BLOCKS;
   }
+  tape->next++;
+  return 1;
+}
+
+static void back_up(struct tape *tape) { tape->next--; }
+
+/* A refusal has its number and its reason; to other answers that have one the value is added. */
+static void print_answer(uint64_t answer) {
+  if (CLAMP_IS_REFUSAL(answer))
+    printf("refused %" PRIu64 ": ", CLAMP_CODE(answer));
+  printf("%s", clamp_text(CLAMP_CODE(answer)));
+  if (CLAMP_CODE(answer) == CLAMP_OPENED)
+    printf(", place %" PRIu64, CLAMP_VALUE(answer));
+  if (CLAMP_CODE(answer) == CLAMP_DONE)
+    printf(", start %06" PRIo64, CLAMP_VALUE(answer));
+  printf("\n");
 }
 
 static void print_area(uint64_t area) {
@@ -117,43 +143,83 @@ static void print_area(uint64_t area) {
     printf("%06" PRIo64 ": %012" PRIo64 "\n", at, core[at]);
 }
 
+/* Opens a load; one that is refused has ended. */
 static void open_load(struct load *load) {
   const uint64_t io[1] = {load->channel}, tables[2] = {load->area + TABLE_AT, TABLE_WORDS};
-  uint64_t answer = clamp_open(desk, desk_words, core, CORE_WORDS, load->room, load->area, AREA_WORDS, io, 1, tables, 2);
-  printf("room %" PRIu64 ": ", load->room);
-  print_answer(answer);
-  load->place = CLAMP_VALUE(answer);
+  load->answer =
+      clamp_open(desk, CLAMP_DESK_WORDS, core, CORE_WORDS, load->room, load->area, AREA_WORDS, io, 1, tables, 2);
+  load->place = CLAMP_VALUE(load->answer);
+  load->held = CLAMP_CODE(load->answer) == CLAMP_OPENED;
+  load->ended = !load->held;
+  printf("room %" PRIu64 ", area %06" PRIo64 ": ", load->room, load->area);
+  print_answer(load->answer);
 }
 
-static void feed_load(const struct load *load, unsigned block) {
-  uint64_t answer = clamp_feed(desk, desk_words, core, CORE_WORDS, load->room, load->place, blocks[block], BLOCK_WORDS);
-  printf("room %" PRIu64 ", block %u: ", load->room, block);
-  print_answer(answer);
+/* Feeds a load its tape's next block. After refusal 12 nothing is changed, and the tape is backed up so that the block is read
+   again. The load ends with its tape, with an answer that is not `more`, or with a block that never reads well. */
+static void feed_load(struct load *load) {
+  uint64_t block[BLOCK_WORDS];
+  if (!read_block(&load->tape, block)) {
+    load->ended = 1;
+    return;
+  }
+  load->answer = clamp_feed(desk, CLAMP_DESK_WORDS, core, CORE_WORDS, load->room, load->place, block, BLOCK_WORDS);
+  printf("place %" PRIu64 ", block %u: ", load->place, load->tape.next - 1);
+  print_answer(load->answer);
+  if (CLAMP_CODE(load->answer) == CLAMP_REFUSED_CHECKSUM && load->again < AGAIN_MOST) {
+    load->again++;
+    back_up(&load->tape);
+  } else if (CLAMP_CODE(load->answer) == CLAMP_MORE)
+    load->again = 0;
+  else
+    load->ended = 1;
 }
 
-static void release_load(const struct load *load) {
-  uint64_t answer = clamp_release(desk, desk_words, CORE_WORDS, load->room, load->place);
-  printf("room %" PRIu64 ": ", load->room);
-  print_answer(answer);
+/* Says how a load ended, and releases the place if it was given one. */
+static void close_load(const struct load *load) {
+  printf("room %" PRIu64 ", area %06" PRIo64 ": ", load->room, load->area);
+  if (CLAMP_IS_REFUSAL(load->answer) || CLAMP_CODE(load->answer) == CLAMP_DONE)
+    print_answer(load->answer);
+  else
+    printf("the tape ended before the load was complete\n");
+  if (CLAMP_CODE(load->answer) == CLAMP_DONE)
+    print_area(load->area);
+  if (load->held)
+    print_answer(clamp_release(desk, CLAMP_DESK_WORDS, CORE_WORDS, load->room, load->place));
 }
 
 int main(void) {
   static const uint64_t map[16] = {0, 2048, 2048, 2048}; /* rooms 0 and 1 have half of the core each, the others no words */
-  desk_words = clamp_desk_words();
-  desk = malloc(desk_words * sizeof *desk);
-  if (desk == NULL)
+  uint64_t answer;
+  unsigned waiting = LOADS;
+  if (clamp_desk_words() != CLAMP_DESK_WORDS) {
+    fprintf(stderr, "host: clamp.h is not this library's\n");
     return 1;
+  }
+  desk = malloc(CLAMP_DESK_WORDS * sizeof *desk);
+  if (desk == NULL) {
+    fprintf(stderr, "host: no memory for a desk\n");
+    return 1;
+  }
   write_blocks();
-  print_answer(clamp_make(desk, desk_words, CORE_WORDS, map, 16));
+  answer = clamp_make(desk, CLAMP_DESK_WORDS, CORE_WORDS, map, 16);
+  print_answer(answer);
+  if (CLAMP_IS_REFUSAL(answer)) {
+    free(desk);
+    return 1;
+  }
   for (unsigned i = 0; i < LOADS; i++)
     open_load(&loads[i]);
-  for (unsigned block = 0; block < BLOCKS; block++)
+  while (waiting > 0) {
+    waiting = 0;
     for (unsigned i = 0; i < LOADS; i++)
-      feed_load(&loads[i], block);
-  for (unsigned i = 0; i < LOADS; i++) {
-    print_area(loads[i].area);
-    release_load(&loads[i]);
+      if (!loads[i].ended) {
+        feed_load(&loads[i]);
+        waiting++;
+      }
   }
+  for (unsigned i = 0; i < LOADS; i++)
+    close_load(&loads[i]);
   free(desk);
   return 0;
 }
