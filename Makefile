@@ -1,31 +1,69 @@
-# make lib: the library and its header, in build/.  make test-c: the tests in C over it.  make fuzz SECONDS=60: it and the second
-# loader compared for so long, with a seed from the clock.  make load <FILE: the load printer on any file of octal lines.  make deck:
-# the load printer on the hand deck.  make check: the gate, as .ci/run.
-.PHONY: lib test-c fuzz load deck check
+# make help lists the targets. What is proved already is not proved again: a target is made when a file of a crate that it needs is
+# newer.
+.PHONY: all help lib printer load deck install test test-c fuzz check clean
+.DELETE_ON_ERROR:
 
+PREFIX = /usr/local
 SECONDS = 60
 
-# x86-64 code, whatever the machine
-lib:
-	@rt staticlib clamp
-	@mkdir -p build
-	@cp target/staticlib/libclamp.a include/clamp.h build/
+all: lib printer
 
-test-c:
+help:
+	@echo 'make all       the library and the load printer'
+	@echo 'make lib       the library for the emulator (x86-64): build/libclamp.a and build/clamp.h'
+	@echo 'make install   both, and clamp.pc for pkg-config, below PREFIX ($(PREFIX)), or DESTDIR/PREFIX'
+	@echo 'make load <FILE         the load printer on a file of octal lines'
+	@echo 'make deck      the load printer on the hand deck'
+	@echo 'make test      the tests outside Rattle: the library by programs in C, the header, the install, the load printer'
+	@echo 'make fuzz SECONDS=60    the library and the second loader compared for so many seconds, with a seed from the clock'
+	@echo 'make check     the gate: every crate proved from nothing, every wrong loader refused, and the tests'
+	@echo 'make clean     removes build/ and target/: everything is then proved again'
+	@echo 'What is not proved yet is proved first, which takes about 5 minutes on two cores. It needs rt, the Rattle kit.'
+
+# what a crate is made from: every file of it and of the crates that it needs, the folders (a file may be gone), the list of crates, the kit
+kit := $(patsubst %/docs/START-HERE.md,%,$(shell command -v rt >/dev/null && rt doc))
+sources = crates.txt $(wildcard $(kit)/KIT-ID) \
+	$(shell find $(patsubst %,crates/%,$(shell tools/prove --needs $(1))) -name must-fail -prune -o -print)
+
+lib: build/libclamp.a build/clamp.h
+	@echo 'build/libclamp.a and build/clamp.h: ready'
+
+build/libclamp.a: $(call sources,clamp)
+	@tools/prove --library clamp
+	@mkdir -p build
+	@cp target/staticlib/libclamp.a build/
+
+build/clamp.h: include/clamp.h
+	@mkdir -p build
+	@cp include/clamp.h build/
+
+printer: build/load_printer
+
+build/load_printer: $(call sources,load_printer)
+	@tools/prove load_printer
+	@mkdir -p build
+	@cp target/bin/load_printer build/
+
+# Run as rt runs a program: under the kit's loader and C library and, where the machine is not an x86-64, under the kit's emulator.
+toolchain = $(kit)/on/$(shell uname -m)/toolchain
+load: build/load_printer
+	@command -v rt >/dev/null || { echo 'load: the program rt of the Rattle kit is not on the path' >&2; exit 2; }
+	@$(wildcard $(toolchain)/bin/qemu-x86_64) $(toolchain)/lib/ld-linux-x86-64.so.2 --library-path $(toolchain)/lib build/load_printer
+
+deck:
+	@$(MAKE) -s load <crates/load_printer/stdin
+
+install: build/libclamp.a build/clamp.h
+	@tools/install '$(DESTDIR)' '$(PREFIX)'
+
+test test-c:
 	@bash tests/run
 
 fuzz:
 	@bash tests/run fuzz $(SECONDS)
 
-# Run as rt runs a program: under the kit's loader and C library and, where the machine is not an x86-64, under the kit's emulator.
-# rt itself must not read the file.
-load: kit = $(patsubst %/docs/START-HERE.md,%,$(shell rt doc))/on/$(shell uname -m)/toolchain
-load:
-	@rt check load_printer </dev/null >/dev/null || { cat target/log/load_printer.out; exit 1; }
-	@$(wildcard $(kit)/bin/qemu-x86_64) $(kit)/lib/ld-linux-x86-64.so.2 --library-path $(kit)/lib target/bin/load_printer
-
-deck:
-	@$(MAKE) -s load <crates/load_printer/stdin
-
 check:
 	@bash .ci/run
+
+clean:
+	@rm -rf build target
