@@ -1,0 +1,144 @@
+/* header.c: what clamp.h says beside its calls: versions, the desk's length, names and words of the codes, and that a desk is plain
+   numbers that may be copied, saved and brought back. C99, C11 and C++; tests/header builds and runs it as each. */
+#include <stdio.h>
+#include <string.h>
+
+#include "clamp.h"
+
+static unsigned long passed, failed;
+
+static void check(int ok, const char *what) {
+  if (ok) {
+    passed++;
+    return;
+  }
+  failed++;
+  printf("header: not so: %s\n", what);
+}
+
+/* ---- versions and lengths */
+
+static void check_numbers(void) {
+  char version[64];
+  uint64_t desk[CLAMP_DESK_WORDS];
+  check(clamp_desk_words() == CLAMP_DESK_WORDS, "CLAMP_DESK_WORDS is what clamp_desk_words() answers");
+  check(sizeof desk == 29224, "a desk has 29,224 bytes");
+  sprintf(version, "%d.%d.%d", CLAMP_VERSION_MAJOR, CLAMP_VERSION_MINOR, CLAMP_VERSION_PATCH);
+  check(strcmp(version, CLAMP_VERSION_STRING) == 0, "the version's string is its three numbers");
+  check(CLAMP_VERSION_NUMBER == CLAMP_VERSION_MAJOR * 10000 + CLAMP_VERSION_MINOR * 100 + CLAMP_VERSION_PATCH, "the version's number");
+}
+
+/* ---- codes */
+
+static const uint64_t refusals[] = {CLAMP_REFUSED_DESK, CLAMP_REFUSED_CORE, CLAMP_REFUSED_MAP, CLAMP_REFUSED_ROOM,
+                                    CLAMP_REFUSED_HOLDS_TWO, CLAMP_REFUSED_KEPT, CLAMP_REFUSED_AREA, CLAMP_REFUSED_LISTS,
+                                    CLAMP_REFUSED_PLACE, CLAMP_REFUSED_ENDED, CLAMP_REFUSED_BLOCK, CLAMP_REFUSED_CHECKSUM,
+                                    CLAMP_REFUSED_RECORD, CLAMP_REFUSED_TYPE_FLAG, CLAMP_REFUSED_LABEL, CLAMP_REFUSED_ASSIGNMENTS,
+                                    CLAMP_REFUSED_SECTION, CLAMP_REFUSED_GROUP, CLAMP_REFUSED_FORM, CLAMP_REFUSED_REFERENCE,
+                                    CLAMP_REFUSED_VALUE, CLAMP_REFUSED_START};
+static const uint64_t accepted[] = {CLAMP_MADE, CLAMP_OPENED, CLAMP_MORE, CLAMP_DONE, CLAMP_RELEASED};
+
+enum { REFUSALS = sizeof refusals / sizeof refusals[0], ACCEPTED = sizeof accepted / sizeof accepted[0] };
+
+static uint64_t calls;
+static uint64_t counted(uint64_t answer) {
+  calls++;
+  return answer;
+}
+
+static void check_codes(void) {
+  const char *const none = clamp_text(0);
+  uint64_t code, other;
+  unsigned i;
+  check(REFUSALS == 22, "22 refusals have names");
+  for (i = 0; i < REFUSALS; i++)
+    check(refusals[i] == i + 1, "each name has its number");
+  for (i = 0; i < ACCEPTED; i++)
+    check(accepted[i] == 64 + i, "each accepted answer has its number");
+  for (code = 0; code < 200; code++) {
+    int named = (code >= 1 && code <= REFUSALS) || (code >= 64 && code < 64 + ACCEPTED);
+    check((strcmp(clamp_text(code), none) != 0) == named, "just the answers of this version have words");
+    check((CLAMP_IS_REFUSAL(code << 32) != 0) == (code >= 1 && code <= 63), "codes 1 to 63 are refusals");
+    check((CLAMP_IS_REFUSAL((code << 32) + 0xffffffffu) != 0) == (code >= 1 && code <= 63), "whatever the value");
+    for (other = 0; other < code; other++)
+      if (named)
+        check(strcmp(clamp_text(code), clamp_text(other)) != 0, "no two answers have the same words");
+  }
+  check(strcmp(clamp_text(UINT64_MAX), none) == 0, "a number that is no code has words");
+  check(CLAMP_CODE(((uint64_t)67 << 32) + 65535) == 67 && CLAMP_VALUE(((uint64_t)67 << 32) + 65535) == 65535, "an answer taken apart");
+  check(CLAMP_IS_REFUSAL(counted((uint64_t)12 << 32)) && calls == 1, "the macro evaluates its argument once");
+  check(CLAMP_VALUE(counted(7)) + CLAMP_CODE(counted(7)) == 7 && calls == 3, "the macros evaluate their argument once");
+}
+
+/* ---- a desk that is saved and brought back */
+
+/* The hand deck's three blocks. */
+static uint64_t blocks[3][256];
+
+static void write_deck(void) {
+  blocks[0][0] = blocks[0][255] = 060505050505;
+  blocks[0][1] = 050505050505;
+  blocks[0][2] = 0100000000000;
+  blocks[0][253] = 01000000;
+  blocks[0][254] = 0503637;
+  blocks[1][0] = 0502527242710;
+  blocks[1][1] = 01000000;
+  blocks[1][5] = 0401001400000;
+  blocks[1][6] = 7;
+  blocks[1][7] = 0200000000000;
+  blocks[1][255] = 01146450;
+  blocks[2][0] = 0503127222710;
+  blocks[2][255] = 0726037;
+}
+
+struct state {
+  uint64_t before; /* so that the two desks do not stand alike */
+  uint64_t desk[CLAMP_DESK_WORDS], core[4096];
+};
+
+static struct state first, second;
+static unsigned char saved[sizeof first.desk + sizeof first.core];
+
+static uint64_t fed(struct state *state, unsigned block) {
+  return clamp_feed(state->desk, CLAMP_DESK_WORDS, state->core, 4096, 0, 0, blocks[block], 256);
+}
+
+static int same(void) {
+  return memcmp(first.desk, second.desk, sizeof first.desk) == 0 && memcmp(first.core, second.core, sizeof first.core) == 0;
+}
+
+/* At every point of a load desk and core are saved as bytes and brought back elsewhere; both go on in the same way to the end. */
+static void check_saved(void) {
+  uint64_t map[16] = {0, 4096};
+  unsigned point, block;
+  write_deck();
+  for (point = 0; point <= 3; point++) {
+    memset(&first, 0x5a, sizeof first);
+    memset(&second, 0xa5, sizeof second);
+    check(CLAMP_CODE(clamp_make(first.desk, CLAMP_DESK_WORDS, 4096, map, 16)) == CLAMP_MADE, "made");
+    check(clamp_open(first.desk, CLAMP_DESK_WORDS, first.core, 4096, 0, 512, 64, NULL, 0, NULL, 0) == (uint64_t)CLAMP_OPENED << 32,
+          "opened, with lists of length 0 at NULL");
+    for (block = 0; block < point; block++)
+      fed(&first, block);
+    memcpy(saved, first.desk, sizeof first.desk);
+    memcpy(saved + sizeof first.desk, first.core, sizeof first.core);
+    memcpy(second.desk, saved, sizeof second.desk);
+    memcpy(second.core, saved + sizeof second.desk, sizeof second.core);
+    for (; block < 3; block++) {
+      uint64_t answer = fed(&first, block);
+      check(answer == ((uint64_t)(block < 2 ? CLAMP_MORE : CLAMP_DONE) << 32) + (block < 2 ? 0 : 512), "the load goes on");
+      check(fed(&second, block) == answer && same(), "so does the one brought back");
+    }
+    check(first.core[512] == 01007, "the program's word");
+    check(CLAMP_CODE(clamp_release(second.desk, CLAMP_DESK_WORDS, 4096, 0, 0)) == CLAMP_RELEASED, "released");
+    check(clamp_release(first.desk, CLAMP_DESK_WORDS - 1, 4096, 0, 0) == (uint64_t)CLAMP_REFUSED_DESK << 32, "a part of a desk");
+  }
+}
+
+int main(void) {
+  check_numbers();
+  check_codes();
+  check_saved();
+  printf("%lu passed, %lu failed\n", passed, failed);
+  return failed != 0;
+}
