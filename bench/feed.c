@@ -2,7 +2,7 @@
    copying and summing 256 words. Nanoseconds of processor time a call, the least of many batches; the batches take turns. Run by
    bench/run.
 
-     feed                     the table
+     feed                     a line for each call, parted by tabs: its name, and the nanoseconds of library, peer, reader and copy
      feed once LOADER-CALL N  one call between begin_call and end_call, for bench/run to count its instructions; N is few or full,
                               or falling for open, or how many groups the block of a call of that name has */
 #include <stdio.h>
@@ -138,9 +138,9 @@ static void row(const char *name, by_each call, unsigned calls) {
       if (t < best[k])
         best[k] = t;
     }
-  printf("%-52s %9.0f", name, best[0]);
-  for (unsigned k = 1; k <= LOADERS; k++)
-    printf(" %9.0f %7.2f", best[k], best[0] / best[k]);
+  printf("%s", name);
+  for (unsigned k = 0; k <= LOADERS; k++)
+    printf("\t%.1f", best[k]);
   printf("\n");
   fflush(stdout);
 }
@@ -180,7 +180,6 @@ static void opened_row(const char *name, unsigned loads, int falling) {
 }
 
 static int table(void) {
-  printf("%-52s %9s %9s %7s %9s %7s %9s %7s\n", "call", "clamp", "peer", "ratio", "reader", "ratio", "floor", "ratio");
   make_desk(1, few);
   fed_rows("one load", few);
   make_desk(12, full);

@@ -1,5 +1,6 @@
 /* How much stack each call takes. The call runs on a stack that was filled with a pattern; what is no longer pattern was used.
-   Prints for each call the most of many, in bytes below the caller's own frame (with the return address). Run by bench/run. */
+   Prints for each call its name, a tab, and the most of many, in bytes below the caller's own frame (with the return address). Run by
+   bench/run. */
 #include <stdio.h>
 #include <stdlib.h>
 #include <string.h>
@@ -25,9 +26,6 @@ static void open(void) { answer = clamp_open(desk, 3653, core, CORE, room, area,
 static void feed(void) { answer = clamp_feed(desk, 3653, core, CORE, room, place, block, 256); }
 static void release(void) { answer = clamp_release(desk, 3653, CORE, room, place); }
 static void words(void) { answer = clamp_desk_words(); }
-
-/* The calls above are made from here, and need a few bytes for arguments: `none` says how many. */
-static void none(void) { __asm__ volatile(""); }
 
 static void run(void) {
   __asm__ volatile("mov %%rsp, %0" : "=r"(from));
@@ -111,10 +109,7 @@ int main(void) {
   note(RELEASE, release, 9);
   answer = (uint64_t)1 << 32;
   note(WORDS, words, 0);
-  unsigned base = depth(none);
-  printf("stack in bytes, with the caller's %u:", base);
   for (unsigned i = 0; i < 5; i++)
-    printf(" %s %u", names[i], most[i]);
-  printf("\n");
+    printf("%s\t%u\n", names[i], most[i]);
   return 0;
 }
