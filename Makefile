@@ -18,7 +18,7 @@ help:
 	@echo 'make fuzz SECONDS=60    the library and the second loader compared for so many seconds, with a seed from the clock'
 	@echo 'make check     the gate: every crate proved from nothing, every wrong loader refused, and the tests'
 	@echo 'make clean     removes build/ and target/: everything is then proved again'
-	@echo 'What is not proved yet is proved first, which takes about 5 minutes on two cores. It needs rt, the Rattle kit.'
+	@echo 'What is not proved yet is proved first, which takes about 4 minutes on two cores. It needs rt, the Rattle kit.'
 
 # what a crate is made from: every file of it and of the crates that it needs, the folders (a file may be gone), the list of crates, the kit
 kit := $(patsubst %/docs/START-HERE.md,%,$(shell command -v rt >/dev/null && rt doc))
