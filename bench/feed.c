@@ -56,7 +56,7 @@ static void all_make(void) {
   expect(clamp_make(desk, 3653, CORE, map, 16), peer_make(peer_desk, 3653, CORE, map, 16), reader_make(&second, CORE, map, 16), 64);
 }
 
-/* So many loads (at most twelve: rooms 0 to 3 hold two each, rooms 4 to 7 one), the first of them with its segment section read. */
+/* A desk with this many loads (at most twelve: rooms 0 to 3 hold two each, rooms 4 to 7 one), the first of them with its segment section read. */
 static void make_desk(unsigned loads, struct entries entries) {
   all_make();
   for (unsigned k = 0; k < loads; k++) {

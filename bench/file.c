@@ -99,7 +99,7 @@ static uint64_t next_word(struct bits *bits, unsigned i, enum shape shape, struc
   }
 }
 
-/* A group at word `at` whose identifier, program words and indicators are at most so many words. A last indicator word that no bit
+/* A group at word `at` whose identifier, program words and indicators are at most this many words. A last indicator word that no bit
    needs is none: such a group is one word shorter. Gives how many program words it has; its first is word `from` of the file. */
 static unsigned write_group(uint64_t *block, unsigned at, unsigned most, unsigned from, enum shape shape, struct entries entries) {
   static struct bits bits;

@@ -85,7 +85,7 @@ static bool same(const uint64_t *one, const uint64_t *other, uint64_t length) {
 
 static uint64_t compared, changed_desks, changed_codes[CODES];
 static struct memory desks[2], cores[2];
-static struct chance turn; /* begins anew with each round, so that a round can be done again alone */
+static struct chance turn; /* begins again with each round, so that a round can be done again alone */
 static uint64_t turn_of = UINT64_MAX;
 
 static void print_counts(void) {
