@@ -2,6 +2,7 @@
 # newer.
 .PHONY: all help lib printer load deck install test test-c fuzz check clean
 .DELETE_ON_ERROR:
+.NOTPARALLEL:
 
 PREFIX = /usr/local
 SECONDS = 60
@@ -20,7 +21,8 @@ help:
 	@echo 'make clean     removes build/ and target/: everything is then proved again'
 	@echo 'What is not proved yet is proved first, which takes about 4 minutes on two cores. It needs rt, the Rattle kit.'
 
-# what a crate is made from: every file of it and of the crates that it needs, the folders (a file may be gone), the list of crates, the kit
+# what a crate is made from: the files of it and of the crates that it needs, their folders (a file may be gone), the list of crates
+# and the kit
 kit := $(patsubst %/docs/START-HERE.md,%,$(shell command -v rt >/dev/null && rt doc))
 sources = crates.txt $(wildcard $(kit)/KIT-ID) \
 	$(shell find $(patsubst %,crates/%,$(shell tools/prove --needs $(1))) -name must-fail -prune -o -print)
