@@ -75,8 +75,8 @@ struct tape {
   unsigned blocks, next, misread;
 };
 
-/* A load: the room, its area, the channel that it is assigned, and its tape; then the place that open gives and whether
-   it did, the last answer, which keeps the reason of a refusal, how often the block was read again, and whether none will follow. */
+/* A load: the room, its area, the channel that it is assigned, and its tape; then the place that open gives, the last answer, which
+   keeps the reason of a refusal, how often its block was read again, whether the place is held, and whether no block will follow. */
 struct load {
   uint64_t room, area, channel;
   struct tape tape;

@@ -32,7 +32,7 @@
      I/O reference  a jump switch, a channel or a unit. Open is given the number that is to stand for it.
      table          a core table: words of the area beside the program's own. Open is given its address and length.
      IBANK, DBANK   the program's own two runs of words: its instructions and its data.
-     section        a part of the program blocks: the segment section has IBANK and DBANK, a table section has one table.
+     section        a part of the program blocks: the segment section fills IBANK and DBANK, a table section fills one table.
      group          a run of program words with one address, and after them which of their fields are changed, and how.
 
 
@@ -63,8 +63,8 @@
    loads, and bring both back together: a load that goes on over another core ends in another image, and no call can tell. A desk
    is for the library that made it: save CLAMP_VERSION_STRING beside it.
 
-   Stack. Open takes at most 2,704 bytes of it, feed 2,768, release 432, make 160 (docs/PERFORMANCE.md says how they were measured).
-   No call is recursive.
+   Stack. Measured, the most of many calls: 2,704 bytes in open, 2,768 in feed, 432 in release, 160 in make (docs/PERFORMANCE.md). The
+   first call that copies memory may take some 3 KB more, where the dynamic linker then looks for memcpy. No call is recursive.
 
    Cost. Every call tests the whole desk: some 400 instructions with one load of few tables, 8,700 with twelve loads of 128 tables
    each. To that a program block adds from 1,300 (no field changed) to 25,000 (every field), and open has the area to clear and the
