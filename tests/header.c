@@ -1,9 +1,11 @@
 /* header.c: what clamp.h says beside its calls: versions, the desk's length, names and words of the codes, and that a desk is plain
-   numbers that may be copied, saved and brought back. C99, C11 and C++; tests/header builds and runs it as each. */
+   numbers that may be copied, saved and brought back. C99, C11 and C++; tests/header builds it as each, and runs it with the hand deck
+   on standard input. */
 #include <stdio.h>
 #include <string.h>
 
 #include "clamp.h"
+#include "hand_deck.h"
 
 static unsigned long passed, failed;
 
@@ -72,25 +74,6 @@ static void check_codes(void) {
 
 /* ---- a desk that is saved and brought back */
 
-/* The hand deck's three blocks. */
-static uint64_t blocks[3][256];
-
-static void write_deck(void) {
-  blocks[0][0] = blocks[0][255] = 060505050505;
-  blocks[0][1] = 050505050505;
-  blocks[0][2] = 0100000000000;
-  blocks[0][253] = 01000000;
-  blocks[0][254] = 0503637;
-  blocks[1][0] = 0502527242710;
-  blocks[1][1] = 01000000;
-  blocks[1][5] = 0401001400000;
-  blocks[1][6] = 7;
-  blocks[1][7] = 0200000000000;
-  blocks[1][255] = 01146450;
-  blocks[2][0] = 0503127222710;
-  blocks[2][255] = 0726037;
-}
-
 struct state {
   uint64_t before; /* so that the two desks do not stand alike */
   uint64_t desk[CLAMP_DESK_WORDS], core[4096];
@@ -100,7 +83,7 @@ static struct state first, second;
 static unsigned char saved[sizeof first.desk + sizeof first.core];
 
 static uint64_t fed(struct state *state, unsigned block) {
-  return clamp_feed(state->desk, CLAMP_DESK_WORDS, state->core, 4096, 0, 0, blocks[block], 256);
+  return clamp_feed(state->desk, CLAMP_DESK_WORDS, state->core, 4096, 0, 0, deck[block], 256);
 }
 
 static int same(void) {
@@ -111,7 +94,6 @@ static int same(void) {
 static void check_saved(void) {
   uint64_t map[16] = {0, 4096};
   unsigned point, block;
-  write_deck();
   for (point = 0; point <= 3; point++) {
     memset(&first, 0x5a, sizeof first);
     memset(&second, 0xa5, sizeof second);
@@ -136,6 +118,7 @@ static void check_saved(void) {
 }
 
 int main(void) {
+  read_deck();
   check_numbers();
   check_codes();
   check_saved();
