@@ -11,25 +11,27 @@ use Rattle.word.specs.Runs.{apart}
 use Rattle.word.specs.Fault.{fault}
 use Rattle.word.specs.declared.Area.{Area}
 use Rattle.word.proofs.Cases.{and-left}
-use Rattle.word.proofs.Lists.{range-splice-same, length-splice, splice-lent}
+use Rattle.word.proofs.Lists.{length-range, range-lent, range-splice-after, length-splice, splice-whole, splice-lent}
 use Rattle.map.specs.declared.Stretch.{Stretch}
 use Rattle.map.specs.Map.{mapOf, none}
 use Rattle.rooms.specs.Rooms.{placeRefusal, lowestFree}
 use Rattle.lists.specs.Obey.{tablesOf, listsObey}
-use Rattle.lists.specs.Keep.{numbersKept, wordsKept, ranksKept, Takes}
+use Rattle.lists.specs.Keep.{wordsKept, Takes}
+use Rattle.lists.specs.Load.{givenBy, keptLists, Keepable}
 use Rattle.lists.specs.declared.Taken.the-variants.{Words}
 use Rattle.lists.proofs.Keep.{lists-obey}
 use Rattle.lists.proofs.Take.{taken-words}
 use Rattle.lists.proofs.Lent.{lent-length}
-use Rattle.lists.proofs.Numbers.{numbers-kept-length}
-use Rattle.lists.proofs.Ranks.{words-few, ranks-length}
+use Rattle.lists.proofs.Back.{lent-start, kept-long}
+use Rattle.lists.proofs.Ranks.{words-few}
 use Rattle.stage.specs.Stage.{numbersOf}
-use Rattle.layout.specs.Layout.{coreLength, mapNumbers, base, places, holderOf, ownOf, holders}
+use Rattle.layout.specs.Layout.{deskWords, coreLength, mapNumbers, base, placeIn, places, holderOf, ownOf, listsIn, holders}
+use Rattle.layout.proofs.Places.{lists-length}
 use Rattle.desk.specs.Sound.{areaIn, sound}
 use Rattle.desk.proofs.Facts.{core-small, stretch-in-core}
 use Rattle.calls.specs.declared.Answer.the-variants.{Refused, Opened}
 use Rattle.calls.specs.Outcome.{Meets}
-use Rattle.calls.specs.Open.{besideOwn, areaFits, openedOwn, openedDesk, opened, grantOf}
+use Rattle.calls.specs.Open.{besideOwn, areaFits, openedOwn, openedPlace, openedDesk, opened, grantOf}
 
 -- ---- an area that fits lies in its room's stretch, and so in the core
 module _ (d : List ℕ) (s : sound d ≡ true) (r : ℕ) (a : Area) (h : r < 8) (q : areaFits d r a ≡ true) where
@@ -62,20 +64,22 @@ module _ (d : List ℕ) (r : ℕ) (a : Area) (m : List Stretch) (e : m ≡ mapOf
   unfolding areaFits
   area-inside b q p = rw (← e, q) p
 
--- ---- the lists as they are copied: an array that begins with vs, lent as far as vs goes
-lent-start : (l vs ws : List ℕ) (n : ℕ) → ws ≡ splice l 0 vs → n ≡ length vs → length vs ≤ length l → take n ws ≡ vs
-unfolding range
-lent-start l vs ws n e k h = rw (e, k) (range-splice-same l 0 vs (omega arith))
+-- ---- a part of a list lent, and all of it written
+lent-whole : (l : List ℕ) (a n : ℕ) (vs : List ℕ) → a + n ≤ length l → length vs ≡ n
+    → take a l ++ (vs ++ drop (a + n - a) (drop a l)) ≡ splice l a vs
+lent-whole l a n vs h k =
+    let t = take (a + n - a) (drop a l) in
+    let e : length vs ≡ length t = k ∙ sym (ap length (range-lent l a n) ∙ length-range l a n h) in
+    rw (splice-whole t vs e) at (splice-lent l a n vs h (omega arith))
 
+-- the numbers of place p, from b on
+pub place-long : (d : List ℕ) (p b : ℕ) → length d ≡ deskWords → p < 12 → b ≡ base p → length (take (b + 303 - b) (drop b d)) ≡ 303
+place-long d p b n h e = ap length (range-lent d b 303) ∙ length-range d b 303 (omega arith)
+
+-- ---- the words of the tables, in the array that they were taken to
 lent-inside : (l vs ws : List ℕ) (n : ℕ) → ws ≡ splice l 0 vs → n ≡ length vs → length vs ≤ length l → n ≤ length ws
 lent-inside l vs ws n e k h = rw (e, length-splice l 0 vs (omega arith)) (omega arith)
 
-pub numbers-lent : (l ios ws : List ℕ) → ws ≡ splice l 0 (numbersKept ios) → length ios ≤ 128 → 32 ≤ length l
-    → take ((length ios + 3) / 4) ws ≡ numbersKept ios
-numbers-lent l ios ws e h k =
-    let n = numbers-kept-length ios in lent-start l (numbersKept ios) ws ((length ios + 3) / 4) e (sym n) (omega arith)
-
--- the words of the tables, in the array that they were taken to
 module _ (a : Area) (ios tables l ws : List ℕ) (n : ℕ) (t : Takes a ios tables l (Words n) ws) (h : length l ≡ 128) where
   few-words : length (wordsKept (tablesOf tables)) ≤ length l
   few-words =
@@ -90,24 +94,56 @@ module _ (a : Area) (ios tables l ws : List ℕ) (n : ℕ) (t : Takes a ios tabl
 
 -- ---- a place written
 module _ (r : ℕ) (a : Area) (ios tables : List ℕ) where
+  pub own-length : length (openedOwn r (givenBy a ios tables)) ≡ 15
+  unfolding openedOwn numbersOf
+  own-length = refl
+
   own-written : (n : ℕ) → n ≡ length (wordsKept (tablesOf tables))
-      → ((r + 1) ∷ a .at .0 ∷ a .size ∷ length ios ∷ (length tables / 2) ∷ n ∷ 0 ∷ 0 ∷ 0 ∷ 0 ∷ 0 ∷ 0 ∷ 0 ∷ 0 ∷ 0 ∷ []) ≡ openedOwn r a ios tables
+      → ((r + 1) ∷ a .at .0 ∷ a .size ∷ length ios ∷ (length tables / 2) ∷ n ∷ 0 ∷ 0 ∷ 0 ∷ 0 ∷ 0 ∷ 0 ∷ 0 ∷ 0 ∷ 0 ∷ [])
+      ≡ openedOwn r (givenBy a ios tables)
   unfolding openedOwn numbersOf
   own-written n e = rw (e, lent-length tables)
 
-  pub desk-written : (d : List ℕ) (p : ℕ) (e f g ws rs : List ℕ)
-      → ws ≡ wordsKept (tablesOf tables)
-      → e ≡ splice d (base p) ((r + 1) ∷ a .at .0 ∷ a .size ∷ length ios ∷ (length tables / 2) ∷ length ws ∷ 0 ∷ 0 ∷ 0 ∷ 0 ∷ 0 ∷ 0 ∷ 0 ∷ 0 ∷ 0 ∷ [])
-      → f ≡ splice e (base p + 15) (numbersKept ios)
-      → g ≡ splice f (base p + 47) ws
-      → base p + 303 ≤ length g → length (tablesOf tables) ≤ 128
-      → rs ≡ splice (take (base p + 175 + 128 - (base p + 175)) (drop (base p + 175) g)) 0 (ranksKept (tablesOf tables))
-      → take (base p + 175) g ++ (rs ++ drop (base p + 175 + 128 - (base p + 175)) (drop (base p + 175) g)) ≡ openedDesk d p r a ios tables
-  unfolding openedDesk
-  desk-written d p e f g ws rs c x y w l m z =
-      let k = ranks-length (tablesOf tables) in
-      rw z (splice-lent g (base p + 175) 128 (ranksKept (tablesOf tables)) (omega arith) (omega arith)
-      ∙ rw (w, c, y, x, own-written (length ws) (ap length c)))
+  -- a place whose numbers were l
+  module _ (l : List ℕ) (long : length l ≡ 303) where
+    pub with-own : length (splice l 0 (openedOwn r (givenBy a ios tables))) ≡ 303
+    with-own = length-splice l 0 (openedOwn r (givenBy a ios tables)) (omega (arith, own-length)) ∙ long
+
+    module _ (small : a .at .0 + a .size ≤ 65536) (obey : listsObey a ios tables ≡ true) where
+      pub lists-long : length (keptLists ios tables (listsIn l)) ≡ 288
+      lists-long = kept-long a ios tables (listsIn l) small obey (lists-length l long)
+
+      pub opened-length : length (openedPlace r a ios tables l) ≡ 303
+      unfolding openedPlace
+      opened-length =
+          length-splice (splice l 0 (openedOwn r (givenBy a ios tables))) 15 (keptLists ios tables (listsIn l))
+          (omega (arith, with-own, lists-long))
+          ∙ with-own
+
+    -- its own numbers, and then the lists
+    pub place-written : (ws e k : List ℕ) → Keepable a ios tables ws (listsIn l)
+        → e ≡ splice l 0
+        ((r + 1) ∷ a .at .0 ∷ a .size ∷ length ios ∷ (length tables / 2) ∷ length ws ∷ 0 ∷ 0 ∷ 0 ∷ 0 ∷ 0 ∷ 0 ∷ 0 ∷ 0 ∷ 0 ∷ [])
+        → k ≡ keptLists ios tables (take 288 (drop 15 e))
+        → take 15 e ++ (k ++ drop 288 (drop 15 e)) ≡ openedPlace r a ios tables l
+    unfolding openedPlace listsIn range
+    place-written ws e k t x z =
+        let own = openedOwn r (givenBy a ios tables) in
+        let y : e ≡ splice l 0 own = x ∙ ap (splice l 0) (own-written (length ws) (ap length (t .words))) in
+        let h : take 288 (drop 15 e) ≡ listsIn l = rw y (range-splice-after l 0 own 15 288 (omega (arith, own-length)) (omega (arith, own-length))) in
+        let q : k ≡ keptLists ios tables (listsIn l) = z ∙ ap (keptLists ios tables) h in
+        lent-whole e 15 288 k (omega (arith, ap length y, with-own)) (ap length q ∙ lists-long (t .small) (t .obey)) ∙ rw (y, q)
+
+  -- and so in its desk, from its first number b on
+  pub desk-written : (d : List ℕ) (p b : ℕ) (k : List ℕ) → length d ≡ deskWords → p < 12 → b ≡ base p
+      → a .at .0 + a .size ≤ 65536 → listsObey a ios tables ≡ true
+      → k ≡ openedPlace r a ios tables (take (b + 303 - b) (drop b d))
+      → take b d ++ (k ++ drop (b + 303 - b) (drop b d)) ≡ openedDesk d p r a ios tables
+  unfolding openedDesk placeIn
+  desk-written d p b k n h e small obey q =
+      lent-whole d b 303 k (omega arith)
+      (ap length q ∙ opened-length (take (b + 303 - b) (drop b d)) (place-long d p b n h e) small obey)
+      ∙ rw (q, range-lent d b 303, e)
 
 -- ---- the answers
 module _ (d core : List ℕ) (r : ℕ) (a : Area) (ios tables : List ℕ) where

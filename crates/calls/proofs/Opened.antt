@@ -1,18 +1,18 @@
 -- Open keeps a desk sound, and its answer fits in one number. Assumes nothing.
 use Prim.Native.Nat.{ℕ, _+_, _-_, _≤_, _<_}
-use mathlib.Core.Path.{_≡_, refl, sym, ap, _∙_}
+use mathlib.Core.Path.{_≡_, sym, ap, _∙_}
 use mathlib.Core.Bool.{true}
 use mathlib.Core.List.{List, []}
 use native.Mathlib.Omega.{arith}
 use lib.ListN.{length, getD, set}
 use lib.Dec.{eqb, leb}
 use borrow.Author.Tests.{eq-eqb, ne-eqb, eqb-true, le-leb}
-use Rattle.word.specs.Lists.{splice, range}
+use Rattle.word.specs.Lists.{splice}
 use Rattle.word.specs.Runs.{apart}
 use Rattle.word.specs.declared.Area.{Area}
 use Rattle.word.proofs.Cases.{by-eq, when, both, and-left, and-right, or-not}
 use Rattle.word.proofs.Every.{every-place}
-use Rattle.word.proofs.Lists.{getD-range, range-splice-same, range-splice-before, length-splice}
+use Rattle.word.proofs.Lists.{getD-range, range-splice-same, splice-whole, getD-splice-in, getD-splice-out}
 use Rattle.word.proofs.Says.{says-within, says-apart}
 use Rattle.map.specs.declared.Stretch.{Stretch}
 use Rattle.map.specs.Map.{mapOf, none, Separate}
@@ -20,25 +20,25 @@ use Rattle.rooms.specs.Rooms.{free, held, idle, placeRefusal, lowestFree}
 use Rattle.rooms.proofs.Count.{lowest-is-free}
 use Rattle.rooms.proofs.Rooms.{given-place, given-fair}
 use Rattle.lists.specs.Obey.{tablesOf, listsObey}
-use Rattle.lists.specs.Keep.{numbersKept, wordsKept, ranksKept}
+use Rattle.lists.specs.declared.Given.{Given}
+use Rattle.lists.specs.Keep.{wordsKept}
+use Rattle.lists.specs.Load.{loadOf, givenBy, keptLists}
 use Rattle.lists.proofs.Keep.{lists-obey, kept-passes}
-use Rattle.lists.proofs.Numbers.{numbers-kept-length}
-use Rattle.lists.proofs.Ranks.{words-few, ranks-length}
+use Rattle.lists.proofs.Back.{words-most, kept-words, kept-back}
 use Rattle.stage.specs.Stage.{numbersOf, stageOf}
 use Rattle.stage.specs.Ranges.{stageFits}
 use Rattle.stage.specs.declared.Stage.the-variants.{Label}
-use Rattle.layout.specs.declared.Place.{Place}
-use Rattle.layout.specs.Layout.{mapNumbers, base, placeIn, places, holderOf, holderIn, ownOf, stageIn, wordsIn, holders}
-use Rattle.layout.proofs.Places.{holder-at, getD-holders, place-length}
+use Rattle.layout.specs.Layout.{mapNumbers, base, placeIn, places, holderOf, holderIn, ownOf, stageIn, listsIn, holders}
+use Rattle.layout.proofs.Places.{holder-at, getD-holders, place-length, lists-length}
 use Rattle.desk.specs.Sound.{areaIn, countsFit, loadFits, heldFits, placeFits, areasApart, sound}
 use Rattle.desk.proofs.Facts.{sound-says, sound-long, free-first, sound-map, sound-fair}
 use Rattle.desk.proofs.Replaced.{Replaced, replaced-none, replaced-more, areas-by, replaced-sound, holders-replaced}
 use Rattle.desk.proofs.Tested.{load-is, places-length, places-at}
 use Rattle.calls.specs.Answer.{Small}
 use Rattle.calls.specs.Outcome.{Outcome}
-use Rattle.calls.specs.Open.{besideOwn, areaFits, openedOwn, openedDesk, opened, grantOf, openOf}
+use Rattle.calls.specs.Open.{besideOwn, areaFits, openedOwn, openedPlace, openedDesk, opened, grantOf, openOf}
 use Rattle.calls.proofs.Entry.{entered-cases}
-use Rattle.calls.proofs.Grant.{area-held, area-small}
+use Rattle.calls.proofs.Grant.{area-held, area-small, own-length, with-own, lists-long, opened-length}
 
 -- ---- areas in stretches that share no word
 stretches-areas : (s t : Stretch) (a b : Area) → Separate s t → areaIn s a ≡ true → areaIn t b ≡ true
@@ -50,76 +50,84 @@ stretches-areas s t a b w x y =
     says-apart (a .at .0) (a .size) (b .at .0) (b .size) .test
     (λ i e f g h. w i (omega (arith, u .0)) (omega (arith, u .1)) (omega (arith, v .0)) (omega (arith, v .1)))
 
--- ---- what is read of a place just written
-module _ (l own numbers ws rs : List ℕ) (long : length l ≡ 303) (o : length own ≡ 15) (n : length numbers ≤ 32) (w : length ws ≤ 128)
-    (k : length rs ≤ 128) where
-  abbrev filled : List ℕ
-  filled = splice (splice (splice (splice l 0 own) 15 numbers) 47 ws) 175 rs
+-- ---- what is read of a place just opened, whose numbers were l
+module _ (r : ℕ) (a : Area) (ios tables l : List ℕ) (long : length l ≡ 303) (small : a .at .0 + a .size ≤ 65536)
+    (obey : listsObey a ios tables ≡ true) where
+  abbrev given : Given
+  given = givenBy a ios tables
 
-  long-1 : length (splice l 0 own) ≡ 303
-  long-1 = length-splice l 0 own (omega arith) ∙ long
+  abbrev new : List ℕ
+  new = openedPlace r a ios tables l
 
-  pub long-2 : length (splice (splice l 0 own) 15 numbers) ≡ 303
-  long-2 = length-splice (splice l 0 own) 15 numbers (omega (arith, long-1)) ∙ long-1
+  abbrev kept : List ℕ
+  kept = keptLists ios tables (listsIn l)
 
-  pub long-3 : length (splice (splice (splice l 0 own) 15 numbers) 47 ws) ≡ 303
-  long-3 = length-splice (splice (splice l 0 own) 15 numbers) 47 ws (omega (arith, long-2)) ∙ long-2
+  lists-fit : 15 + length kept ≤ length (splice l 0 (openedOwn r given))
+  lists-fit = omega (arith, with-own r a ios tables l long, lists-long r a ios tables l long small obey)
 
-  own-read : range filled 0 15 ≡ own
-  own-read =
-      range-splice-before _ 175 rs 0 15 (omega arith) (omega (arith, long-3))
-      ∙ range-splice-before _ 47 ws 0 15 (omega arith) (omega (arith, long-2))
-      ∙ range-splice-before _ 15 numbers 0 15 (omega arith) (omega (arith, long-1))
-      ∙ rw o at (range-splice-same l 0 own (omega arith))
-
-  pub filled-own : (i : ℕ) → i < 15 → getD filled i 0 ≡ getD own i 0
-  filled-own i h =
+  first : (i : ℕ) → i < 15 → getD new i 0 ≡ getD (openedOwn r given) i 0
+  unfolding openedPlace
+  first i h =
+      let n = own-length r a ios tables in
       let z : 0 + i ≡ i = omega arith in
-      sym (getD-range filled 0 15 i h ∙ ap (λ (j : ℕ). getD filled j 0) z) ∙ ap (λ (m : List ℕ). getD m i 0) own-read
+      getD-splice-out (splice l 0 (openedOwn r given)) 15 kept i lists-fit (λ x y. omega arith)
+      ∙ rw z at (getD-splice-in l 0 (openedOwn r given) i (omega arith) (omega arith))
 
-  pub filled-words : range filled 47 (length ws) ≡ ws
-  filled-words =
-      range-splice-before _ 175 rs 47 (length ws) (omega arith) (omega (arith, long-3))
-      ∙ range-splice-same (splice (splice l 0 own) 15 numbers) 47 ws (omega (arith, long-2))
-
--- a place l whose first fifteen numbers are those of a place just opened
-module _ (r : ℕ) (a : Area) (ios tables l : List ℕ) (n : (i : ℕ) → i < 15 → getD l i 0 ≡ getD (openedOwn r a ios tables) i 0) where
-  abbrev own : Place
-  own = record { holder = r + 1; area = a; io = length ios; tables = length (tablesOf tables); kept = length (wordsKept (tablesOf tables)) }
-
-  pub holder-opened : holderOf l ≡ r + 1
+  pub holder-opened : holderOf new ≡ r + 1
   unfolding openedOwn
-  holder-opened = n 0 (omega arith)
+  holder-opened = first 0 (omega arith)
 
-  pub own-opened : ownOf l ≡ own
+  pub own-opened : ownOf new ≡ record { holder = r + 1; given = given }
   unfolding ownOf openedOwn
-  own-opened = rw (n 0 (omega arith), n 1 (omega arith), n 2 (omega arith), n 3 (omega arith), n 4 (omega arith), n 5 (omega arith))
+  own-opened =
+      rw (
+        first 0 (omega arith),
+        first 1 (omega arith),
+        first 2 (omega arith),
+        first 3 (omega arith),
+        first 4 (omega arith),
+        first 5 (omega arith),
+      )
 
-  pub stage-opened : stageIn l ≡ Label
+  pub stage-opened : stageIn new ≡ Label
   unfolding stageIn stageOf openedOwn numbersOf
-  stage-opened = rw (getD-range l 6 9 0 (omega arith), n 6 (omega arith))
+  stage-opened = rw (getD-range new 6 9 0 (omega arith), first 6 (omega arith))
 
-  module _ (q : listsObey a ios tables ≡ true) (small : a .at .0 + a .size ≤ 65536)
-      (ws : range l 47 (length (wordsKept (tablesOf tables))) ≡ wordsKept (tablesOf tables)) where
-    counts-opened : countsFit own ≡ true
-    unfolding countsFit
-    counts-opened =
-        let o = lists-obey a ios tables q in
-        rw (
-          le-leb (length ios) 128 (o .ios-few),
-          le-leb (length (tablesOf tables)) 128 (o .tables-few),
-          le-leb (length (wordsKept (tablesOf tables))) 128 (omega (arith, words-few (tablesOf tables), o .tables-few)),
-        )
+  pub lists-opened : listsIn new ≡ keptLists ios tables (listsIn l)
+  unfolding openedPlace listsIn
+  lists-opened =
+      rw (lists-long r a ios tables l long small obey) at (range-splice-same (splice l 0 (openedOwn r given)) 15 kept lists-fit)
 
-    load-opened : loadFits own l ≡ true
-    unfolding stageFits wordsIn
-    load-opened = rw (load-is, ws, kept-passes a ios tables small q, stage-opened)
+  -- "copies the lists": the place holds the load as it was lent
+  pub load-opened : loadOf (ownOf new .given) (listsIn new) ≡ record { area = a; tables = tablesOf tables; ios = ios }
+  load-opened = rw (own-opened, lists-opened) (kept-back a ios tables (listsIn l) small obey (lists-length l long))
 
-    place-opened : (m : List Stretch) → areaIn (getD m r none) a ≡ true → placeFits m l ≡ true
-    unfolding placeFits heldFits
-    place-opened m h =
-        let z : r + 1 - 1 ≡ r = omega arith in
-        rw (holder-opened, ne-eqb (r + 1) 0 (λ y. omega arith), z, own-opened, h, counts-opened, load-opened)
+  counts-opened : countsFit given ≡ true
+  unfolding countsFit
+  counts-opened =
+      let o = lists-obey a ios tables obey in
+      rw (
+        le-leb (length ios) 128 (o .ios-few),
+        le-leb (length (tablesOf tables)) 128 (o .tables-few),
+        le-leb (length (wordsKept (tablesOf tables))) 128 (words-most a ios tables (listsIn l) small obey (lists-length l long)),
+      )
+
+  fits-opened : loadFits given new ≡ true
+  unfolding stageFits
+  fits-opened =
+      rw (
+        load-is,
+        lists-opened,
+        kept-words a ios tables (listsIn l) small obey (lists-length l long),
+        kept-passes a ios tables small obey,
+        stage-opened,
+      )
+
+  pub place-opened : (m : List Stretch) → areaIn (getD m r none) a ≡ true → placeFits m new ≡ true
+  unfolding placeFits heldFits
+  place-opened m h =
+      let z : r + 1 - 1 ≡ r = omega arith in
+      rw (holder-opened, ne-eqb (r + 1) 0 (λ y. omega arith), z, own-opened, h, counts-opened, fits-opened)
 
 -- ---- open keeps a desk sound
 module _ (d : List ℕ) (s : sound d ≡ true) (r : ℕ) (a : Area) (ios tables : List ℕ) (room : r < 8) (given : placeRefusal r (holders d) ≡ 0)
@@ -128,9 +136,7 @@ module _ (d : List ℕ) (s : sound d ≡ true) (r : ℕ) (a : Area) (ios tables 
   place = lowestFree (holders d)
 
   abbrev numbers : List ℕ
-  numbers =
-      splice (splice (splice (splice (placeIn d place)
-      0 (openedOwn r a ios tables)) 15 (numbersKept ios)) 47 (wordsKept (tablesOf tables))) 175 (ranksKept (tablesOf tables))
+  numbers = openedPlace r a ios tables (placeIn d place)
 
   pub in-desk : place < 12
   in-desk = given-place (holders d) r (sound-fair d s) room given
@@ -139,37 +145,26 @@ module _ (d : List ℕ) (s : sound d ≡ true) (r : ℕ) (a : Area) (ios tables 
   pub given-free : holderIn d place ≡ 0
   given-free = sym (getD-holders d place in-desk) ∙ lowest-is-free (holders d)
 
-  pub own-length : length (openedOwn r a ios tables) ≡ 15
-  unfolding openedOwn numbersOf
-  own-length = refl
+  pub old-length : length (placeIn d place) ≡ 303
+  old-length = place-length d (sound-long d s) place in-desk
 
-  pub numbers-few : length (numbersKept ios) ≤ 32
-  numbers-few = let o = lists-obey a ios tables obey in omega (arith, numbers-kept-length ios, o .ios-few)
-
-  pub words-most : length (wordsKept (tablesOf tables)) ≤ 128
-  words-most = let o = lists-obey a ios tables obey in omega (arith, words-few (tablesOf tables), o .tables-few)
-
-  pub ranks-most : length (ranksKept (tablesOf tables)) ≤ 128
-  ranks-most = let o = lists-obey a ios tables obey in omega (arith, ranks-length (tablesOf tables), o .tables-few)
+  small : a .at .0 + a .size ≤ 65536
+  small = area-small d s r a room fit
 
   -- every other place, the map and the core length are as they were
   pub opened-replaced : Replaced d place numbers (openedDesk d place r a ios tables)
   unfolding openedDesk
   opened-replaced =
+      let n = opened-length r a ios tables (placeIn d place) old-length small obey in
       let z : base place + 0 ≡ base place = omega arith in
-      replaced-more d place _ _ 175 (ranksKept (tablesOf tables)) in-desk (omega (arith, ranks-most))
-      (replaced-more d place _ _ 47 (wordsKept (tablesOf tables)) in-desk (omega (arith, words-most))
-      (replaced-more d place _ _ 15 (numbersKept ios) in-desk (omega (arith, numbers-few))
-      (rw z at (replaced-more d place _ _ 0 (openedOwn r a ios tables) in-desk (omega (arith, own-length)) (replaced-none d place (sound-long d s))))))
-
-  pub own-is : (i : ℕ) → i < 15 → getD numbers i 0 ≡ getD (openedOwn r a ios tables) i 0
-  own-is = filled-own (placeIn d place) _ _ _ _ (place-length d (sound-long d s) place in-desk) own-length numbers-few words-most ranks-most
+      rw (z, splice-whole (placeIn d place) numbers (n ∙ sym old-length)) at
+      (replaced-more d place (placeIn d place) d 0 numbers in-desk (omega arith) (replaced-none d place (sound-long d s)))
 
   -- the place is the room's, and every other holder is as it was
   pub opened-holders : holders (openedDesk d place r a ios tables) ≡ set (holders d) place (r + 1)
   opened-holders =
       holders-replaced d place numbers _ in-desk opened-replaced
-      ∙ ap (λ (h : ℕ). set (holders d) place h) (holder-opened r a ios tables numbers own-is)
+      ∙ ap (λ (h : ℕ). set (holders d) place h) (holder-opened r a ios tables (placeIn d place) old-length small obey)
 
   -- with the area of a place that any room holds it shares no word
   beside-each : (q : ℕ) → q < 12 → areasApart (placeIn d q) numbers ≡ true
@@ -178,26 +173,23 @@ module _ (d : List ℕ) (s : sound d ≡ true) (r : ℕ) (a : Area) (ios tables 
       let m = mapOf (mapNumbers d) in
       let k = placeIn d q in
       let t = holderOf k - 1 in
-      let e = own-opened r a ios tables numbers own-is in
+      let e = own-opened r a ios tables (placeIn d place) old-length small obey in
       let held : holderOf k ≤ 8 = omega (arith, sound-fair d s .known q h, getD-holders d q h, holder-at d q) in
       let b = every-place [] (besideOwn r a) (places d) q (omega (arith, places-length d)) (and-right (areaIn (getD m r none) a) _ fit) in
       let f = sound-says d .fact s .place q h in
       by-eq (holderOf k) 0 (free-first k numbers)
       (λ x. areas-by k numbers (rw e (by-eq (holderOf k) (r + 1)
       (λ y. or-not (eqb (holderOf k) (r + 1)) _ (rw (places-at d q h) at b) (eq-eqb (holderOf k) (r + 1) y))
-      (λ y. stretches-areas (getD m t none) (getD m r none) (ownOf k .area) a
+      (λ y. stretches-areas (getD m t none) (getD m r none) (ownOf k .given .area) a
       (sound-map d s .separate t r (omega arith) room (λ z. y (omega arith)))
-      (and-left (areaIn (getD m t none) (ownOf k .area)) _ (rw (ne-eqb (holderOf k) 0 x) at f))
+      (and-left (areaIn (getD m t none) (ownOf k .given .area)) _ (rw (ne-eqb (holderOf k) 0 x) at f))
       (area-held d s r a room fit)))))
 
   pub opened-sound : sound (openedDesk d place r a ios tables) ≡ true
   opened-sound =
-      let ws = filled-words (placeIn d place) (openedOwn r a ios tables) (numbersKept ios) _ (ranksKept (tablesOf tables))
-      (place-length d (sound-long d s) place in-desk) own-length numbers-few words-most ranks-most in
-      let small = area-small d s r a room fit in
-      let h = holder-opened r a ios tables numbers own-is in
+      let h = holder-opened r a ios tables (placeIn d place) old-length small obey in
       replaced-sound d s place in-desk numbers _ opened-replaced
-      (place-opened r a ios tables numbers own-is obey small ws (mapOf (mapNumbers d)) (area-held d s r a room fit))
+      (place-opened r a ios tables (placeIn d place) old-length small obey (mapOf (mapNumbers d)) (area-held d s r a room fit))
       (λ q k n. beside-each q k)
       (rw h (given-fair (holders d) r (sound-fair d s) room given))
 

@@ -11,11 +11,12 @@ use Rattle.word.specs.Fault.{unless}
 use Rattle.word.specs.declared.Area.{Area}
 use Rattle.map.specs.Map.{mapOf, none}
 use Rattle.rooms.specs.Rooms.{placeRefusal, lowestFree}
-use Rattle.lists.specs.Obey.{tablesOf, listsObey}
-use Rattle.lists.specs.Keep.{numbersKept, wordsKept, ranksKept}
+use Rattle.lists.specs.declared.Given.{Given}
+use Rattle.lists.specs.Obey.{listsObey}
+use Rattle.lists.specs.Load.{givenBy, keptLists}
 use Rattle.stage.specs.Stage.{numbersOf}
 use Rattle.stage.specs.declared.Stage.the-variants.{Label}
-use Rattle.layout.specs.Layout.{iosAt, wordsAt, ranksAt, mapNumbers, base, places, holderOf, ownOf, holders}
+use Rattle.layout.specs.Layout.{listsAt, mapNumbers, base, placeIn, places, holderOf, ownOf, listsIn, holders}
 use Rattle.desk.specs.Sound.{areaIn}
 use Rattle.calls.specs.declared.Answer.the-variants.{Opened}
 use Rattle.calls.specs.Outcome.{Outcome, refused}
@@ -23,31 +24,32 @@ use Rattle.calls.specs.Entry.{entered}
 
 -- the area shares no word with one that the room holds
 unfoldable pub besideOwn : ℕ → Area → List ℕ → Bool
-besideOwn r a l = not (eqb (holderOf l) (r + 1)) || apart (ownOf l .area .at .0) (ownOf l .area .size) (a .at .0) (a .size)
+besideOwn r a l =
+    not (eqb (holderOf l) (r + 1)) || apart (ownOf l .given .area .at .0) (ownOf l .given .area .size) (a .at .0) (a .size)
 
 -- refusal 7 is not given: "area empty, not inside the room's stretch, or sharing a word with one the room holds"
 unfoldable pub areaFits : List ℕ → ℕ → Area → Bool
 areaFits d r a = areaIn (getD (mapOf (mapNumbers d)) r none) a && every (besideOwn r a) (places d)
 
--- the numbers of a place just opened, before its lists: holder, area, counts, and the stage of a load that waits for its label
-unfoldable pub openedOwn : ℕ → Area → List ℕ → List ℕ → List ℕ
-openedOwn r a ios tables =
+-- the numbers of a place just opened, before its lists: the holder, what the load was given, and the stage of one that waits for its
+-- label
+unfoldable pub openedOwn : ℕ → Given → List ℕ
+openedOwn r g =
     (r + 1)
-    ∷ a .at .0
-    ∷ a .size
-    ∷ length ios
-    ∷ length (tablesOf tables)
-    ∷ length (wordsKept (tablesOf tables))
+    ∷ g .area .at .0
+    ∷ g .area .size
+    ∷ g .io
+    ∷ g .tables
+    ∷ g .kept
     ∷ numbersOf Label
 
--- place p with these numbers and the lists copied; what stands past the lists is as it was
+-- a place, whose numbers were l, with these numbers and the lists copied; what stands past each list is as it was
+unfoldable pub openedPlace : ℕ → Area → List ℕ → List ℕ → List ℕ → List ℕ
+openedPlace r a ios tables l = splice (splice l 0 (openedOwn r (givenBy a ios tables))) listsAt (keptLists ios tables (listsIn l))
+
+-- place p so
 unfoldable pub openedDesk : List ℕ → ℕ → ℕ → Area → List ℕ → List ℕ → List ℕ
-openedDesk d p r a ios tables =
-    splice (splice (splice (splice d
-    (base p) (openedOwn r a ios tables))
-    (base p + iosAt) (numbersKept ios))
-    (base p + wordsAt) (wordsKept (tablesOf tables)))
-    (base p + ranksAt) (ranksKept (tablesOf tables))
+openedDesk d p r a ios tables = splice d (base p) (openedPlace r a ios tables (placeIn d p))
 
 -- the place is given, and each word of the area set to zero
 unfoldable pub opened : List ℕ → List ℕ → ℕ → Area → List ℕ → List ℕ → Outcome

@@ -2,26 +2,22 @@
 // to 8 says why not (01, "The desk").
 ghost use mathlib.Core.Path.{_≡_};
 ghost use mathlib.Core.Bool.{true};
-ghost use Prim.Native.Nat.{_+_, _/_, _≤_, _<_};
+ghost use Prim.Native.Nat.{_<_};
 ghost use lib.ListN.{length};
-ghost use Rattle.word.specs.Lists.{every, splice};
-ghost use Rattle.word.specs.Limits.{roomCount, placeCount, coreMost, ioMost};
-ghost use Rattle.lists.specs.Obey.{tablesOf, listsObey};
-ghost use Rattle.lists.specs.Keep.{numbersKept, wordsKept};
-ghost use Rattle.layout.specs.Layout.{deskWords, placeWords, iosWords, coreLength, places};
+ghost use Rattle.word.specs.Lists.{every};
+ghost use Rattle.word.specs.Limits.{roomCount};
+ghost use Rattle.lists.specs.Load.{Keepable};
+ghost use Rattle.layout.specs.Layout.{deskWords, placeWords, coreLength, places, listsIn};
 ghost use Rattle.desk.specs.Sound.{sound};
 ghost use Rattle.calls.specs.Outcome.{Meets};
-ghost use Rattle.calls.specs.Open.{besideOwn, areaFits, openedDesk, grantOf, openOf};
+ghost use Rattle.calls.specs.Open.{besideOwn, areaFits, openedPlace, grantOf, openOf};
 use crate::Answer;
 use layout::AREA_AT;
 use layout::HOLDER_AT;
-use layout::IOS_AT;
-use layout::IOS_WORDS;
+use layout::LISTS_AT;
 use layout::PLACE_WORDS;
 use layout::PLACES_AT;
-use layout::RANKS_AT;
 use layout::SIZE_AT;
-use layout::WORDS_AT;
 use lists::Taken;
 use word::Area;
 use word::Fault;
@@ -70,7 +66,15 @@ fn grant(
     match lists::take_lists(area, ios, tables, &mut words) {
         Taken::Words(n) => {
             let p = rooms::lowest_free(&h);
-            write_place(desk, p, room, area, ios, tables, &words[..n]);
+            let b = PLACES_AT + p * PLACE_WORDS;
+            write_place(
+                &mut desk[b..b + PLACE_WORDS],
+                room,
+                area,
+                ios,
+                tables,
+                &words[..n],
+            );
             word::slices::clear(core, area.at.0 as usize, area.size as usize);
             Answer::Opened(p as u64)
         }
@@ -116,19 +120,10 @@ fn beside_own(place: &[u64], room: u64, area: Area) -> bool
     word::runs_apart(place[AREA_AT], place[SIZE_AT], area.at.0, area.size)
 }
 
-// The numbers of place p: its own, the stage of a load that waits for its label, and the lists, of whose tables these words are
-// kept.
-fn write_place(
-    desk: &mut [u64],
-    p: usize,
-    room: u64,
-    area: Area,
-    ios: &[u64],
-    tables: &[u64],
-    words: &[u64],
-)
-    requires { ⌜ (length (now desk) ≡ deskWords) × (p < placeCount) × (room < roomCount) × (area .at .0 + area .size ≤ coreMost) × (listsObey area (now ios) (now tables) ≡ true) × (now words ≡ wordsKept (tablesOf (now tables))) ⌝ }
-    ensures { λ _. ⌜ now (desk .exit) ≡ openedDesk (now (desk .entry)) p room area (now (ios .entry)) (now (tables .entry)) ⌝ }
+// The numbers of a place: its own, the stage of a load that waits for its label, and the lists, of whose tables these words are kept.
+fn write_place(place: &mut [u64], room: u64, area: Area, ios: &[u64], tables: &[u64], words: &[u64])
+    requires { ⌜ (length (now place) ≡ placeWords) × (room < roomCount) × (Keepable area (now ios) (now tables) (now words) (listsIn (now place))) ⌝ }
+    ensures { λ _. ⌜ now (place .exit) ≡ openedPlace room area (now (ios .entry)) (now (tables .entry)) (now (place .entry)) ⌝ }
 {
     let n = tables.len() / 2;
     let own = [
@@ -148,20 +143,6 @@ fn write_place(
         0,
         0,
     ];
-    let b = PLACES_AT + p * PLACE_WORDS;
-    word::slices::copy_in(desk, b, &own);
-    write_numbers(desk, b + IOS_AT, ios);
-    word::slices::copy_in(desk, b + WORDS_AT, words);
-    let r = b + RANKS_AT;
-    lists::keep_ranks(tables, words, &mut desk[r..r + TABLES_MOST]);
-}
-
-// The I/O numbers as they are kept, in the desk from place a on.
-fn write_numbers(desk: &mut [u64], a: usize, ios: &[u64])
-    requires { ⌜ (length (now ios) ≤ ioMost) × (a + iosWords ≤ length (now desk)) ⌝ }
-    ensures { λ _. ⌜ now (desk .exit) ≡ splice (now (desk .entry)) a (numbersKept (now (ios .entry))) ⌝ }
-{
-    let mut numbers = [0u64; IOS_WORDS];
-    lists::keep_numbers(ios, &mut numbers);
-    word::slices::copy_in(desk, a, &numbers[..(ios.len() + 3) / 4]);
+    word::slices::copy_in(place, 0, &own);
+    lists::load::keep_lists(area, ios, tables, words, &mut place[LISTS_AT..PLACE_WORDS]);
 }

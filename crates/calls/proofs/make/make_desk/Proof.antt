@@ -1,7 +1,6 @@
 -- `calls::make::make_desk` meets its contract: its tests are those of `makeOf`, in that order. Assumes nothing.
-use mathlib.Core.Path.{refl, sym, ap, _∙_}
+use mathlib.Core.Path.{refl, sym, _∙_}
 use borrow.Author.Tests.{eq-eqb, ne-eqb, le-leb, lt-leb, not-true, not-false}
-use Rattle.map.specs.Map.{mapObeys}
 use Rattle.calls.specs.Make.{makeOf}
 use borrow.Author.Needs.{needs}
 use Rattle.calls.proofs.make.make_desk.Statement.{statement}

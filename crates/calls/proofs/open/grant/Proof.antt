@@ -6,10 +6,11 @@ use denote.Ref.{now}
 use borrow.Author.Tests.{not-true, not-false}
 use Rattle.lists.proofs.Take.{taken-words, taken-nothing}
 use Rattle.layout.specs.Layout.{holders}
+use Rattle.layout.proofs.Places.{lists-length}
 use Rattle.rooms.specs.Rooms.{placeRefusal, lowestFree}
 use Rattle.rooms.proofs.Rooms.{given-place}
 use Rattle.desk.proofs.Facts.{sound-long, sound-fair}
-use Rattle.calls.proofs.Grant.{area-in-core, area-small, words-inside, words-lent, grant-denied, grant-outside, grant-unlisted, grant-given}
+use Rattle.calls.proofs.Grant.{area-in-core, area-small, place-long, desk-written, words-inside, words-lent, grant-denied, grant-outside, grant-unlisted, grant-given}
 use borrow.Author.Needs.{needs}
 use Rattle.calls.proofs.open.grant.Statement.{statement}
 use Rattle.calls.proofs.open.grant.Tie as tie
@@ -57,6 +58,34 @@ slice-aggregate-lowest-free c = search needs
 lowest-free-requires : tie.Need-lowest-free-requires
 lowest-free-requires c κs = search needs
 
+part-write-place-end : tie.Need-part-write-place-end
+part-write-place-end c =
+    let t = c .before .before .before .before .before .before in
+    let s = t .before .before .before .before .before .before .before .before .before .before .before .before .before .before in
+    let d = now (s .args .desk) in
+    let e = t .before .before .before .before .before .before .before .before .read-holders .ensures in
+    let f = sym (t .before .before .before .before .before .before .place-refusal .ensures ∙ ap (placeRefusal (s .args .room)) e) ∙ t .before .before .before .before .before .if1 .left in
+    let n = c .lowest-free .ensures ∙ ap lowestFree e in
+    omega (arith, n, given-place (holders d) (s .args .room) (sound-fair d (s .pre .0)) (s .pre .2) f, sound-long d (s .pre .0))
+
+mul-b : tie.Need-mul-b
+mul-b c = omega (arith, part-write-place-end c)
+
+add-b : tie.Need-add-b
+add-b c = omega (arith, part-write-place-end c)
+
+add-write-place : tie.Need-add-write-place
+add-write-place c = omega (arith, part-write-place-end c)
+
+mul-write-place : tie.Need-mul-write-place
+mul-write-place c = omega (arith, part-write-place-end c)
+
+sub-write-place : tie.Need-sub-write-place
+sub-write-place c = omega (arith, part-write-place-end c)
+
+part-write-place-start : tie.Need-part-write-place-start
+part-write-place-start c = omega (arith, part-write-place-end c)
+
 array-share-prefix-words : tie.Need-array-share-prefix-words
 array-share-prefix-words c = let t = c .before .before .before .before .before .before .before in
     let s = t .before .before .before .before .before .before .before .before .before .before .before .before .before .before in
@@ -77,13 +106,17 @@ write-place-requires c κs = let t = c .before .before .before .before .before .
     let d = now (s .args .desk) in
     let e = t .before .before .before .before .before .before .before .before .read-holders .ensures in
     let f = sym (t .before .before .before .before .before .before .place-refusal .ensures ∙ ap (placeRefusal (s .args .room)) e) ∙ t .before .before .before .before .before .if1 .left in
-    let n = c .before .before .lowest-free .ensures ∙ ap lowestFree e in (
-      sound-long _ (s .pre .0),
-      omega (arith, n, given-place (holders d) (s .args .room) (sound-fair d (s .pre .0)) (s .pre .2) f),
+    let n = c .before .before .lowest-free .ensures ∙ ap lowestFree e in
+    let h = given-place (holders d) (s .args .room) (sound-fair d (s .pre .0)) (s .pre .2) f in
+    let m = place-long d (c .before .before .lowest-free .result) _ (sound-long d (s .pre .0)) (omega (arith, n, h)) refl in (
+      m,
       s .pre .2,
-      area-small _ (s .pre .0) _ _ (s .pre .2) (sym (t .before .before .before .area-fits .ensures) ∙ not-false _ (t .before .before .if2 .left)),
-      taken-words _ _ _ _ _ _ k .0,
-      words-lent _ _ _ _ _ _ k refl,
+      record {
+        long = lists-length _ m;
+        small = area-small d (s .pre .0) _ _ (s .pre .2) (sym (t .before .before .before .area-fits .ensures) ∙ not-false _ (t .before .before .if2 .left));
+        obey = taken-words _ _ _ _ _ _ k .0;
+        words = words-lent _ _ _ _ _ _ k refl;
+      },
     )
 
 clear-requires : tie.Need-clear-requires
@@ -106,12 +139,15 @@ returns-3 c = let t = c .before .before .before .before .before .before .before 
     let s = t .before .before .before .before .before .before .before .before .before .before .before .before .before .before in
     let k = rw (c .before .before .before .before .before .before .before .before .before .before .before .before .n .given .1) at (t .take-lists .ensures) in
     let e = t .before .before .before .before .before .before .before .before .read-holders .ensures in
-    grant-given _ _ _ _ _ _
-    (sym (t .before .before .before .before .before .before .place-refusal .ensures ∙ ap (placeRefusal (s .args .room)) e) ∙ t .before .before .before .before .before .if1 .left)
-    (sym (t .before .before .before .area-fits .ensures) ∙ not-false _ (t .before .before .if2 .left)) _ _ _
-    (taken-words _ _ _ _ _ _ k .0)
-    (c .before .before .before .before .before .before .before .before .before .lowest-free .ensures ∙ ap lowestFree e)
-    (c .before .before .before .before .before .before .write-place .ensures)
+    let d = now (s .args .desk) in
+    let f = sym (t .before .before .before .before .before .before .place-refusal .ensures ∙ ap (placeRefusal (s .args .room)) e) ∙ t .before .before .before .before .before .if1 .left in
+    let g = sym (t .before .before .before .area-fits .ensures) ∙ not-false _ (t .before .before .if2 .left) in
+    let o = taken-words _ _ _ _ _ _ k .0 in
+    let n = c .before .before .before .before .before .before .before .before .before .lowest-free .ensures ∙ ap lowestFree e in
+    let h = given-place (holders d) (s .args .room) (sound-fair d (s .pre .0)) (s .pre .2) f in
+    grant-given _ _ _ _ _ _ f g _ _ _ o n
+    (desk-written _ _ _ _ d _ _ _ (sound-long d (s .pre .0)) (omega (arith, n, h)) refl (area-small d (s .pre .0) _ _ (s .pre .2) g) o
+    (c .before .before .before .before .before .before .write-place .ensures))
     (c .before .before .clear .ensures)
 
 same-length-5 : tie.Need-same-length-5
@@ -144,6 +180,13 @@ grant-spec =
     enum-known-n
     slice-aggregate-lowest-free
     lowest-free-requires
+    mul-b
+    add-b
+    add-write-place
+    mul-write-place
+    sub-write-place
+    part-write-place-start
+    part-write-place-end
     array-share-prefix-words
     slice-aggregate-write-place
     write-place-requires
