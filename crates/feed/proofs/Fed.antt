@@ -31,7 +31,7 @@ use Rattle.program.specs.Start.{startOf}
 use Rattle.stage.specs.declared.Step.{Step}
 use Rattle.stage.specs.declared.Step.the-variants.{More as step-more, Done as step-done, Refused as step-refused}
 use Rattle.stage.specs.Record.{recordDue, isOver}
-use Rattle.layout.specs.Layout.{coreLength, holderIn, placeIn, stageIn, iosIn, holds}
+use Rattle.layout.specs.Layout.{coreLength, holderIn, placeIn, stageIn, holds}
 use Rattle.layout.proofs.Places.{holds-inside, holds-holder}
 use Rattle.lists.proofs.Reading.{io-length}
 use Rattle.desk.specs.Sound.{sound, givenIn, listsHeld}

@@ -2,6 +2,7 @@
 -- "set the whole area to zero and mark the load broken". "An accepted block answers *more*, and the termination block answers *done*
 -- with the absolute start."
 use Prim.Native.Nat.{ℕ, _+_, _≤_, _<_}
+use mathlib.Core.Path.{_≡_}
 use mathlib.Core.Bool.{cond}
 use mathlib.Core.List.{List}
 use lib.ListN.{length}

@@ -24,7 +24,7 @@ same-length c = search needs
 
 returns-2 : tie.Need-returns-2
 unfolding blockStep
-returns-2 c = rw (← c .before .before .before .before .before .record-due .ensures, sym (c .before .before .before .before .of-record .ensures) ∙ not-false _ (c .before .before .before .if1 .left)) (c .before .before .due-step .ensures)
+returns-2 c = rw (← c .before .before .before .before .before .before .record-due .ensures, sym (c .before .before .before .before .before .of-record .ensures) ∙ not-false _ (c .before .before .before .before .if1 .left)) (c .before .before .due-step .ensures)
 
 pub load-step-spec : {M : Type 1} → statement M
 load-step-spec =
