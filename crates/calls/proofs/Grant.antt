@@ -15,6 +15,7 @@ use Rattle.word.proofs.Lists.{length-range, range-lent, range-splice-after, len
 use Rattle.map.specs.declared.Stretch.{Stretch}
 use Rattle.map.specs.Map.{mapOf, none}
 use Rattle.rooms.specs.Rooms.{placeRefusal, lowestFree}
+use Rattle.rooms.proofs.Rooms.{given-place}
 use Rattle.lists.specs.Obey.{tablesOf, listsObey}
 use Rattle.lists.specs.Keep.{wordsKept, Takes}
 use Rattle.lists.specs.Load.{givenBy, keptLists, Keepable}
@@ -28,7 +29,7 @@ use Rattle.stage.specs.Stage.{numbersOf}
 use Rattle.layout.specs.Layout.{deskWords, coreLength, mapNumbers, base, placeIn, places, holderOf, ownOf, listsIn, holders}
 use Rattle.layout.proofs.Places.{lists-length}
 use Rattle.desk.specs.Sound.{areaIn, sound}
-use Rattle.desk.proofs.Facts.{core-small, stretch-in-core}
+use Rattle.desk.proofs.Facts.{core-small, sound-fair, stretch-in-core}
 use Rattle.calls.specs.declared.Answer.the-variants.{Refused, Opened}
 use Rattle.calls.specs.Outcome.{Meets}
 use Rattle.calls.specs.Open.{besideOwn, areaFits, openedOwn, openedPlace, openedDesk, opened, grantOf}
@@ -44,6 +45,14 @@ module _ (d : List ℕ) (s : sound d ≡ true) (r : ℕ) (a : Area) (h : r < 8) 
 
   pub area-small : a .at .0 + a .size ≤ 65536
   area-small = omega (arith, area-in-core, core-small d s)
+
+-- ---- a place is given: h are the holders as they were read
+module _ (d h : List ℕ) (e : h ≡ holders d) (r : ℕ) where
+  pub none-due : (n : ℕ) → n ≡ placeRefusal r h → n ≡ 0 → placeRefusal r (holders d) ≡ 0
+  none-due n q z = sym (q ∙ ap (placeRefusal r) e) ∙ z
+
+  pub place-inside : sound d ≡ true → r < 8 → placeRefusal r (holders d) ≡ 0 → (p : ℕ) → p ≡ lowestFree h → p < 12
+  place-inside s k f p q = omega (arith, q ∙ ap lowestFree e, given-place (holders d) r (sound-fair d s) k f)
 
 -- ---- an area beside those that the room holds
 module _ (r : ℕ) (a : Area) (l : List ℕ) where
@@ -130,7 +139,8 @@ module _ (r : ℕ) (a : Area) (ios tables : List ℕ) where
     place-written ws e k t x z =
         let own = openedOwn r (givenBy a ios tables) in
         let y : e ≡ splice l 0 own = x ∙ ap (splice l 0) (own-written (length ws) (ap length (t .words))) in
-        let h : take 288 (drop 15 e) ≡ listsIn l = rw y (range-splice-after l 0 own 15 288 (omega (arith, own-length)) (omega (arith, own-length))) in
+        let n : length own ≡ 15 = own-length in
+        let h : take 288 (drop 15 e) ≡ listsIn l = rw y (range-splice-after l 0 own 15 288 (omega arith) (omega arith)) in
         let q : k ≡ keptLists ios tables (listsIn l) = z ∙ ap (keptLists ios tables) h in
         lent-whole e 15 288 k (omega (arith, ap length y, with-own)) (ap length q ∙ lists-long (t .small) (t .obey)) ∙ rw (y, q)
 
@@ -147,7 +157,8 @@ module _ (r : ℕ) (a : Area) (ios tables : List ℕ) where
 
 -- ---- the answers
 module _ (d core : List ℕ) (r : ℕ) (a : Area) (ios tables : List ℕ) where
-  pub grant-denied : (n : ℕ) → n ≡ placeRefusal r (holders d) → (n ≡ 0 → ⊥) → Meets (grantOf d core r a ios tables) (Refused (fault n)) d core
+  pub grant-denied : (n : ℕ) → n ≡ placeRefusal r (holders d) → (n ≡ 0 → ⊥)
+      → Meets (grantOf d core r a ios tables) (Refused (fault n)) d core
   unfolding grantOf
   grant-denied n q h = rw (← q, ne-eqb n 0 h) (record { told = refl; desk-left = refl; core-left = refl })
 

@@ -130,8 +130,8 @@ module _ (r : ℕ) (a : Area) (ios tables l : List ℕ) (long : length l ≡ 303
       rw (holder-opened, ne-eqb (r + 1) 0 (λ y. omega arith), z, own-opened, h, counts-opened, fits-opened)
 
 -- ---- open keeps a desk sound
-module _ (d : List ℕ) (s : sound d ≡ true) (r : ℕ) (a : Area) (ios tables : List ℕ) (room : r < 8) (given : placeRefusal r (holders d) ≡ 0)
-    (fit : areaFits d r a ≡ true) (obey : listsObey a ios tables ≡ true) where
+module _ (d : List ℕ) (s : sound d ≡ true) (r : ℕ) (a : Area) (ios tables : List ℕ) (room : r < 8)
+    (given : placeRefusal r (holders d) ≡ 0) (fit : areaFits d r a ≡ true) (obey : listsObey a ios tables ≡ true) where
   abbrev place : ℕ
   place = lowestFree (holders d)
 
@@ -175,7 +175,8 @@ module _ (d : List ℕ) (s : sound d ≡ true) (r : ℕ) (a : Area) (ios tables 
       let t = holderOf k - 1 in
       let e = own-opened r a ios tables (placeIn d place) old-length small obey in
       let held : holderOf k ≤ 8 = omega (arith, sound-fair d s .known q h, getD-holders d q h, holder-at d q) in
-      let b = every-place [] (besideOwn r a) (places d) q (omega (arith, places-length d)) (and-right (areaIn (getD m r none) a) _ fit) in
+      let b = every-place [] (besideOwn r a) (places d) q (omega (arith, places-length d))
+      (and-right (areaIn (getD m r none) a) _ fit) in
       let f = sound-says d .fact s .place q h in
       by-eq (holderOf k) 0 (free-first k numbers)
       (λ x. areas-by k numbers (rw e (by-eq (holderOf k) (r + 1)

@@ -31,8 +31,8 @@ besideOwn r a l =
 unfoldable pub areaFits : List ℕ → ℕ → Area → Bool
 areaFits d r a = areaIn (getD (mapOf (mapNumbers d)) r none) a && every (besideOwn r a) (places d)
 
--- the numbers of a place just opened, before its lists: the holder, what the load was given, and the stage of one that waits for its
--- label
+-- the numbers of a place just opened, before its lists: the holder, what the load was given, and the stage of one that waits for
+-- its label
 unfoldable pub openedOwn : ℕ → Given → List ℕ
 openedOwn r g =
     (r + 1)
@@ -45,7 +45,10 @@ openedOwn r g =
 
 -- a place, whose numbers were l, with these numbers and the lists copied; what stands past each list is as it was
 unfoldable pub openedPlace : ℕ → Area → List ℕ → List ℕ → List ℕ → List ℕ
-openedPlace r a ios tables l = splice (splice l 0 (openedOwn r (givenBy a ios tables))) listsAt (keptLists ios tables (listsIn l))
+openedPlace r a ios tables l =
+    splice (splice l
+    0 (openedOwn r (givenBy a ios tables)))
+    listsAt (keptLists ios tables (listsIn l))
 
 -- place p so
 unfoldable pub openedDesk : List ℕ → ℕ → ℕ → Area → List ℕ → List ℕ → List ℕ

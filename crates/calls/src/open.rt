@@ -120,7 +120,8 @@ fn beside_own(place: &[u64], room: u64, area: Area) -> bool
     word::runs_apart(place[AREA_AT], place[SIZE_AT], area.at.0, area.size)
 }
 
-// The numbers of a place: its own, the stage of a load that waits for its label, and the lists, of whose tables these words are kept.
+// The numbers of a place: its own, the stage of a load that waits for its label, and the lists, of whose tables these words are
+// kept.
 fn write_place(place: &mut [u64], room: u64, area: Area, ios: &[u64], tables: &[u64], words: &[u64])
     requires { ⌜ (length (now place) ≡ placeWords) × (room < roomCount) × (Keepable area (now ios) (now tables) (now words) (listsIn (now place))) ⌝ }
     ensures { λ _. ⌜ now (place .exit) ≡ openedPlace room area (now (ios .entry)) (now (tables .entry)) (now (place .entry)) ⌝ }

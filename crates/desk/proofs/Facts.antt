@@ -84,18 +84,22 @@ module _ (d : List ℕ) (s : sound d ≡ true) where
     pub holder-known : holderOf (placeIn d p) ≤ 8
     holder-known = omega (arith, sound-fair .known p in-p, getD-holders d p in-p, holder-at d p)
 
-    pub held-fits : (holderIn d p ≡ 0 → ⊥) → heldFits (getD (mapOf (mapNumbers d)) (holderOf (placeIn d p) - 1) none) (placeIn d p) ≡ true
+    -- the stretch of the room that holds it
+    abbrev stretch : Stretch
+    stretch = getD (mapOf (mapNumbers d)) (holderOf (placeIn d p) - 1) none
+
+    pub held-fits : (holderIn d p ≡ 0 → ⊥) → heldFits stretch (placeIn d p) ≡ true
     unfolding placeFits
     held-fits h = rw (ne-eqb (holderOf (placeIn d p)) 0 (λ z. h (holder-at d p ∙ z))) at (sound-says d .fact s .place p in-p)
 
-    -- its area ends in the core, and its counts are within the limits
-    held-area : (holderIn d p ≡ 0 → ⊥) → areaIn (getD (mapOf (mapNumbers d)) (holderOf (placeIn d p) - 1) none) (givenIn d p .area) ≡ true
+    -- its area lies there, and its counts are within the limits
+    held-area : (holderIn d p ≡ 0 → ⊥) → areaIn stretch (givenIn d p .area) ≡ true
     unfolding heldFits
-    held-area h = and-left (areaIn (getD (mapOf (mapNumbers d)) (holderOf (placeIn d p) - 1) none) (givenIn d p .area)) _ (held-fits h)
+    held-area h = and-left (areaIn stretch (givenIn d p .area)) _ (held-fits h)
 
     held-rest : (holderIn d p ≡ 0 → ⊥) → (countsFit (givenIn d p) && loadFits (givenIn d p) (placeIn d p)) ≡ true
     unfolding heldFits
-    held-rest h = and-right (areaIn (getD (mapOf (mapNumbers d)) (holderOf (placeIn d p) - 1) none) (givenIn d p .area)) _ (held-fits h)
+    held-rest h = and-right (areaIn stretch (givenIn d p .area)) _ (held-fits h)
 
     held-inside : (holderIn d p ≡ 0 → ⊥) → givenIn d p .area .at .0 + givenIn d p .area .size ≤ coreLength d
     held-inside h =

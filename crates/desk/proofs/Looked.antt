@@ -28,7 +28,8 @@ use Rattle.desk.proofs.Facts.{free-fits, free-first, free-second}
 -- ---- two areas in stretches that share no word
 module _ (s t : Stretch) (l k : List ℕ) where
   area-of : (r : Stretch) (m : List ℕ) → heldFits r m ≡ true
-      → (r .start .0 ≤ ownOf m .given .area .at .0) × (ownOf m .given .area .at .0 + ownOf m .given .area .size ≤ r .start .0 + r .len)
+      → (r .start .0 ≤ ownOf m .given .area .at .0)
+      × (ownOf m .given .area .at .0 + ownOf m .given .area .size ≤ r .start .0 + r .len)
   unfolding heldFits areaIn
   area-of r m q =
       let a = ownOf m .given .area in
@@ -39,8 +40,10 @@ module _ (s t : Stretch) (l k : List ℕ) where
   other-rooms-apart f g h =
       let a = area-of s l f in
       let b = area-of t k g in
-      let e = says-apart (ownOf l .given .area .at .0) (ownOf l .given .area .size) (ownOf k .given .area .at .0) (ownOf k .given .area .size) .test
-      (λ i u v w x. h i (omega arith) (omega arith) (omega arith) (omega arith)) in
+      let x = ownOf l .given .area in
+      let y = ownOf k .given .area in
+      let e = says-apart (x .at .0) (x .size) (y .at .0) (y .size) .test
+      (λ i u v w z. h i (omega arith) (omega arith) (omega arith) (omega arith)) in
       by-test (eqb (holderOf l) 0) (λ q. rw q) (λ q. by-test (eqb (holderOf k) 0) (λ r. rw (q, r)) (λ r. rw (q, r) e))
 
 -- ---- of a desk whose map obeys and whose holders are fair

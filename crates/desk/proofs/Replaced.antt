@@ -62,7 +62,8 @@ holders-replaced d p l e h w =
     ∙ sym (getD-set-other (holders d) p q (holderOf l) 0 y ∙ getD-holders d q k ∙ holder-at d q)))
 
 -- ---- areas that share no word
-pub areas-by : (l k : List ℕ) → apart (ownOf l .given .area .at .0) (ownOf l .given .area .size) (ownOf k .given .area .at .0) (ownOf k .given .area .size) ≡ true
+pub areas-by : (l k : List ℕ)
+    → apart (ownOf l .given .area .at .0) (ownOf l .given .area .size) (ownOf k .given .area .at .0) (ownOf k .given .area .size) ≡ true
     → areasApart l k ≡ true
 unfolding areasApart
 areas-by l k h = rw (h, or-true (eqb (holderOf k) 0), or-true (eqb (holderOf l) 0))
@@ -158,7 +159,9 @@ module _ (l : List ℕ) (long : length l ≡ 303) (s : Stage) where
   staged-lists = range-splice-after l 6 (numbersOf s) 15 288 (omega (arith, stage-length s)) fits-in
 
   -- its lists are as they were, so the new stage is all that is asked
-  staged-load : (g : Given) → loadFits g l ≡ true → stageFits (g .area) (coreTables g (listsIn l)) (g .io) s ≡ true → loadFits g staged ≡ true
+  staged-load : (g : Given) → loadFits g l ≡ true
+      → stageFits (g .area) (coreTables g (listsIn l)) (g .io) s ≡ true
+      → loadFits g staged ≡ true
   unfolding loadFits
   staged-load g q f =
       let k = and-right (tablesObey (g .area) (coreTables g (listsIn l))) _ q in
@@ -170,7 +173,8 @@ module _ (l : List ℕ) (long : length l ≡ 303) (s : Stage) where
         f,
       )
 
-  staged-held : (t : Stretch) → heldFits t l ≡ true → stageFits (ownOf l .given .area) (coreTables (ownOf l .given) (listsIn l)) (ownOf l .given .io) s ≡ true
+  staged-held : (t : Stretch) → heldFits t l ≡ true
+      → stageFits (ownOf l .given .area) (coreTables (ownOf l .given) (listsIn l)) (ownOf l .given .io) s ≡ true
       → heldFits t staged ≡ true
   unfolding heldFits
   staged-held t q f =
@@ -183,7 +187,8 @@ module _ (l : List ℕ) (long : length l ≡ 303) (s : Stage) where
         staged-load o (and-right (countsFit o) _ k) f,
       )
 
-  pub staged-fits : (m : List Stretch) → placeFits m l ≡ true → stageFits (ownOf l .given .area) (coreTables (ownOf l .given) (listsIn l)) (ownOf l .given .io) s ≡ true
+  pub staged-fits : (m : List Stretch) → placeFits m l ≡ true
+      → stageFits (ownOf l .given .area) (coreTables (ownOf l .given) (listsIn l)) (ownOf l .given .io) s ≡ true
       → placeFits m staged ≡ true
   unfolding placeFits
   staged-fits m q f =

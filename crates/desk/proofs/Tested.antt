@@ -37,8 +37,13 @@ area-small s a h q =
 pub counts-small : (g : Given) → countsFit g ≡ true → (g .io ≤ 128) × ((g .tables ≤ 128) × (g .kept ≤ 128))
 unfolding countsFit
 counts-small g q =
-    let r = and-right (leb (g .io) 128) _ q in
-    (leb-true (g .io) 128 (and-left (leb (g .io) 128) _ q), (leb-true (g .tables) 128 (and-left (leb (g .tables) 128) _ r), leb-true (g .kept) 128 (and-right (leb (g .tables) 128) _ r)))
+    let r = and-right (leb (g .io) 128) _ q in (
+      leb-true (g .io) 128 (and-left (leb (g .io) 128) _ q),
+      (
+        leb-true (g .tables) 128 (and-left (leb (g .tables) 128) _ r),
+        leb-true (g .kept) 128 (and-right (leb (g .tables) 128) _ r),
+      ),
+    )
 
 -- so the lists of a place can be read
 pub lists-readable : (g : Given) (l : List ℕ) → length l ≡ 303 → countsFit g ≡ true → g .area .at .0 + g .area .size ≤ 65536

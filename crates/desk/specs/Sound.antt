@@ -99,7 +99,8 @@ pub record HeldFacts (d : List ℕ) (p : ℕ) : Type 0 where
   pub numbers : every isIoNumber (ioNumbers (givenIn d p) (listsHeld d p)) ≡ true
   pub count : length (coreTables (givenIn d p) (listsHeld d p)) ≡ givenIn d p .tables
   pub obey : tablesObey (givenIn d p .area) (coreTables (givenIn d p) (listsHeld d p)) ≡ true
-  pub stage : stageFits (givenIn d p .area) (coreTables (givenIn d p) (listsHeld d p)) (givenIn d p .io) (stageIn (placeIn d p)) ≡ true
+  pub stage :
+      stageFits (givenIn d p .area) (coreTables (givenIn d p) (listsHeld d p)) (givenIn d p .io) (stageIn (placeIn d p)) ≡ true
 
 -- a stretch that ends in the numbers of a core: what the test of a map has shown
 abbrev pub SmallStretch : Stretch → Type 0

@@ -24,7 +24,8 @@ stage-fits-requires c κs = rw (c .before .before .before .lists-of .ensures) (c
 returns-2 : tie.Need-returns-2
 returns-2 c =
     let k = c .before .before .before in
-    rw (load-is, ← k .before .lists-of .ensures, sym (k .kept-fits .ensures) ∙ not-false _ (c .before .before .if1 .left), ← c .before .stage-of .ensures) (c .stage-fits .ensures)
+    let q = sym (k .kept-fits .ensures) ∙ not-false _ (c .before .before .if1 .left) in
+    rw (load-is, ← k .before .lists-of .ensures, q, ← c .before .stage-of .ensures) (c .stage-fits .ensures)
 
 pub load-fits-spec : {M : Type 1} → statement M
 load-fits-spec =

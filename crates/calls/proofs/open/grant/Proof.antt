@@ -5,12 +5,10 @@ use lib.ListN.{length}
 use denote.Ref.{now}
 use borrow.Author.Tests.{not-true, not-false}
 use Rattle.lists.proofs.Take.{taken-words, taken-nothing}
-use Rattle.layout.specs.Layout.{holders}
 use Rattle.layout.proofs.Places.{lists-length}
 use Rattle.rooms.specs.Rooms.{placeRefusal, lowestFree}
-use Rattle.rooms.proofs.Rooms.{given-place}
-use Rattle.desk.proofs.Facts.{sound-long, sound-fair}
-use Rattle.calls.proofs.Grant.{area-in-core, area-small, place-long, desk-written, words-inside, words-lent, grant-denied, grant-outside, grant-unlisted, grant-given}
+use Rattle.desk.proofs.Facts.{sound-long}
+use Rattle.calls.proofs.Grant.{area-in-core, area-small, none-due, place-inside, place-long, desk-written, words-inside, words-lent, grant-denied, grant-outside, grant-unlisted, grant-given}
 use borrow.Author.Needs.{needs}
 use Rattle.calls.proofs.open.grant.Statement.{statement}
 use Rattle.calls.proofs.open.grant.Tie as tie
@@ -28,26 +26,35 @@ same-length : tie.Need-same-length
 same-length c = search needs
 
 returns : tie.Need-returns
-returns c = let s = c .before .before .before .before .before .before .before .before .before in
-    grant-denied _ _ _ _ _ _ _ (c .before .place-refusal .ensures ∙ ap (placeRefusal (s .args .room)) (c .before .before .before .read-holders .ensures)) (c .if1 .taken)
+returns c =
+    let s = c .before .before .before .before .before .before .before .before .before in
+    let e = c .before .before .before .read-holders .ensures in
+    grant-denied _ _ _ _ _ _ _ (c .before .place-refusal .ensures ∙ ap (placeRefusal (s .args .room)) e) (c .if1 .taken)
 
 area-fits-requires : tie.Need-area-fits-requires
-area-fits-requires c κs = let s = c .before .before .before .before .before .before .before .before .before .before in (sound-long _ (s .pre .0), s .pre .2)
+area-fits-requires c κs =
+    let s = c .before .before .before .before .before .before .before .before .before .before in
+    (sound-long _ (s .pre .0), s .pre .2)
 
 same-length-2 : tie.Need-same-length-2
 same-length-2 c = search needs
 
 returns-2 : tie.Need-returns-2
-returns-2 c = let s = c .before .before .before .before .before .before .before .before .before .before .before .before in
-    grant-outside _ _ _ _ _ _ (sym (c .before .before .before .before .place-refusal .ensures ∙ ap (placeRefusal (s .args .room)) (c .before .before .before .before .before .before .read-holders .ensures)) ∙ c .before .before .before .if1 .left)
+returns-2 c =
+    let i = c .before .before .before in
+    let e = i .before .before .before .read-holders .ensures in
+    let f = none-due _ _ e _ _ (i .before .place-refusal .ensures) (i .if1 .left) in
+    grant-outside _ _ _ _ _ _ f
     (sym (c .before .area-fits .ensures) ∙ not-true _ (c .if2 .taken))
 
 slice-aggregate-take-lists : tie.Need-slice-aggregate-take-lists
 slice-aggregate-take-lists c = search needs
 
 take-lists-requires : tie.Need-take-lists-requires
-take-lists-requires c κs = let s = c .before .before .before .before .before .before .before .before .before .before .before .before .before in
-    (area-small _ (s .pre .0) _ _ (s .pre .2) (sym (c .before .before .area-fits .ensures) ∙ not-false _ (c .before .if2 .left)), refl)
+take-lists-requires c κs =
+    let s = c .before .before .before .before .before .before .before .before .before .before .before .before .before in
+    let g = sym (c .before .before .area-fits .ensures) ∙ not-false _ (c .before .if2 .left) in
+    (area-small _ (s .pre .0) _ _ (s .pre .2) g, refl)
 
 enum-known-n : tie.Need-enum-known-n
 enum-known-n c = search needs
@@ -60,13 +67,12 @@ lowest-free-requires c κs = search needs
 
 part-write-place-end : tie.Need-part-write-place-end
 part-write-place-end c =
-    let t = c .before .before .before .before .before .before in
-    let s = t .before .before .before .before .before .before .before .before .before .before .before .before .before .before in
-    let d = now (s .args .desk) in
-    let e = t .before .before .before .before .before .before .before .before .read-holders .ensures in
-    let f = sym (t .before .before .before .before .before .before .place-refusal .ensures ∙ ap (placeRefusal (s .args .room)) e) ∙ t .before .before .before .before .before .if1 .left in
-    let n = c .lowest-free .ensures ∙ ap lowestFree e in
-    omega (arith, n, given-place (holders d) (s .args .room) (sound-fair d (s .pre .0)) (s .pre .2) f, sound-long d (s .pre .0))
+    let i = c .before .before .before .before .before .before .before .before .before .before .before in
+    let n = i .before in
+    let s = n .before .before .before .before .before .before .before .before in
+    let e = n .before .before .read-holders .ensures in
+    let f = none-due _ _ e _ _ (n .place-refusal .ensures) (i .if1 .left) in
+    omega (arith, place-inside _ _ e _ (s .pre .0) (s .pre .2) f _ (c .lowest-free .ensures), sound-long _ (s .pre .0))
 
 mul-b : tie.Need-mul-b
 mul-b c = omega (arith, part-write-place-end c)
@@ -87,40 +93,39 @@ part-write-place-start : tie.Need-part-write-place-start
 part-write-place-start c = omega (arith, part-write-place-end c)
 
 array-share-prefix-words : tie.Need-array-share-prefix-words
-array-share-prefix-words c = let t = c .before .before .before .before .before .before .before in
-    let s = t .before .before .before .before .before .before .before .before .before .before .before .before .before .before in
-    let k = rw (c .before .before .before .before .n .given .1) at (t .take-lists .ensures) in
+array-share-prefix-words c =
+    let m = c .before .before .before .before in
+    let k = rw (m .n .given .1) at (m .before .before .before .take-lists .ensures) in
     words-inside _ _ _ _ _ _ k refl
 
 slice-aggregate-write-place : tie.Need-slice-aggregate-write-place
-slice-aggregate-write-place c = let t = c .before .before .before .before .before .before .before .before in
-    let s = t .before .before .before .before .before .before .before .before .before .before .before .before .before .before in
-    let k = rw (c .before .before .before .before .before .n .given .1) at (t .take-lists .ensures) in
-    let e = taken-words _ _ _ _ _ _ k in
-    e .1 ∙ sym (ap length (words-lent _ _ _ _ _ _ k refl))
+slice-aggregate-write-place c =
+    let m = c .before .before .before .before .before in
+    let k = rw (m .n .given .1) at (m .before .before .before .take-lists .ensures) in
+    taken-words _ _ _ _ _ _ k .1 ∙ sym (ap length (words-lent _ _ _ _ _ _ k refl))
 
 write-place-requires : tie.Need-write-place-requires
-write-place-requires c κs = let t = c .before .before .before .before .before .before .before .before in
+write-place-requires c κs =
+    let l = c .before .before in
+    let t = c .before .before .before .before .before .before .before .before in
     let s = t .before .before .before .before .before .before .before .before .before .before .before .before .before .before in
     let k = rw (c .before .before .before .before .before .n .given .1) at (t .take-lists .ensures) in
-    let d = now (s .args .desk) in
-    let e = t .before .before .before .before .before .before .before .before .read-holders .ensures in
-    let f = sym (t .before .before .before .before .before .before .place-refusal .ensures ∙ ap (placeRefusal (s .args .room)) e) ∙ t .before .before .before .before .before .if1 .left in
-    let n = c .before .before .lowest-free .ensures ∙ ap lowestFree e in
-    let h = given-place (holders d) (s .args .room) (sound-fair d (s .pre .0)) (s .pre .2) f in
-    let m = place-long d (c .before .before .lowest-free .result) _ (sound-long d (s .pre .0)) (omega (arith, n, h)) refl in (
+    let g = sym (t .before .before .before .area-fits .ensures) ∙ not-false _ (t .before .before .if2 .left) in
+    let n = sound-long _ (s .pre .0) in
+    let m = place-long _ (l .lowest-free .result) _ n (omega (arith, part-write-place-end l)) refl in (
       m,
       s .pre .2,
       record {
         long = lists-length _ m;
-        small = area-small d (s .pre .0) _ _ (s .pre .2) (sym (t .before .before .before .area-fits .ensures) ∙ not-false _ (t .before .before .if2 .left));
+        small = area-small _ (s .pre .0) _ _ (s .pre .2) g;
         obey = taken-words _ _ _ _ _ _ k .0;
         words = words-lent _ _ _ _ _ _ k refl;
       },
     )
 
 clear-requires : tie.Need-clear-requires
-clear-requires c κs = let t = c .before .before .before .before .before .before .before .before .before .before .before .before in
+clear-requires c κs =
+    let t = c .before .before .before .before .before .before .before .before .before .before .before .before in
     let s = t .before .before .before .before .before .before .before .before .before .before .before .before .before .before in
     let g = sym (t .before .before .before .area-fits .ensures) ∙ not-false _ (t .before .before .if2 .left) in
     omega (arith, s .pre .1, area-in-core (now (s .args .desk)) (s .pre .0) (s .args .room) (s .args .area) (s .pre .2) g)
@@ -135,18 +140,19 @@ same-length-4 : tie.Need-same-length-4
 same-length-4 c = search needs
 
 returns-3 : tie.Need-returns-3
-returns-3 c = let t = c .before .before .before .before .before .before .before .before .before .before .before .before .before .before .before in
+returns-3 c =
+    let l = c .before .before .before .before .before .before .before .before .before in
+    let t = l .before .before .before .before .before .before in
     let s = t .before .before .before .before .before .before .before .before .before .before .before .before .before .before in
-    let k = rw (c .before .before .before .before .before .before .before .before .before .before .before .before .n .given .1) at (t .take-lists .ensures) in
-    let e = t .before .before .before .before .before .before .before .before .read-holders .ensures in
-    let d = now (s .args .desk) in
-    let f = sym (t .before .before .before .before .before .before .place-refusal .ensures ∙ ap (placeRefusal (s .args .room)) e) ∙ t .before .before .before .before .before .if1 .left in
+    let k = rw (l .before .before .before .n .given .1) at (t .take-lists .ensures) in
+    let i = t .before .before .before .before .before in
+    let e = i .before .before .before .read-holders .ensures in
+    let f = none-due _ _ e _ _ (i .before .place-refusal .ensures) (i .if1 .left) in
     let g = sym (t .before .before .before .area-fits .ensures) ∙ not-false _ (t .before .before .if2 .left) in
     let o = taken-words _ _ _ _ _ _ k .0 in
-    let n = c .before .before .before .before .before .before .before .before .before .lowest-free .ensures ∙ ap lowestFree e in
-    let h = given-place (holders d) (s .args .room) (sound-fair d (s .pre .0)) (s .pre .2) f in
-    grant-given _ _ _ _ _ _ f g _ _ _ o n
-    (desk-written _ _ _ _ d _ _ _ (sound-long d (s .pre .0)) (omega (arith, n, h)) refl (area-small d (s .pre .0) _ _ (s .pre .2) g) o
+    let n = sound-long _ (s .pre .0) in
+    grant-given _ _ _ _ _ _ f g _ _ _ o (l .lowest-free .ensures ∙ ap lowestFree e)
+    (desk-written _ _ _ _ _ _ _ _ n (omega (arith, part-write-place-end l)) refl (area-small _ (s .pre .0) _ _ (s .pre .2) g) o
     (c .before .before .before .before .before .before .write-place .ensures))
     (c .before .before .clear .ensures)
 
@@ -154,14 +160,13 @@ same-length-5 : tie.Need-same-length-5
 same-length-5 c = search needs
 
 returns-4 : tie.Need-returns-4
-returns-4 c = let t = c .before .before .before in
-    let s = t .before .before .before .before .before .before .before .before .before .before .before .before .before .before in
-    let k = rw (c .enum-told .given .1) at (t .take-lists .ensures) in
-    let e = t .before .before .before .before .before .before .before .before .read-holders .ensures in
+returns-4 c =
+    let t = c .before .before .before in
+    let i = t .before .before .before .before .before in
     grant-unlisted _ _ _ _ _ _
-    (sym (t .before .before .before .before .before .before .place-refusal .ensures ∙ ap (placeRefusal (s .args .room)) e) ∙ t .before .before .before .before .before .if1 .left)
+    (none-due _ _ (i .before .before .before .read-holders .ensures) _ _ (i .before .place-refusal .ensures) (i .if1 .left))
     (sym (t .before .before .before .area-fits .ensures) ∙ not-false _ (t .before .before .if2 .left))
-    (taken-nothing _ _ _ _ _ k)
+    (taken-nothing _ _ _ _ _ (rw (c .enum-told .given .1) at (t .take-lists .ensures)))
 
 pub grant-spec : {M : Type 1} → statement M
 grant-spec =
