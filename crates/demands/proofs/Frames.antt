@@ -77,7 +77,7 @@ covered-false (suc n) d i q p h a =
 -- what is covered hangs on what the places hold
 covers-of : (l k : List ℕ) (i : ℕ) → ownOf l ≡ ownOf k → covers l i ≡ covers k i
 unfolding covers
-covers-of l k i q = ap₂ (λ (a n : ℕ). leb a i && ltb i (a + n)) (ap (λ (o : Place). o .area .at .0) q) (extent-of l k q)
+covers-of l k i q = ap₂ (λ (a n : ℕ). leb a i && ltb i (a + n)) (ap (λ (o : Place). o .given .area .at .0) q) (extent-of l k q)
 
 covered-of : (n : ℕ) (d e : List ℕ) (i : ℕ) → ((p : ℕ) → ownOf (placeIn d p) ≡ ownOf (placeIn e p)) → covered n d i ≡ covered n e i
 unfolding covered

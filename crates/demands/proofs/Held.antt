@@ -20,7 +20,7 @@ use Rattle.feed.proofs.Laws.{Fit}
 use Rattle.feed.proofs.Held as feeding
 
 abbrev pub areaOf : List ℕ → Area
-areaOf l = ownOf l .area
+areaOf l = ownOf l .given .area
 
 -- what the test of the holder has shown
 pub held-by : (d : List ℕ) (r p : ℕ) → holds d r p ≡ true → holderOf (placeIn d p) ≡ r + 1

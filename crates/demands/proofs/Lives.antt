@@ -152,7 +152,7 @@ module _ (laws : BlockLaws) (kept : FeedKeeps) (r p : ℕ) (x : Load) (a : Absol
           → range (run call cs n .core) (x .area .at .0) (x .area .size) ≡ range m (x .area .at .0) (x .area .size)
       words-n q =
           let i : areaOf (placeIn (staged (s .desk) p t) p) ≡ x .area =
-          ap (λ (o : Place). o .area) (staged-own (s .desk) (k .desk) p in-p t) ∙ area-is in
+          ap (λ (o : Place). o .given .area) (staged-own (s .desk) (k .desk) p in-p t) ∙ area-is in
           rw i at (words-held p n (run call cs n) (q .same) (λ z. omega (arith, holder-n)))
 
     abbrev Says : Step → Type 0

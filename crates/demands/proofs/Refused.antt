@@ -143,7 +143,7 @@ same-state s t d c = λ i. record { desk = d i; core = c i }
 
 module _ (s : State) (r p : ℕ) (block : List ℕ) where
   abbrev area : Area
-  area = ownOf (placeIn (s .desk) p) .area
+  area = ownOf (placeIn (s .desk) p) .given .area
 
   abbrev Breaks : Outcome → Type 0
   Breaks o =

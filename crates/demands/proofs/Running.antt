@@ -76,7 +76,7 @@ leftIn Complete = 0
 leftIn Broken = 0
 
 abbrev pub given : Load → ℕ → Assignments
-given x near = record { area = x .area; tables = x .tables; ios = x .ios; near = near; all = length (x .ios) }
+given x near = record { area = x .area; tables = x .tables; ios = x .ios; channels = near }
 
 -- the section lies in the area; `near` is the label's count of references of types 0 and 2
 pub record Housing (x : Load) (near : ℕ) (c : Course) (own section : Section) : Type 0 where

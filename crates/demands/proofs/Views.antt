@@ -17,12 +17,13 @@ use Rattle.word.proofs.Stretch.{Beside}
 use Rattle.stage.specs.declared.Stage.{Stage}
 use Rattle.stage.specs.Stage.{numbersOf}
 use Rattle.stage.proofs.Back.{stage-length, stage-back}
+use Rattle.lists.specs.Load.{listWords}
 use Rattle.layout.specs.declared.Place.{Place}
-use Rattle.layout.specs.Layout.{base, placeIn, holderOf, ownOf, stageIn, iosIn, wordsIn, ranksIn}
+use Rattle.layout.specs.Layout.{base, placeIn, holderOf, ownOf, stageIn, listsAt, listsIn}
 use Rattle.layout.proofs.Places.{place-length, written-length, place-written, place-kept}
 use Rattle.desk.specs.Sound.{sound}
 use Rattle.desk.proofs.Facts.{sound-long}
-use Rattle.feed.specs.Feed.{loadBy, loadIn, staged}
+use Rattle.feed.specs.Feed.{loadIn, staged}
 use Rattle.demands.specs.History.{State}
 use Rattle.demands.proofs.Held.{areaOf, held-apart}
 
@@ -105,11 +106,11 @@ confined-same p s = record { long = refl; fixed = refl; others = λ q n. refl; o
 
 pub extent-of : (l k : List ℕ) → ownOf l ≡ ownOf k → extent l ≡ extent k
 unfolding extent ownOf
-extent-of l k q = ap (λ (o : Place). cond (eqb (o .holder) 0) 0 (o .area .size)) q
+extent-of l k q = ap (λ (o : Place). cond (eqb (o .holder) 0) 0 (o .given .area .size)) q
 
 pub words-of : (l k core : List ℕ) → ownOf l ≡ ownOf k → wordsOf l core ≡ wordsOf k core
 unfolding wordsOf
-words-of l k core q = ap₂ (λ (a n : ℕ). range core a n) (ap (λ (o : Place). o .area .at .0) q) (extent-of l k q)
+words-of l k core q = ap₂ (λ (a n : ℕ). range core a n) (ap (λ (o : Place). o .given .area .at .0) q) (extent-of l k q)
 
 -- a load's view is as it was where its place is, and its area's words are
 words-by : (l k core : List ℕ) → length k ≡ length core
@@ -157,13 +158,10 @@ own-staged l t h =
 
 -- the lists stand behind it
 load-staged : (l : List ℕ) (t : Stage) → length l ≡ 303 → loadIn (splice l 6 (numbersOf t)) ≡ loadIn l
-unfolding loadIn wordsIn ranksIn iosIn
+unfolding loadIn listsIn
 load-staged l t h =
     let n = stage-length t in
-    let at : (i m : ℕ) → 15 ≤ i → range (splice l 6 (numbersOf t)) i m ≡ range l i m =
-    λ i m g. range-splice-after l 6 (numbersOf t) i m (omega arith) (omega arith) in
-    ap (λ (o : Place). loadBy o (splice l 6 (numbersOf t))) (own-staged l t h)
-    ∙ rw (at 47 (ownOf l .kept) (omega arith), at 175 (ownOf l .tables) (omega arith), at 15 32 (omega arith))
+    rw (own-staged l t h, range-splice-after l 6 (numbersOf t) listsAt listWords (omega arith) (omega arith))
 
 module _ (d : List ℕ) (ok : sound d ≡ true) (p : ℕ) (h : p < 12) (t : Stage) where
   few : 6 + length (numbersOf t) ≤ 303

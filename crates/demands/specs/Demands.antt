@@ -13,7 +13,7 @@ use Rattle.word.specs.declared.Area.{Area}
 use Rattle.word.specs.declared.Fault.{Fault}
 use Rattle.lists.specs.Obey.{tablesOf}
 use Rattle.stage.specs.declared.Stage.the-variants.{Broken}
-use Rattle.layout.specs.Layout.{stageAt, iosAt, coreLength, base, placeIn, ownOf, stageIn}
+use Rattle.layout.specs.Layout.{stageAt, listsAt, coreLength, base, placeIn, ownOf, stageIn}
 use Rattle.desk.specs.Sound.{sound}
 use Rattle.calls.specs.Answer.{packed, Small}
 use Rattle.calls.specs.declared.Answer.{Answer}
@@ -65,14 +65,14 @@ pub record BrokenOff (p : ℕ) (area : Area) (s after : State) : Type 0 where
   pub beside : (j : ℕ) → Outside area j → getD (after .core) j 0 ≡ getD (s .core) j 0
   pub core-long : length (after .core) ≡ length (s .core)
   pub stage : stageIn (placeIn (after .desk) p) ≡ Broken
-  pub others : (i : ℕ) → (base p + stageAt ≤ i → i < base p + iosAt → ⊥) → getD (after .desk) i 0 ≡ getD (s .desk) i 0
+  pub others : (i : ℕ) → (base p + stageAt ≤ i → i < base p + listsAt → ⊥) → getD (after .desk) i 0 ≡ getD (s .desk) i 0
   pub desk-long : length (after .desk) ≡ length (s .desk)
 
 -- feed alone gives them
 abbrev pub Demand1Broken : Type 0
 Demand1Broken =
     ((s : State) (r p : ℕ) (block : List ℕ) (f : Fault) → answerTo (Feed r p block) s ≡ Refused f → 13 ≤ f .number
-    → (f .number ≤ 22) × BrokenOff p (ownOf (placeIn (s .desk) p) .area) s (call (Feed r p block) s))
+    → (f .number ≤ 22) × BrokenOff p (ownOf (placeIn (s .desk) p) .given .area) s (call (Feed r p block) s))
     × (((s : State) (r : ℕ) (area : Area) (ios tables : List ℕ) (f : Fault) → answerTo (Open r area ios tables) s ≡ Refused f → f .number ≤ 8)
     × ((s : State) (n r p : ℕ) (f : Fault) → answerTo (Release n r p) s ≡ Refused f → f .number ≤ 9))
 
@@ -104,7 +104,7 @@ Demand2Outside =
     (s : State) (j : ℕ)
     → ((r : ℕ) (area : Area) (ios tables : List ℕ) → Outside area j
     → getD (call (Open r area ios tables) s .core) j 0 ≡ getD (s .core) j 0)
-    × ((r p : ℕ) (block : List ℕ) → Outside (ownOf (placeIn (s .desk) p) .area) j
+    × ((r p : ℕ) (block : List ℕ) → Outside (ownOf (placeIn (s .desk) p) .given .area) j
     → getD (call (Feed r p block) s .core) j 0 ≡ getD (s .core) j 0)
     × ((n r p : ℕ) → call (Release n r p) s .core ≡ s .core)
 

@@ -174,7 +174,7 @@ lastBlock file = getD file (length file - 1) []
 
 abbrev pub assignmentsOf : Area → List CoreTable → List ℕ → Label → Assignments
 assignmentsOf area tables ios l =
-    record { area = area; tables = tables; ios = ios; near = channelCount l; all = ioCount l }
+    record { area = area; tables = tables; ios = ios; channels = channelCount l }
 
 -- one segment section and as many table sections as the label says
 unfoldable pub storesBeyond : Area → List CoreTable → List ℕ → LabelRead → List (List ℕ) → List Store

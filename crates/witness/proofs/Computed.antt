@@ -22,6 +22,7 @@ use Rattle.lists.specs.Obey.{listsObey, tablesObey, tablesOf}
 use Rattle.lists.specs.Keep.{numbersKept, wordsKept, ranksKept, wordsFrom, ranked}
 use Rattle.sorting.specs.Sorted.{sorted}
 use Rattle.lists.specs.Kept.{numbersIn, tablesIn}
+use Rattle.lists.specs.Load.{iosIn, wordsIn, ranksIn, coreTables, ioNumbers, keptLists}
 use Rattle.lists.specs.Chain.{chain, chainFrom}
 use Rattle.field.specs.Field.{valued, movedField, becomes, putBack, fieldStep}
 use Rattle.group.specs.Group.{halfStep, wordStep, changedWords, wordsLie, addressOf, indicatorsFit, groupFits, refusedGroup, storedGroup, groupOutcome, readOutcome, groupStep}
@@ -34,12 +35,12 @@ use Rattle.sections.specs.Heads.{banksFit, withSegment, segmentStep}
 use Rattle.sections.specs.Program.{afterLast, afterGroup, itemStep, closes, programFrom, programStep}
 use Rattle.map.specs.Map.{stretchOf, mapOf, inCore, stretchesApart, mapObeys}
 use Rattle.rooms.specs.Rooms.{hit, count, free, held, heldEach, idle, atMost, fair, placeRefusal, lowestFree}
-use Rattle.layout.specs.Layout.{mapNumbers, holders, places, placeIn, ownOf, stageIn, iosIn, wordsIn, ranksIn, holds}
+use Rattle.layout.specs.Layout.{mapNumbers, holders, places, placeIn, ownOf, stageIn, listsIn, holds}
 use Rattle.desk.specs.Sound.{areaIn, countsFit, loadFits, heldFits, placeFits, areasApart, sound}
 use Rattle.calls.specs.declared.Answer.the-variants.{Refused, Made, Opened, More, Done}
 use Rattle.calls.specs.Entry.{entryRefusal, entered}
 use Rattle.calls.specs.Make.{freed, freshDesk, makeOf}
-use Rattle.calls.specs.Open.{besideOwn, areaFits, openedOwn, openedDesk, opened, grantOf, openOf}
+use Rattle.calls.specs.Open.{besideOwn, areaFits, openedOwn, openedPlace, openedDesk, opened, grantOf, openOf}
 use Rattle.feed.specs.Block.{dueStep, blockStep}
 use Rattle.feed.specs.Feed.{loadIn, staged, settledOf, takenOf, checkedOf, heldOf, feedOf}
 use Rattle.hand_deck.specs.Blocks.{withWords, blank, deckLabel, deckProgram, deckTermination, deckFile}
@@ -62,8 +63,8 @@ unfolding every everyTwo range tab splice cleared within apart characters spelt 
     wordStep changedWords wordsLie addressOf indicatorsFit groupFits refusedGroup storedGroup groupOutcome readOutcome groupStep numbersOf stageOf courseFits bankFits dueFits stageFits
     recordDue isOver afterLabel withLabel labelStep terminationStep banksFit withSegment segmentStep afterLast afterGroup itemStep closes
     programFrom programStep stretchOf mapOf inCore stretchesApart mapObeys hit count free held heldEach idle atMost fair placeRefusal
-    lowestFree mapNumbers holders places placeIn ownOf stageIn iosIn wordsIn ranksIn areaIn countsFit loadFits heldFits placeFits areasApart
-    sound freed freshDesk makeOf besideOwn areaFits openedOwn openedDesk opened grantOf openOf entryRefusal entered holds dueStep blockStep
+    lowestFree mapNumbers holders places placeIn ownOf stageIn listsIn iosIn wordsIn ranksIn coreTables ioNumbers keptLists areaIn countsFit loadFits heldFits placeFits areasApart
+    sound freed freshDesk makeOf besideOwn areaFits openedOwn openedPlace openedDesk opened grantOf openOf entryRefusal entered holds dueStep blockStep
     loadIn staged settledOf takenOf checkedOf heldOf feedOf withWords blank deckLabel deckProgram deckTermination run answerTo call told oldDesk oldCore
     madeWith answersIn taken starts released
 computed m cs = told cs (madeWith m)
