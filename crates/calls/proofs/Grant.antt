@@ -17,7 +17,7 @@ use Rattle.map.specs.Map.{mapOf, none}
 use Rattle.rooms.specs.Rooms.{placeRefusal, lowestFree}
 use Rattle.rooms.proofs.Rooms.{given-place}
 use Rattle.lists.specs.Obey.{tablesOf, listsObey}
-use Rattle.lists.specs.Keep.{wordsKept, Takes}
+use Rattle.lists.specs.HowKeep.{wordsKept, TakesLists}
 use Rattle.lists.specs.Load.{givenBy, keptLists, Keepable}
 use Rattle.lists.specs.declared.Taken.the-variants.{Words}
 use Rattle.lists.proofs.Keep.{lists-obey}
@@ -89,7 +89,7 @@ place-long d p b n h e = ap length (range-lent d b 303) ∙ length-range d b 303
 lent-inside : (l vs ws : List ℕ) (n : ℕ) → ws ≡ splice l 0 vs → n ≡ length vs → length vs ≤ length l → n ≤ length ws
 lent-inside l vs ws n e k h = rw (e, length-splice l 0 vs (omega arith)) (omega arith)
 
-module _ (a : Area) (ios tables l ws : List ℕ) (n : ℕ) (t : Takes a ios tables l (Words n) ws) (h : length l ≡ 128) where
+module _ (a : Area) (ios tables l ws : List ℕ) (n : ℕ) (t : TakesLists a ios tables l (Words n) ws) (h : length l ≡ 128) where
   few-words : length (wordsKept (tablesOf tables)) ≤ length l
   few-words =
       let o = lists-obey a ios tables (taken-words a ios tables l ws n t .0) in

@@ -14,7 +14,7 @@ use Rattle.word.proofs.Cases.{by-eq, by-lt, both, when}
 use Rattle.word.proofs.Lists.{length-splice, range-splice-same, getD-splice-out}
 use Rattle.word.proofs.Stretch.{splice-first}
 use Rattle.map.specs.Map.{mapOf, mapObeys}
-use Rattle.rooms.specs.Rooms.{fresh}
+use Rattle.rooms.specs.Rooms.{allFree}
 use Rattle.rooms.proofs.Rooms.{fresh-fair}
 use Rattle.layout.specs.Layout.{deskWords, base, coreLength, mapNumbers, placeIn, holderIn, holderOf, holders}
 use Rattle.layout.proofs.Places.{holder-at, length-holders, getD-holders}
@@ -63,7 +63,7 @@ module _ (d : List ℕ) (long : length d ≡ deskWords) where
       (λ z. rw z (getD-set-same (freed p d) (base p) 0 0 (omega (arith, length-freed p d))))
       (λ z. getD-set-other (freed p d) (base p) (base q) 0 0 (λ y. z (omega arith)) ∙ none-held p (omega arith) q (other k z))
 
-  holders-freed : holders (freed 12 d) ≡ fresh
+  holders-freed : holders (freed 12 d) ≡ allFree
   holders-freed =
       ext-getD 0 _ _ (length-holders (freed 12 d))
       (λ q g. let k : q < 12 = omega (arith, length-holders (freed 12 d)) in
@@ -90,7 +90,7 @@ module _ (d : List ℕ) (n : ℕ) (m : List ℕ) (long : length d ≡ deskWords)
       rw (← fresh-as) (map-freed _ fixed-length 12 (omega arith)
       ∙ rw (← map) (range-splice-same (set d 0 n) 1 m (rw length-set (omega arith))))
 
-  fresh-holders : holders (freshDesk d n m) ≡ fresh
+  fresh-holders : holders (freshDesk d n m) ≡ allFree
   fresh-holders = rw (← fresh-as) (holders-freed _ fixed-length)
 
   -- all holders are 0, so that the map is all that is asked
@@ -132,8 +132,8 @@ module _ (d : List ℕ) (n : ℕ) (m : List ℕ) (q : makeOf d n m .answer ≡ M
   make-core = make-by (λ e. coreLength e ≡ n) d n m (λ a c b o. fresh-core d n m a b) q
 
   -- all places are free
-  pub make-holders : holders (makeOf d n m .desk) ≡ fresh
-  make-holders = make-by (λ e. holders e ≡ fresh) d n m (λ a c b o. fresh-holders d n m a b) q
+  pub make-holders : holders (makeOf d n m .desk) ≡ allFree
+  make-holders = make-by (λ e. holders e ≡ allFree) d n m (λ a c b o. fresh-holders d n m a b) q
 
 pub make-small : (d : List ℕ) (n : ℕ) (m : List ℕ) → Small (makeOf d n m .answer)
 unfolding makeOf

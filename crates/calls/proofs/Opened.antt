@@ -21,7 +21,7 @@ use Rattle.rooms.proofs.Count.{lowest-is-free}
 use Rattle.rooms.proofs.Rooms.{given-place, given-fair}
 use Rattle.lists.specs.Obey.{tablesOf, listsObey}
 use Rattle.lists.specs.declared.Given.{Given}
-use Rattle.lists.specs.Keep.{wordsKept}
+use Rattle.lists.specs.HowKeep.{wordsKept}
 use Rattle.lists.specs.Load.{loadOf, givenBy, keptLists}
 use Rattle.lists.proofs.Keep.{lists-obey, kept-passes}
 use Rattle.lists.proofs.Back.{words-most, kept-words, kept-back}

@@ -47,11 +47,11 @@ fn write_fresh(desk: &mut [u64], core: u64, numbers: &[u64])
 {
     desk[CORE_AT] = core;
     word::slices::copy_in(desk, MAP_AT, numbers);
-    free_places(desk);
+    clear_places(desk);
 }
 
 // Every place set free.
-fn free_places(desk: &mut [u64])
+fn clear_places(desk: &mut [u64])
     requires { ⌜ length (now desk) ≡ deskWords ⌝ }
     ensures { λ _. ⌜ now (desk .exit) ≡ freed placeCount (now (desk .entry)) ⌝ }
 {

@@ -6,7 +6,7 @@ use Rattle.word.specs.Lists.{range}
 use Rattle.demands.specs.Orders.{run}
 use Rattle.demands.specs.History.{State, Call, call}
 use Rattle.demands.specs.History.Call.{Open}
-use Rattle.demands.specs.Demands.{Ready, Fed, feed, feeds, Demand1Sound, Demand2, Demand3Orders, Demand3Images}
+use Rattle.demands.specs.Demands.{Prepared, Fed, feed, feeds, Demand1Sound, Demand2, Demand3Orders, Demand3Images}
 
 run-on : (xs ys : List Call) (s : State) → run call (xs ++ ys) s ≡ run call ys (run call xs s)
 unfolding run
@@ -19,7 +19,7 @@ run-feeds [] s = refl
 run-feeds (e ∷ es) s = run-feeds es (feed e s)
 
 module _ (kept : Demand1Sound) where
-  run-ready : (cs : List Call) (s : State) → Ready s → Ready (run call cs s)
+  run-ready : (cs : List Call) (s : State) → Prepared s → Prepared (run call cs s)
   unfolding run
   run-ready [] s k = k
   run-ready (c ∷ cs) s k = run-ready cs (call c s) (kept .1 c s k)
@@ -27,7 +27,7 @@ module _ (kept : Demand1Sound) where
   pub demand-3-images : Demand2 → Demand3Orders → Demand3Images
   demand-3-images image orders d core m made before between es fs r p area ios tables s ts a others from grant is-ts stays done same =
       let o = call (Open r area ios tables) s in
-      let k : Ready s = rw from (run-ready before _ (kept .0 d core m made)) in
+      let k : Prepared s = rw from (run-ready before _ (kept .0 d core m made)) in
       let t = run-ready between o (kept .1 (Open r area ios tables) s k) in
       let e : run call (between ++ feeds fs) o ≡ run call (between ++ feeds es) o =
       run-on between (feeds fs) o

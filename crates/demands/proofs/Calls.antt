@@ -28,7 +28,7 @@ use Rattle.calls.proofs.Entry.{entered-cases}
 use Rattle.feed.proofs.Laws.{BlockLaws}
 use Rattle.demands.specs.History.{State, Call, answerTo, call, isReleased}
 use Rattle.demands.specs.History.Call.{Open, Feed, Release}
-use Rattle.demands.specs.Demands.{Ready}
+use Rattle.demands.specs.Demands.{Prepared}
 use Rattle.demands.proofs.Held.{held-by, held-apart}
 use Rattle.demands.proofs.Views.{view, view-by, outside-beside}
 use Rattle.demands.proofs.Reach.{leftBy}
@@ -49,7 +49,7 @@ module _ (s : State) (r : ℕ) (a : Area) (ios tables : List ℕ) (g : Granted (
   after-sound : sound after ≡ true
   after-sound = opened-sound (s .desk) (g .desk) r a ios tables (g .room) (g .given) (g .fit) (g .obey)
 
-  pub granted-ready : Ready (leftBy (opened (s .desk) (s .core) r a ios tables))
+  pub granted-ready : Prepared (leftBy (opened (s .desk) (s .core) r a ios tables))
   unfolding opened
   granted-ready =
       let w = opened-replaced (s .desk) (g .desk) r a ios tables (g .room) (g .given) (g .fit) (g .obey) in record {
@@ -78,7 +78,7 @@ module _ (s : State) (r : ℕ) (a : Area) (ios tables : List ℕ) (g : Granted (
         (outside-beside j _ _ (λ u v. (rw (same-place, o) at sep) j x y u v)))
 
 module _ (r : ℕ) (a : Area) (ios tables : List ℕ) (s : State) where
-  open-ready : Ready s → Ready (call (Open r a ios tables) s)
+  open-ready : Prepared s → Prepared (call (Open r a ios tables) s)
   unfolding call
   open-ready k =
       ⊎-elim
@@ -111,7 +111,7 @@ module _ (n q k : ℕ) (s : State) where
   abbrev without : Outcome → State
   without o = record { desk = o .desk; core = s .core }
 
-  release-ready : Ready s → Ready (call (Release n q k) s)
+  release-ready : Prepared s → Prepared (call (Release n q k) s)
   unfolding call
   release-ready m =
       ⊎-elim
@@ -144,7 +144,7 @@ module _ (n q k : ℕ) (s : State) where
 
 -- ---- all calls
 module _ (laws : BlockLaws) (kept : FeedKeeps) where
-  pub call-ready : (c : Call) (s : State) → Ready s → Ready (call c s)
+  pub call-ready : (c : Call) (s : State) → Prepared s → Prepared (call c s)
   call-ready (Open r a ios tables) s k = open-ready r a ios tables s k
   call-ready (Feed r p block) s k = feed-ready laws kept r p block s k
   call-ready (Release n r p) s k = release-ready n r p s k

@@ -25,8 +25,8 @@ use Rattle.stage.specs.declared.Due.the-variants.{Segment}
 use Rattle.stage.specs.declared.Stage.the-variants.{Label, Program, Complete}
 use Rattle.stage.specs.Ranges.{bankFits}
 use Rattle.stage.specs.Record.{recordDue, isOver}
-use Rattle.step.specs.Label.{afterLabel, withLabel, labelStep}
-use Rattle.step.specs.Termination.{terminationStep}
+use Rattle.records.specs.Label.{afterLabel, withLabel, labelStep}
+use Rattle.records.specs.Termination.{terminationStep}
 use Rattle.sections.specs.Heads.{banksFit, withSegment, segmentStep}
 use Rattle.sections.specs.Program.{afterLast, afterGroup, itemStep, closes, programFrom, programStep}
 use Rattle.feed.specs.Block.{dueStep, blockStep}
@@ -53,7 +53,7 @@ abbrev core : List ℕ
 core = replicate 576 0
 
 abbrev afterwards : List ℕ
-afterwards = blockStep deckGiven (Program (record { near = 0; sections = 0 }) Segment) deckProgram core .core
+afterwards = blockStep deckGiven (Program (record { channels = 0; sections = 0 }) Segment) deckProgram core .core
 
 pub deck-taken : Takes deckGiven Label core deckFile Complete afterwards
 unfolding deckLabel deckProgram deckTermination withWords blank labelOf isName isRest letterOrDigit every characters

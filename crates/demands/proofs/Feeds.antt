@@ -22,7 +22,7 @@ use Rattle.feed.proofs.Laws.{BlockLaws}
 use Rattle.demands.specs.Orders.{run}
 use Rattle.demands.specs.History.{State, Call, answerTo, call, told, takenIn, taken, startsIn, starts, releasedIn, released}
 use Rattle.demands.specs.History.Call.{Open, Feed, Release}
-use Rattle.demands.specs.Demands.{Ready}
+use Rattle.demands.specs.Demands.{Prepared}
 use Rattle.demands.proofs.Held.{held-by}
 use Rattle.demands.proofs.Frames.{FeedKeeps}
 use Rattle.demands.proofs.Views.{View, view, view-kept}
@@ -67,7 +67,7 @@ pub cond-same : {X : Type 0} (b : Bool) (x : X) → cond b x x ≡ x
 cond-same true x = refl
 cond-same false x = refl
 
-module _ (laws : BlockLaws) (r p : ℕ) (s : State) (ready : Ready s) (held : holderOf (placeIn (s .desk) p) ≡ r + 1) where
+module _ (laws : BlockLaws) (r p : ℕ) (s : State) (ready : Prepared s) (held : holderOf (placeIn (s .desk) p) ≡ r + 1) where
   own-sorted : (block : List ℕ) → Idle r p (Feed r p block) s ⊎ Steps r p (Feed r p block) s
   unfolding call answerTo
   own-sorted block =
@@ -139,7 +139,7 @@ module _ (laws : BlockLaws) (kept : FeedKeeps) (r p : ℕ) where
     pub no-start : starts r p (told cs s) ≡ []
     pub same : view p (run call cs s) ≡ view p s
 
-  pub quiet : (cs : List Call) (s : State) → Ready s → holderOf (placeIn (s .desk) p) ≡ r + 1 → isOver (stageIn (placeIn (s .desk) p)) ≡ true
+  pub quiet : (cs : List Call) (s : State) → Prepared s → holderOf (placeIn (s .desk) p) ≡ r + 1 → isOver (stageIn (placeIn (s .desk) p)) ≡ true
       → released r p (told cs s) ≡ false → Quiet cs s
   unfolding told taken starts released run
   quiet [] s k h o q = record { none = refl; no-start = refl; same = refl }

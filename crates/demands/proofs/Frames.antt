@@ -27,7 +27,7 @@ use Rattle.feed.proofs.Laws.{BlockLaws}
 use Rattle.demands.specs.Orders.{inTurn}
 use Rattle.demands.specs.History.{State, answerTo, call}
 use Rattle.demands.specs.History.Call.{Feed}
-use Rattle.demands.specs.Demands.{Ready, Fed, feed, fedAnswer, loadOf, Demand3Orders, Demand3Turns}
+use Rattle.demands.specs.Demands.{Prepared, Fed, feed, fedAnswer, loadNumber, Demand3Orders, Demand3Turns}
 use Rattle.demands.proofs.Held.{areaOf}
 use Rattle.demands.proofs.Parts.{Framed, same-state, same-answers}
 use Rattle.demands.proofs.Turns.{only-in-turn}
@@ -180,7 +180,7 @@ module _ (r p : ℕ) (block : List ℕ) (past : 12 ≤ p) where
   past-refused d core k e =
       rw (entered-room d _ r _ _ k e, le-ltb p 12 past) (by-test (ltb r roomCount) (λ q. rw q) (λ q. rw q))
 
-  past-answer : (s t : State) → Ready s → Ready t → answerTo (Feed r p block) s ≡ answerTo (Feed r p block) t
+  past-answer : (s t : State) → Prepared s → Prepared t → answerTo (Feed r p block) s ≡ answerTo (Feed r p block) t
   unfolding answerTo
   past-answer s t k m = past-refused (s .desk) (s .core) (k .desk) (k .core) ∙ sym (past-refused (t .desk) (t .core) (m .desk) (m .core))
 
@@ -193,14 +193,14 @@ abbrev pub FeedKeeps : Type 0
 FeedKeeps = (d core block : List ℕ) (r p : ℕ) → sound d ≡ true → sound (feedOf d core r p block .desk) ≡ true
 
 module _ (laws : BlockLaws) (kept : FeedKeeps) where
-  pub feed-ready : (r p : ℕ) (block : List ℕ) (s : State) → Ready s → Ready (call (Feed r p block) s)
+  pub feed-ready : (r p : ℕ) (block : List ℕ) (s : State) → Prepared s → Prepared (call (Feed r p block) s)
   feed-ready r p block s k =
       let c = feed-confined laws s p block r in record {
         desk = unfold call in (kept (s .desk) (s .core) block r p (k .desk));
         core = c .core ∙ k .core ∙ core-length (s .desk) (call (Feed r p block) s .desk) (sym (c .fixed));
       }
 
-  module _ (r p : ℕ) (block : List ℕ) (s t : State) (k : Ready s) (m : Ready t) (v : view p s ≡ view p t) where
+  module _ (r p : ℕ) (block : List ℕ) (s t : State) (k : Prepared s) (m : Prepared t) (v : view p s ≡ view p t) where
     own-view : view p (call (Feed r p block) s) ≡ view p (call (Feed r p block) t)
     unfolding call
     own-view = feed-match laws s t p v (k .desk) (m .desk) (k .core) (m .core) block r .1
@@ -209,33 +209,33 @@ module _ (laws : BlockLaws) (kept : FeedKeeps) where
     unfolding answerTo
     own-answer = feed-match laws s t p v (k .desk) (m .desk) (k .core) (m .core) block r .0
 
-  own : (e : Fed) (s t : State) → Ready s → Ready t → view (loadOf e) s ≡ view (loadOf e) t → view (loadOf e) (feed e s) ≡ view (loadOf e) (feed e t)
+  own : (e : Fed) (s t : State) → Prepared s → Prepared t → view (loadNumber e) s ≡ view (loadNumber e) t → view (loadNumber e) (feed e s) ≡ view (loadNumber e) (feed e t)
   own e s t k m v =
       by-lt (e .place) 12
       (λ h. let z : min (e .place) 12 ≡ e .place = omega arith in
       rw z (own-view (e .room) (e .place) (e .block) s t k m (rw z at v)))
       (λ h. rw (past-same (e .room) (e .place) (e .block) h s, past-same (e .room) (e .place) (e .block) h t) v)
 
-  answered : (e : Fed) (s t : State) → Ready s → Ready t → view (loadOf e) s ≡ view (loadOf e) t → fedAnswer e s ≡ fedAnswer e t
+  answered : (e : Fed) (s t : State) → Prepared s → Prepared t → view (loadNumber e) s ≡ view (loadNumber e) t → fedAnswer e s ≡ fedAnswer e t
   answered e s t k m v =
       by-lt (e .place) 12
       (λ h. let z : min (e .place) 12 ≡ e .place = omega arith in
       own-answer (e .room) (e .place) (e .block) s t k m (rw z at v))
       (λ h. past-answer (e .room) (e .place) (e .block) h s t k m)
 
-  other : (e : Fed) (q : ℕ) (s : State) → Ready s → (loadOf e ≡ q → ⊥) → view q (feed e s) ≡ view q s
+  other : (e : Fed) (q : ℕ) (s : State) → Prepared s → (loadNumber e ≡ q → ⊥) → view q (feed e s) ≡ view q s
   other e q s k n =
       by-lt (e .place) 12
       (λ h. view-kept (e .place) s (feed e s) (k .desk) (feed-confined laws s (e .place) (e .block) (e .room)) q (λ z. n (omega arith)))
       (λ h. rw (past-same (e .room) (e .place) (e .block) h s))
 
-  still : (e : Fed) (s : State) → Ready s → rest (feed e s) ≡ rest s
+  still : (e : Fed) (s : State) → Prepared s → rest (feed e s) ≡ rest s
   still e s k =
       by-lt (e .place) 12
       (λ h. rest-still (e .place) h s (feed e s) (feed-confined laws s (e .place) (e .block) (e .room)))
       (λ h. rw (past-same (e .room) (e .place) (e .block) h s))
 
-  framed : Framed State Fed View Answer Rest loadOf feed fedAnswer Ready view rest
+  framed : Framed State Fed View Answer Rest loadNumber feed fedAnswer Prepared view rest
   framed = record {
     kept = λ e s k. feed-ready (e .room) (e .place) (e .block) s k;
     own = own;
@@ -249,4 +249,4 @@ module _ (laws : BlockLaws) (kept : FeedKeeps) where
   demand-3-orders s k es fs h = (same-state framed es fs s k h, same-answers framed es fs s k h)
 
   pub demand-3-turns : Demand3Turns
-  demand-3-turns s k es = demand-3-orders s k es (inTurn loadOf 13 es) (only-in-turn loadOf 13 (λ e. omega arith) es)
+  demand-3-turns s k es = demand-3-orders s k es (inTurn loadNumber 13 es) (only-in-turn loadNumber 13 (λ e. omega arith) es)

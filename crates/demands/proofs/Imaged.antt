@@ -20,7 +20,7 @@ use Rattle.program.specs.declared.Bank.{Bank}
 use Rattle.program.specs.Start.{startOf, inBank}
 use Rattle.lists.specs.Obey.{tableInside}
 use Rattle.group.specs.declared.Section.{Section}
-use Rattle.stage.specs.declared.Course.{Course}
+use Rattle.stage.specs.declared.LabelCounts.{LabelCounts}
 use Rattle.stage.specs.declared.Due.{Due}
 use Rattle.stage.specs.declared.Due.the-variants.{Segment as segment-due}
 use Rattle.stage.specs.declared.Stage.{Stage}
@@ -28,12 +28,12 @@ use Rattle.stage.specs.declared.Stage.the-variants.{Label, Entry, Program, Term
 use Rattle.stage.specs.declared.Step.{Step}
 use Rattle.stage.specs.declared.Step.the-variants.{More, Done, Refused}
 use Rattle.stage.specs.Record.{recordDue, isOver}
-use Rattle.step.specs.Label.{courseOf, afterLabel, withLabel, labelStep}
-use Rattle.step.specs.Entries.{entriesFit, afterEntries, entryStep}
-use Rattle.step.specs.Termination.{terminationStep}
+use Rattle.records.specs.Label.{labelCountsOf, afterLabel, withLabel, labelStep}
+use Rattle.records.specs.Entries.{entriesFit, afterEntries, entryStep}
+use Rattle.records.specs.Termination.{terminationStep}
 use Rattle.lists.specs.Load.{Load}
 use Rattle.sections.specs.Program.{StepOutcome, programStep}
-use Rattle.feed.specs.Block.{only, dueStep, blockStep}
+use Rattle.feed.specs.Block.{storesNothing, dueStep, blockStep}
 use Rattle.demands.specs.Image.{Piece, pieces, noSection, storesFrom, storesBeyond, storesOf, imageOf}
 use Rattle.demands.specs.Taking.{TakesBy, Takes}
 use Rattle.demands.proofs.Stores.{storeAll, AllInside, stores-image}
@@ -57,52 +57,52 @@ module _ (x : Load) (after : List ℕ) where
   nothing-more core (block ∷ blocks) h = let z : true ≡ false = h .0 in let y : _≡_ {A = ℕ} 0 1 = cc in absurd (omega arith)
 
   -- ---- program blocks, and the termination block
-  module _ (near : ℕ) (tables : every (tableInside (x .area)) (x .tables) ≡ true) where
+  module _ (channels : ℕ) (tables : every (tableInside (x .area)) (x .tables) ≡ true) where
     module _ (block : List ℕ) (blocks : List (List ℕ)) (core : List ℕ)
-        (ih : (s : Stage) (core′ : List ℕ) → Takes x s core′ blocks Complete after → Reads x near after s core′ (pieces blocks)) where
-      program-by : (c : Course) (due : Due) (r : Step) → programStep x c due block core .step ≡ r → GoesOn r
+        (ih : (s : Stage) (core′ : List ℕ) → Takes x s core′ blocks Complete after → Reads x channels after s core′ (pieces blocks)) where
+      program-by : (c : LabelCounts) (due : Due) (r : Step) → programStep x c due block core .step ≡ r → GoesOn r
           → TakesBy r (λ u. Takes x u (programStep x c due block core .core) blocks Complete after)
-          → Reads x near after (Program c due) core (pieces (block ∷ blocks))
+          → Reads x channels after (Program c due) core (pieces (block ∷ blocks))
       unfolding programStep pieces
       program-by c due (More t) e g h =
-          program-leads x near tables block t (pieces blocks) after 254 c due 1 core e (ih t _ h)
+          program-leads x channels tables block t (pieces blocks) after 254 c due 1 core e (ih t _ h)
       program-by c due (Done a) e g h = absurd g
       program-by c due (Refused f) e g h = absurd h
 
-      program-run : (c : Course) (due : Due) → Then blocks (programStep x c due block core) → Reads x near after (Program c due) core (pieces (block ∷ blocks))
+      program-run : (c : LabelCounts) (due : Due) → Then blocks (programStep x c due block core) → Reads x channels after (Program c due) core (pieces (block ∷ blocks))
       unfolding programStep
       program-run c due h = program-by c due (programStep x c due block core .step) refl (program-goes x block 254 c due 1 core) h
 
       over : (section : Section) (ps : List Piece) → Takes x Complete core blocks Complete after
-          → Comes (x .area) core (storesFrom (given x near) 0 section ps) after
+          → Comes (x .area) core (storesFrom (given x channels) 0 section ps) after
       unfolding storeAll AllInside
       over section ps h =
-          rw (no-stores (given x near) section ps) (record { last = sym (nothing-more core blocks h); inside = tt })
+          rw (no-stores (given x channels) section ps) (record { last = sym (nothing-more core blocks h); inside = tt })
 
-      termination-run : (b : Bank) → Then blocks (only (terminationStep (x .area) b block) core)
-          → Reads x near after (Termination b) core (pieces (block ∷ blocks))
+      termination-run : (b : Bank) → Then blocks (storesNothing (terminationStep (x .area) b block) core)
+          → Reads x channels after (Termination b) core (pieces (block ∷ blocks))
       unfolding terminationStep
       termination-run b =
-          when (λ (r : Step). Then blocks (only r core) → Reads x near after (Termination b) core (pieces (block ∷ blocks)))
+          when (λ (r : Step). Then blocks (storesNothing r core) → Reads x channels after (Termination b) core (pieces (block ∷ blocks)))
           (inBank b (startOf block))
           (λ _ h section st. over section (pieces (block ∷ blocks)) h)
           (λ _ h. absurd h)
 
-      due-run : (s : Stage) → Then blocks (dueStep x s block core) → Reads x near after s core (pieces (block ∷ blocks))
+      due-run : (s : Stage) → Then blocks (dueStep x s block core) → Reads x channels after s core (pieces (block ∷ blocks))
       unfolding dueStep
       due-run Label h section st = absurd st
-      due-run (Entry c strict b) h section st = absurd st
+      due-run (Entry c exact b) h section st = absurd st
       due-run (Program c due) h section st = program-run c due h section st
       due-run (Termination b) h section st = termination-run b h section st
       due-run Complete h section st = absurd st
       due-run Broken h section st = absurd st
 
     run : (s : Stage) (core : List ℕ) (blocks : List (List ℕ)) → Takes x s core blocks Complete after
-        → Reads x near after s core (pieces blocks)
+        → Reads x channels after s core (pieces blocks)
     unfolding Takes blockStep
-    run s core [] h = λ section st. let z : Stands x near Complete section = rw (h .0) at st in absurd z
+    run s core [] h = λ section st. let z : Stands x channels Complete section = rw (h .0) at st in absurd z
     run s core (block ∷ blocks) h =
-        when (λ (o : StepOutcome). Then blocks o → Reads x near after s core (pieces (block ∷ blocks))) (ofRecord (recordDue s) block)
+        when (λ (o : StepOutcome). Then blocks o → Reads x channels after s core (pieces (block ∷ blocks))) (ofRecord (recordDue s) block)
         (λ _ k. due-run block blocks core (λ u core′ g. run u core′ blocks g) s k)
         (λ _ k. absurd k)
         (h .1)
@@ -111,18 +111,18 @@ module _ (x : Load) (after : List ℕ) where
     abbrev many : ℕ
     many = entryBlocks (length (x .ios)) (length (x .tables))
 
-    module _ (c : Course) (strict : Bool) where
+    module _ (c : LabelCounts) (exact : Bool) where
       abbrev Left : ℕ → List ℕ → List (List ℕ) → Type 0
-      Left n core blocks = Reads x near after (Program c segment-due) core (pieces (drop n blocks))
+      Left n core blocks = Reads x channels after (Program c segment-due) core (pieces (drop n blocks))
 
-      entry-run : (b : ℕ) (core : List ℕ) (blocks : List (List ℕ)) → b < many → Takes x (Entry c strict b) core blocks Complete after
+      entry-run : (b : ℕ) (core : List ℕ) (blocks : List (List ℕ)) → b < many → Takes x (Entry c exact b) core blocks Complete after
           → Left (many - b) core blocks
       unfolding Takes blockStep dueStep entryStep afterEntries
-      entry-run b core [] l h = let e : Entry c strict b ≡ Complete = h .0 in let z : _≡_ {A = ℕ} 0 1 = cc in absurd (omega arith)
+      entry-run b core [] l h = let e : Entry c exact b ≡ Complete = h .0 in let z : _≡_ {A = ℕ} 0 1 = cc in absurd (omega arith)
       entry-run b core (block ∷ blocks) l h =
-          when (λ (o : StepOutcome). Then blocks o → Left (many - b) core (block ∷ blocks)) (ofRecord (recordDue (Entry c strict b)) block)
-          (λ _. when (λ (r : Step). Then blocks (only r core) → Left (many - b) core (block ∷ blocks))
-          (entriesFit (length (x .ios)) (x .tables) strict b block)
+          when (λ (o : StepOutcome). Then blocks o → Left (many - b) core (block ∷ blocks)) (ofRecord (recordDue (Entry c exact b)) block)
+          (λ _. when (λ (r : Step). Then blocks (storesNothing r core) → Left (many - b) core (block ∷ blocks))
+          (entriesFit (length (x .ios)) (x .tables) exact b block)
           (λ _. when (λ (s : Stage). Takes x s core blocks Complete after → Left (many - b) core (block ∷ blocks)) (ltb (b + 1) many)
           (λ q k. rw (next (ltb-true (b + 1) many q)) (entry-run (b + 1) core blocks (ltb-true (b + 1) many q) k))
           (λ q k. rw (last (ltb-false (b + 1) many q)) (run (Program c segment-due) core blocks k)))
@@ -143,7 +143,7 @@ module _ (x : Load) (after : List ℕ) where
 
     -- the lists have as many entries as the label says
     beyond : (l : LabelWords) → assignmentsFit l (x .ios) (length (x .tables)) ≡ true
-        → Reads x (channelCount l) after (Program (courseOf l) segment-due) core (pieces (drop (many (channelCount l) tables) blocks)) → Whole (label-read l)
+        → Reads x (channelCount l) after (Program (labelCountsOf l) segment-due) core (pieces (drop (many (channelCount l) tables) blocks)) → Whole (label-read l)
     unfolding assignmentsFit storesBeyond
     beyond l q h =
         let a : length (x .ios) ≡ ioCount l = eqb-true _ _ (and-left (eqb (length (x .ios)) (ioCount l)) _ q) in
@@ -157,17 +157,17 @@ module _ (x : Load) (after : List ℕ) where
     unfolding afterLabel
     label-by l f =
         when (λ (s : Stage). Takes x s core blocks Complete after → Whole (label-read l)) (eqb (many (channelCount l) tables) 0)
-        (λ q k. beyond l f (rw (eqb-true (many (channelCount l) tables) 0 q) (run (channelCount l) tables (Program (courseOf l) segment-due) core blocks k)))
+        (λ q k. beyond l f (rw (eqb-true (many (channelCount l) tables) 0 q) (run (channelCount l) tables (Program (labelCountsOf l) segment-due) core blocks k)))
         (λ q k. let e : many (channelCount l) tables - 0 ≡ many (channelCount l) tables = omega arith in
-        beyond l f (rw e at (entry-run (channelCount l) tables (courseOf l) (l .«no_longer_tables») 0 core blocks (some q) k)))
+        beyond l f (rw e at (entry-run (channelCount l) tables (labelCountsOf l) (l .exact) 0 core blocks (some q) k)))
       where
         some : eqb (many (channelCount l) tables) 0 ≡ false → 0 < many (channelCount l) tables
         some q = omega (arith, eqb-false (many (channelCount l) tables) 0 q)
 
-    label-run : (r : LabelRead) → Then blocks (only (withLabel (x .ios) (length (x .tables)) r) core) → Whole r
+    label-run : (r : LabelRead) → Then blocks (storesNothing (withLabel (x .ios) (length (x .tables)) r) core) → Whole r
     unfolding withLabel
     label-run (label-read l) =
-        when (λ (r : Step). Then blocks (only r core) → Whole (label-read l)) (assignmentsFit l (x .ios) (length (x .tables)))
+        when (λ (r : Step). Then blocks (storesNothing r core) → Whole (label-read l)) (assignmentsFit l (x .ios) (length (x .tables)))
         (λ q k. label-by l q k)
         (λ _ k. absurd k)
     label-run (no-label f) = λ k. absurd k

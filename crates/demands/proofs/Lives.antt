@@ -38,7 +38,7 @@ use Rattle.demands.specs.Orders.{run}
 use Rattle.demands.specs.History.{State, Call, answerTo, call, told, takenIn, taken, startsIn, starts, released}
 use Rattle.demands.specs.History.Call.{Open, Feed}
 use Rattle.demands.specs.Taking.{Takes}
-use Rattle.demands.specs.Demands.{Ready, Demand2}
+use Rattle.demands.specs.Demands.{Prepared, Demand2}
 use Rattle.demands.proofs.Held.{areaOf, held-inside, held-fit, held-place}
 use Rattle.demands.proofs.Views.{view, words-held, range-inside, alike-range, cleared-words, staged-own, staged-stage, staged-load}
 use Rattle.demands.proofs.Reach.{leftBy}
@@ -73,12 +73,12 @@ rest-of (x ∷ xs) = xs
 module _ (laws : BlockLaws) (kept : FeedKeeps) (r p : ℕ) (x : Load) (a : Absolute) (others : List Absolute) where
   abbrev Life : List Call → Type 0
   Life cs =
-      (s : State) (core : List ℕ) (g : Stage) → Ready s → holderOf (placeIn (s .desk) p) ≡ r + 1
+      (s : State) (core : List ℕ) (g : Stage) → Prepared s → holderOf (placeIn (s .desk) p) ≡ r + 1
       → loadIn (placeIn (s .desk) p) ≡ x → stageIn (placeIn (s .desk) p) ≡ g → Holds x core → Alike x (s .core) core
       → released r p (told cs s) ≡ false → starts r p (told cs s) ≡ a ∷ others → Ends x g core (taken r p (told cs s)) (run call cs s) a others
 
   -- the block is taken
-  module _ (cs : List Call) (next : Life cs) (s : State) (core : List ℕ) (g : Stage) (k : Ready s) (h : holderOf (placeIn (s .desk) p) ≡ r + 1)
+  module _ (cs : List Call) (next : Life cs) (s : State) (core : List ℕ) (g : Stage) (k : Prepared s) (h : holderOf (placeIn (s .desk) p) ≡ r + 1)
       (lx : loadIn (placeIn (s .desk) p) ≡ x) (sg : stageIn (placeIn (s .desk) p) ≡ g) (hc : Holds x core) (al : Alike x (s .core) core)
       (block : List ℕ) (over : isOver g ≡ false)
       (fed : feedOf (s .desk) (s .core) r p block ≡ takenOf (s .desk) (s .core) p (loadIn (placeIn (s .desk) p)) (stageIn (placeIn (s .desk) p)) block) where
@@ -132,7 +132,7 @@ module _ (laws : BlockLaws) (kept : FeedKeeps) (r p : ℕ) (x : Load) (a : Absol
         → Ends x g core (takenIn r p (Feed r p block) (o .answer) (taken r p (told cs (leftBy o)))) (run call cs (leftBy o)) a others
 
     -- the place with another stage, and any core
-    module _ (t : Stage) (m : List ℕ) (ready : Ready (record { desk = staged (s .desk) p t; core = m })) where
+    module _ (t : Stage) (m : List ℕ) (ready : Prepared (record { desk = staged (s .desk) p t; core = m })) where
       abbrev n : State
       n = record { desk = staged (s .desk) p t; core = m }
 
@@ -188,7 +188,7 @@ module _ (laws : BlockLaws) (kept : FeedKeeps) (r p : ℕ) (x : Load) (a : Absol
           once = o;
         })
 
-    ending : (g′ : Step) → Says g′ → Ready (leftBy (settledOf (s .desk) (s .core) p (x .area) g′ after))
+    ending : (g′ : Step) → Says g′ → Prepared (leftBy (settledOf (s .desk) (s .core) p (x .area) g′ after))
         → Ending (settledOf (s .desk) (s .core) p (x .area) g′ after)
     unfolding settledOf
     ending (step-more t) e y q z =
@@ -207,7 +207,7 @@ module _ (laws : BlockLaws) (kept : FeedKeeps) (r p : ℕ) (x : Load) (a : Absol
     unfolding told released starts taken run call answerTo
     fed-ends =
         subst Ending (sym out)
-        (ending _ refl (subst (λ (o : Outcome). Ready (leftBy o)) out (call-ready laws kept (Feed r p block) s k)))
+        (ending _ refl (subst (λ (o : Outcome). Prepared (leftBy o)) out (call-ready laws kept (Feed r p block) s k)))
 
   -- the area's words are as they were where the view is
   kept-alike : (s t : State) (core : List ℕ) → view p t ≡ view p s → holderOf (placeIn (s .desk) p) ≡ r + 1

@@ -31,21 +31,21 @@ use Rattle.field.specs.Field.{Assignments}
 use Rattle.group.specs.declared.GroupStep.the-variants.{Done as group-answer}
 use Rattle.group.specs.declared.Section.{Section}
 use Rattle.group.specs.declared.Section.the-variants.{Segment as InSegment, Table as InTable}
-use Rattle.group.specs.Group.{Outcome, wordsIn, bitsIn, groupStep, InArea}
+use Rattle.group.specs.Group.{GroupOutcome, programWords, indicatorBitsIn, groupStep, InArea}
 use Rattle.group.proofs.Places.{Lies, words-lie}
 use Rattle.group.proofs.Words.{changed-many}
 use Rattle.group.proofs.Group.{Goes as GroupGoes, Gives, group-outcomes}
-use Rattle.stage.specs.declared.Course.{Course}
+use Rattle.stage.specs.declared.LabelCounts.{LabelCounts}
 use Rattle.stage.specs.declared.Due.{Due}
 use Rattle.stage.specs.declared.Due.the-variants.{Segment as segment-due, SegmentGroup, Section as section-due, SectionGroup}
 use Rattle.stage.specs.declared.Stage.{Stage}
 use Rattle.stage.specs.declared.Stage.the-variants.{Label, Entry, Program, Termination, Complete, Broken}
-use Rattle.stage.specs.Ranges.{bankFits, countFits}
+use Rattle.stage.specs.Ranges.{bankFits, sectionFits}
 use Rattle.stage.specs.declared.Step.the-variants.{More, Refused}
 use Rattle.sections.specs.declared.Item.{Item}
 use Rattle.sections.specs.declared.Item.the-variants.{Go, Stop}
 use Rattle.lists.specs.Load.{Load}
-use Rattle.sections.specs.Load.{assignments}
+use Rattle.sections.specs.Waits.{assignments}
 use Rattle.sections.specs.Heads.{banksFit, withSegment, segmentStep, withSection, sectionStep}
 use Rattle.sections.specs.Program.{afterLast, afterGroup, itemStep, closes, followed, StepOutcome, programFrom}
 use Rattle.demands.specs.Image.{Piece, piecesFrom, Store, storeOf, tableSection, storesFrom}
@@ -66,7 +66,7 @@ comes-on area core after s later h c = record { last = c .last; inside = (h, c .
 -- one section fewer from the head of a table section on.
 abbrev pub leftIn : Stage → ℕ
 leftIn Label = 0
-leftIn (Entry c strict b) = 0
+leftIn (Entry c exact b) = 0
 leftIn (Program c segment-due) = suc (c .sections)
 leftIn (Program c (SegmentGroup g)) = suc (c .sections)
 leftIn (Program c (section-due t b)) = suc (c .sections - 1)
@@ -76,24 +76,24 @@ leftIn Complete = 0
 leftIn Broken = 0
 
 abbrev pub given : Load → ℕ → Assignments
-given x near = record { area = x .area; tables = x .tables; ios = x .ios; channels = near }
+given x channels = record { area = x .area; tables = x .tables; ios = x .ios; channels = channels }
 
--- the section lies in the area; `near` is the label's count of references of types 0 and 2
-pub record Housing (x : Load) (near : ℕ) (c : Course) (own section : Section) : Type 0 where
-  pub count : c .near ≡ near
+-- the section lies in the area; `channels` is the label's count of references of types 0 and 2
+pub record Housing (x : Load) (channels : ℕ) (c : LabelCounts) (own section : Section) : Type 0 where
+  pub count : c .channels ≡ channels
   pub same : section ≡ own
   pub room : InArea (x .area) own
 
 abbrev pub Stands : Load → ℕ → Stage → Section → Type 0
-Stands x near Label section = ⊥
-Stands x near (Entry c strict b) section = ⊥
-Stands x near (Program c segment-due) section = c .near ≡ near
-Stands x near (Program c (SegmentGroup g)) section = Housing x near c (InSegment g) section
-Stands x near (Program c (section-due t b)) section = c .near ≡ near
-Stands x near (Program c (SectionGroup t b)) section = Housing x near c (tableSection (x .tables) t) section
-Stands x near (Termination b) section = Unit {0}
-Stands x near Complete section = ⊥
-Stands x near Broken section = ⊥
+Stands x channels Label section = ⊥
+Stands x channels (Entry c exact b) section = ⊥
+Stands x channels (Program c segment-due) section = c .channels ≡ channels
+Stands x channels (Program c (SegmentGroup g)) section = Housing x channels c (InSegment g) section
+Stands x channels (Program c (section-due t b)) section = c .channels ≡ channels
+Stands x channels (Program c (SectionGroup t b)) section = Housing x channels c (tableSection (x .tables) t) section
+Stands x channels (Termination b) section = Unit {0}
+Stands x channels Complete section = ⊥
+Stands x channels Broken section = ⊥
 
 -- ---- a head that is accepted says a section that lies in the area
 bank-room : (area : Area) (b : Bank) → bankFits area b ≡ true → b .at .0 + b .count ≤ area .size
@@ -107,9 +107,9 @@ banks-room area ts g q = (
   bank-room area (g .dbank) (and-left (bankFits area (g .dbank)) _ (and-right (bankFits area (g .ibank)) _ q)),
 )
 
-table-room : (area : Area) (ts : List CoreTable) (t : TableSection) → every (tableInside area) ts ≡ true → countFits ts t ≡ true
+table-room : (area : Area) (ts : List CoreTable) (t : TableSection) → every (tableInside area) ts ≡ true → sectionFits ts t ≡ true
     → InArea area (InTable (getD ts (t .number .0) noTable) (t .count))
-unfolding countFits tableInside
+unfolding sectionFits tableInside
 table-room area ts t h q =
     let k = getD ts (t .number .0) noTable in
     let b = ltb-true (t .number .0) (length ts) (and-left _ _ q) in
@@ -118,18 +118,18 @@ table-room area ts t h q =
 
 -- where s is due, the pieces ps store what is still to come; `after` is the core after all
 abbrev pub Reads : Load → ℕ → List ℕ → Stage → List ℕ → List Piece → Type 0
-Reads x near after s core ps = (section : Section) → Stands x near s section → Comes (x .area) core (storesFrom (given x near) (leftIn s) section ps) after
+Reads x channels after s core ps = (section : Section) → Stands x channels s section → Comes (x .area) core (storesFrom (given x channels) (leftIn s) section ps) after
 
 -- ---- a block, from any of its places on: t is what is due after it, `rest` the pieces of the blocks after it
-module _ (x : Load) (near : ℕ) (tables : every (tableInside (x .area)) (x .tables) ≡ true) (block : List ℕ) (t : Stage) (rest : List Piece) (after : List ℕ) where
+module _ (x : Load) (channels : ℕ) (tables : every (tableInside (x .area)) (x .tables) ≡ true) (block : List ℕ) (t : Stage) (rest : List Piece) (after : List ℕ) where
   abbrev a : Assignments
-  a = given x near
+  a = given x channels
 
   -- where an outcome leads to t, the rest decides
   abbrev pub Leads : StepOutcome → Type 0 → Type 0
-  Leads o P = o .step ≡ More t → Reads x near after t (o .core) rest → P
+  Leads o P = o .step ≡ More t → Reads x channels after t (o .core) rest → P
 
-  stays : (s : Stage) (core : List ℕ) → Leads (record { step = More s; core = core }) (Reads x near after s core rest)
+  stays : (s : Stage) (core : List ℕ) → Leads (record { step = More s; core = core }) (Reads x channels after s core rest)
   stays s core q k = let e : s ≡ t = cc in rw e k
 
   refuses : (P : Type 0) (f : Fault) (core : List ℕ) → Leads (record { step = Refused f; core = core }) P
@@ -137,8 +137,8 @@ module _ (x : Load) (near : ℕ) (tables : every (tableInside (x .area)) (x .tab
 
   -- the item at place i, and then n items at most
   module _ (n i : ℕ) (core : List ℕ) (more : closes block i ≡ false)
-      (ih : (d : Course) (u : Due) (p : ℕ) (core′ : List ℕ)
-      → Leads (programFrom n x d u block p core′) (Reads x near after (Program d u) core′ (piecesFrom n block p ++ rest))) where
+      (ih : (d : LabelCounts) (u : Due) (p : ℕ) (core′ : List ℕ)
+      → Leads (programFrom n x d u block p core′) (Reads x channels after (Program d u) core′ (piecesFrom n block p ++ rest))) where
     abbrev then : Item → List ℕ → StepOutcome
     then item core′ = followed item core′ (λ d u p core″. programFrom n x d u block p core″)
 
@@ -146,8 +146,8 @@ module _ (x : Load) (near : ℕ) (tables : every (tableInside (x .area)) (x .tab
     ps = piecesFrom (suc n) block i ++ rest
 
     -- ---- a group
-    module _ (c : Course) (same : Due) (least : ℕ) (ibank : Bank) (section : Section) (q : c .near ≡ near) (room : InArea (x .area) section)
-        (left : leftIn (Program c same) ≡ suc (c .sections)) (stands : Stands x near (Program c same) section) where
+    module _ (c : LabelCounts) (same : Due) (least : ℕ) (ibank : Bank) (section : Section) (q : c .channels ≡ channels) (room : InArea (x .area) section)
+        (left : leftIn (Program c same) ≡ suc (c .sections)) (stands : Stands x channels (Program c same) section) where
       -- m sections are to end after it
       abbrev Goes : ℕ → List ℕ → ℕ → Item → Type 0
       Goes p core′ m item = Leads (then item core′) (Comes (x .area) core′ (storesFrom a m section (piecesFrom n block p ++ rest)) after)
@@ -178,7 +178,7 @@ module _ (x : Load) (near : ℕ) (tables : every (tableInside (x .area)) (x .tab
         store-inside : Inside (x .area) store
         store-inside =
             let l : Lies (x .area) g to = rw (h .address) at (words-lie (x .area) section g room (h .lies)) in
-            let m = rw e at (changed-many (assignments x c) (bitsIn block i g) 0 (wordsIn block i g)) in
+            let m = rw e at (changed-many (assignments x c) (indicatorBitsIn block i g) 0 (programWords block i g)) in
             record { first = l .low; last = omega (arith, m, l .high, length-range-most block (i + 1) (g .program)) }
 
         stored-leads : Leads (then (afterGroup c same least ibank (group-answer (i + 1 + g .words) (g .last))) (splice core (to .0) vs))
@@ -193,15 +193,15 @@ module _ (x : Load) (near : ℕ) (tables : every (tableInside (x .area)) (x .tab
       unfolding afterGroup
       group-leads =
           group-outcomes (assignments x c) section block i core
-          (λ (o : Outcome). Leads (then (afterGroup c same least ibank (o .answer)) (o .core)) (Comes (x .area) core (storesFrom a (suc (c .sections)) section ps) after))
+          (λ (o : GroupOutcome). Leads (then (afterGroup c same least ibank (o .answer)) (o .core)) (Comes (x .area) core (storesFrom a (suc (c .sections)) section ps) after))
           (λ f. refuses _ f _)
           (λ g to f h. refuses _ f _)
           (λ g to vs h t e. stored-leads g to vs h e)
 
     -- ---- the segment's head
-    module _ (c : Course) where
+    module _ (c : LabelCounts) where
       abbrev Heads : Item → Type 0
-      Heads item = Leads (then item core) (Reads x near after (Program c segment-due) core ps)
+      Heads item = Leads (then item core) (Reads x channels after (Program c segment-due) core ps)
 
       segment-read-leads : (r : SegmentRead) → segmentOf (getD block i 0) (getD block (i + 1) 0) ≡ r → Heads (withSegment (x .area) (x .tables) c (i + 4) r)
       unfolding withSegment
@@ -221,18 +221,18 @@ module _ (x : Load) (near : ℕ) (tables : every (tableInside (x .area)) (x .tab
           (λ _. refuses _ (fault 17) core)
 
     -- ---- a table section's head
-    module _ (c : Course) (least : ℕ) (ibank : Bank) where
+    module _ (c : LabelCounts) (least : ℕ) (ibank : Bank) where
       abbrev Tables : Item → Type 0
-      Tables item = Leads (then item core) (Reads x near after (Program c (section-due (record { 0 = least }) ibank)) core ps)
+      Tables item = Leads (then item core) (Reads x channels after (Program c (section-due (record { 0 = least }) ibank)) core ps)
 
       section-read-leads : (r : TableSectionRead) → tableSectionOf (getD block i 0) ≡ r → Tables (withSection (x .tables) c least ibank (i + 1) r)
       unfolding withSection
       section-read-leads (section-read s) e =
           when Tables (leb least (s .number .0))
-          (λ _. when Tables (countFits (x .tables) s)
+          (λ _. when Tables (sectionFits (x .tables) s)
           (λ f r k section st.
           rw (stores-table block i a (c .sections - 1) section n rest more s (head-table block i s e))
-          (ih (record { near = c .near; sections = c .sections - 1 }) (SectionGroup s ibank) (i + 1) core r k (tableSection (x .tables) s)
+          (ih (record { channels = c .channels; sections = c .sections - 1 }) (SectionGroup s ibank) (i + 1) core r k (tableSection (x .tables) s)
           (record { count = st; same = refl; room = table-room (x .area) (x .tables) s tables f })))
           (λ f. refuses _ (fault 17) core))
           (λ _. refuses _ (fault 17) core)
@@ -243,7 +243,7 @@ module _ (x : Load) (near : ℕ) (tables : every (tableInside (x .area)) (x .tab
       section-leads = section-read-leads (tableSectionOf (getD block i 0)) refl
 
     -- ---- the item, by what is due
-    item-leads : (c : Course) (due : Due) → Leads (then (itemStep x c due block i core .item) (itemStep x c due block i core .core)) (Reads x near after (Program c due) core ps)
+    item-leads : (c : LabelCounts) (due : Due) → Leads (then (itemStep x c due block i core .item) (itemStep x c due block i core .core)) (Reads x channels after (Program c due) core ps)
     unfolding itemStep
     item-leads c segment-due r k section st = segment-leads c r k section st
     item-leads c (SegmentGroup g) r k section st =
@@ -256,11 +256,11 @@ module _ (x : Load) (near : ℕ) (tables : every (tableInside (x .area)) (x .tab
         (group-leads c (SectionGroup u b) (u .number .0 + 1) b (tableSection (x .tables) u) (st .count) (st .room) refl
         (record { count = st .count; same = refl; room = st .room }) r k)
 
-  pub program-leads : (n : ℕ) (c : Course) (due : Due) (i : ℕ) (core : List ℕ)
-      → Leads (programFrom n x c due block i core) (Reads x near after (Program c due) core (piecesFrom n block i ++ rest))
+  pub program-leads : (n : ℕ) (c : LabelCounts) (due : Due) (i : ℕ) (core : List ℕ)
+      → Leads (programFrom n x c due block i core) (Reads x channels after (Program c due) core (piecesFrom n block i ++ rest))
   unfolding programFrom
   program-leads zero c due i core = rw (no-fuel block i) (stays (Program c due) core)
   program-leads (suc n) c due i core =
-      when (λ (o : StepOutcome). Leads o (Reads x near after (Program c due) core (piecesFrom (suc n) block i ++ rest))) (closes block i)
+      when (λ (o : StepOutcome). Leads o (Reads x channels after (Program c due) core (piecesFrom (suc n) block i ++ rest))) (closes block i)
       (λ q. rw (no-pieces block i (suc n) q) (stays (Program c due) core))
       (λ q. item-leads n i core q (λ d u p core′. program-leads n d u p core′) c due)

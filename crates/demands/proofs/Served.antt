@@ -32,12 +32,12 @@ use Rattle.demands.specs.Orders.{run}
 use Rattle.demands.specs.History.{State, fresh, Call, answerTo, call, Told, told}
 use Rattle.demands.specs.History.Call.{Open, Feed, Release}
 use Rattle.demands.specs.Grants.{grantIn, releaseIn, grants, releases, heldBy, freePlaces, idleRooms}
-use Rattle.demands.specs.Demands.{Ready, Counted, Demand3Rooms}
+use Rattle.demands.specs.Demands.{Prepared, Counted, Demand3Rooms}
 use Rattle.demands.proofs.Counting.{free-told, idle-told, place-free, gives-five, gives-six, given-five, given-six}
 use Rattle.demands.proofs.Granted.{open-counts, open-fits, release-counts, release-core, feed-same}
 
 -- ---- one call, and what room r holds
-pub call-counts : (c : Call) (s : State) → Ready s → (r : ℕ)
+pub call-counts : (c : Call) (s : State) → Prepared s → (r : ℕ)
     → held r (holders (call c s .desk)) + releaseIn r c (answerTo c s) ≡ held r (holders (s .desk)) + grantIn r c (answerTo c s)
 unfolding call answerTo
 call-counts (Open q a ios tables) s g r = omega (arith, open-counts (s .desk) (s .core) (g .desk) q a ios tables r)
@@ -46,7 +46,7 @@ call-counts (Release n q p) s g r = omega (arith, release-counts (s .desk) (g .d
 
 -- a made desk with its core is ready, and no room holds a place
 module _ (d core m : List ℕ) (made : makeOf d (length core) m .answer ≡ Made) where
-  pub made-ready : Ready (fresh d core m)
+  pub made-ready : Prepared (fresh d core m)
   made-ready = record { desk = make-sound d (length core) m made; core = sym (make-core d (length core) m made) }
 
   made-holds : (r : ℕ) → held r (holders (fresh d core m .desk)) ≡ 0
@@ -54,7 +54,7 @@ module _ (d core m : List ℕ) (made : makeOf d (length core) m .answer ≡ Made
   made-holds r = rw (make-holders d (length core) m made, hit-no 0 (r + 1) (λ z. omega arith))
 
 -- ---- refusals 5 and 6 of open are those of the holders
-module _ (s : State) (g : Ready s) (r : ℕ) (room : r < 8) (a : Area) (ios tables : List ℕ) where
+module _ (s : State) (g : Prepared s) (r : ℕ) (room : r < 8) (a : Area) (ios tables : List ℕ) where
   past-four : openOf (s .desk) (s .core) r a ios tables ≡ grantOf (s .desk) (s .core) r a ios tables
   unfolding openOf
   past-four =
@@ -83,7 +83,7 @@ module _ (s : State) (g : Ready s) (r : ℕ) (room : r < 8) (a : Area) (ios tabl
   so-refused n h e = open-grants ∙ rw (e, ne-eqb n 0 (λ z. omega arith))
 
 -- ---- what the counts say, where they are the desk's
-module _ (ts : List Told) (s : State) (g : Ready s) (agree : (r : ℕ) → heldBy r ts ≡ held r (holders (s .desk))) (r : ℕ) (room : r < 8) where
+module _ (ts : List Told) (s : State) (g : Prepared s) (agree : (r : ℕ) → heldBy r ts ≡ held r (holders (s .desk))) (r : ℕ) (room : r < 8) where
   abbrev l : List ℕ
   l = holders (s .desk)
 
@@ -119,7 +119,7 @@ module _ (feed-sound : (d core block : List ℕ) (r p : ℕ) → sound d ≡ tru
     → sound (feedOf d core r p block .desk) ≡ true)
     (feed-long : (d core block : List ℕ) (r p : ℕ) → sound d ≡ true → length core ≡ coreLength d
     → length (feedOf d core r p block .core) ≡ length core) where
-  pub call-ready : (c : Call) (s : State) → Ready s → Ready (call c s)
+  pub call-ready : (c : Call) (s : State) → Prepared s → Prepared (call c s)
   unfolding call
   call-ready (Open q a ios tables) s g = record {
     desk = open-sound (s .desk) (s .core) q a ios tables (g .desk);
@@ -136,12 +136,12 @@ module _ (feed-sound : (d core block : List ℕ) (r p : ℕ) → sound d ≡ tru
     core = g .core ∙ sym (release-core (s .desk) (g .desk) n q p);
   }
 
-  pub run-ready : (cs : List Call) (s : State) → Ready s → Ready (run call cs s)
+  pub run-ready : (cs : List Call) (s : State) → Prepared s → Prepared (run call cs s)
   unfolding run
   run-ready [] s g = g
   run-ready (c ∷ cs) s g = run-ready cs (call c s) (call-ready c s g)
 
-  pub run-counts : (cs : List Call) (s : State) → Ready s → (r : ℕ)
+  pub run-counts : (cs : List Call) (s : State) → Prepared s → (r : ℕ)
       → held r (holders (run call cs s .desk)) + releases r (told cs s) ≡ held r (holders (s .desk)) + grants r (told cs s)
   unfolding run told grants releases
   run-counts [] s g r = refl

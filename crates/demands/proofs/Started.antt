@@ -24,18 +24,18 @@ use Rattle.program.specs.Sections.{segmentOf, tableSectionOf}
 use Rattle.program.specs.Start.{startOf, inBank}
 use Rattle.group.specs.declared.GroupStep.{GroupStep}
 use Rattle.group.specs.declared.GroupStep.the-variants.{Done as group-answer, Refused as group-refused}
-use Rattle.stage.specs.declared.Course.{Course}
+use Rattle.stage.specs.declared.LabelCounts.{LabelCounts}
 use Rattle.stage.specs.declared.Due.{Due}
 use Rattle.stage.specs.declared.Due.the-variants.{Segment as segment-due, SegmentGroup, Section as section-due, SectionGroup}
 use Rattle.stage.specs.declared.Stage.{Stage}
 use Rattle.stage.specs.declared.Stage.the-variants.{Label, Entry, Program, Termination, Complete, Broken}
-use Rattle.stage.specs.Ranges.{countFits}
+use Rattle.stage.specs.Ranges.{sectionFits}
 use Rattle.stage.specs.declared.Step.{Step}
 use Rattle.stage.specs.declared.Step.the-variants.{More, Done, Refused}
 use Rattle.stage.specs.Record.{recordDue}
-use Rattle.step.specs.Label.{withLabel, labelStep}
-use Rattle.step.specs.Entries.{entriesFit, entryStep}
-use Rattle.step.specs.Termination.{terminationStep}
+use Rattle.records.specs.Label.{withLabel, labelStep}
+use Rattle.records.specs.Entries.{entriesFit, entryStep}
+use Rattle.records.specs.Termination.{terminationStep}
 use Rattle.sections.specs.declared.Item.{Item}
 use Rattle.sections.specs.declared.Item.the-variants.{Go, Stop}
 use Rattle.lists.specs.Load.{Load}
@@ -56,7 +56,7 @@ Goes (Go c due p) = Unit {0}
 Goes (Stop s) = GoesOn s
 
 module _ (x : Load) (block : List ℕ) where
-  module _ (c : Course) where
+  module _ (c : LabelCounts) where
     segment-read-goes : (p : ℕ) (r : SegmentRead) → Goes (withSegment (x .area) (x .tables) c p r)
     unfolding withSegment
     segment-read-goes p (segment-read g) = both Goes (banksFit (x .area) (x .tables) g) tt tt
@@ -69,7 +69,7 @@ module _ (x : Load) (block : List ℕ) where
     section-read-goes : (least : ℕ) (b : Bank) (p : ℕ) (r : TableSectionRead) → Goes (withSection (x .tables) c least b p r)
     unfolding withSection
     section-read-goes least b p (section-read t) =
-        both Goes (leb least (t .number .0)) (both Goes (countFits (x .tables) t) tt tt) tt
+        both Goes (leb least (t .number .0)) (both Goes (sectionFits (x .tables) t) tt tt) tt
     section-read-goes least b p (no-section f) = tt
 
     section-goes : (least : ℕ) (b : Bank) (i : ℕ) → Goes (sectionStep (x .tables) c least b block i)
@@ -81,19 +81,19 @@ module _ (x : Load) (block : List ℕ) where
     group-goes same least b (group-answer p last) = both Goes last (both Goes (eqb (c .sections) 0) tt tt) tt
     group-goes same least b (group-refused f) = tt
 
-  item-goes : (c : Course) (due : Due) (i : ℕ) (core : List ℕ) → Goes (itemStep x c due block i core .item)
+  item-goes : (c : LabelCounts) (due : Due) (i : ℕ) (core : List ℕ) → Goes (itemStep x c due block i core .item)
   unfolding itemStep
   item-goes c segment-due i core = segment-goes c i
   item-goes c (SegmentGroup g) i core = group-goes c (SegmentGroup g) 0 (g .ibank) _
   item-goes c (section-due t b) i core = section-goes c (t .0) b i
   item-goes c (SectionGroup t b) i core = group-goes c (SectionGroup t b) (t .number .0 + 1) b _
 
-  followed-goes : (item : Item) (core : List ℕ) (next : Course → Due → ℕ → List ℕ → StepOutcome) → Goes item
-      → ((d : Course) (u : Due) (p : ℕ) (core′ : List ℕ) → GoesOn (next d u p core′ .step)) → GoesOn (followed item core next .step)
+  followed-goes : (item : Item) (core : List ℕ) (next : LabelCounts → Due → ℕ → List ℕ → StepOutcome) → Goes item
+      → ((d : LabelCounts) (u : Due) (p : ℕ) (core′ : List ℕ) → GoesOn (next d u p core′ .step)) → GoesOn (followed item core next .step)
   followed-goes (Go d u p) core next h k = k d u p core
   followed-goes (Stop s) core next h k = h
 
-  pub program-goes : (n : ℕ) (c : Course) (due : Due) (i : ℕ) (core : List ℕ) → GoesOn (programFrom n x c due block i core .step)
+  pub program-goes : (n : ℕ) (c : LabelCounts) (due : Due) (i : ℕ) (core : List ℕ) → GoesOn (programFrom n x c due block i core .step)
   unfolding programFrom
   program-goes zero c due i core = tt
   program-goes (suc n) c due i core =
@@ -126,8 +126,8 @@ module _ (x : Load) (block core : List ℕ) (a : Absolute) where
   due-done : (s : Stage) → dueStep x s block core .step ≡ Done a → Ended x s block a
   unfolding dueStep labelStep entryStep programStep
   due-done Label q = never _ _ (label-read-goes x block (labelOf block)) q
-  due-done (Entry c strict b) q =
-      never _ _ (both GoesOn (entriesFit (length (x .ios)) (x .tables) strict b block) tt tt) q
+  due-done (Entry c exact b) q =
+      never _ _ (both GoesOn (entriesFit (length (x .ios)) (x .tables) exact b block) tt tt) q
   due-done (Program c due) q = never _ _ (program-goes x block 254 c due 1 core) q
   due-done (Termination b) q = termination-done b q
   due-done Complete q = never _ (More Complete) tt q

@@ -23,8 +23,8 @@ use Rattle.program.specs.declared.TableSectionRead.the-variants.{Good as sectio
 use Rattle.lists.specs.declared.Table.{Table as CoreTable}
 use Rattle.group.specs.declared.GroupStep.{GroupStep}
 use Rattle.group.specs.declared.GroupStep.the-variants.{Done as group-done, Refused as group-refused}
-use Rattle.stage.specs.Ranges.{countFits}
-use Rattle.stage.specs.declared.Course.{Course}
+use Rattle.stage.specs.Ranges.{sectionFits}
+use Rattle.stage.specs.declared.LabelCounts.{LabelCounts}
 use Rattle.stage.specs.declared.Due.{Due}
 use Rattle.stage.specs.declared.Due.the-variants.{Segment as segment-due, SegmentGroup, Section as section-due, SectionGroup}
 use Rattle.stage.specs.declared.Stage.{Stage}
@@ -32,9 +32,9 @@ use Rattle.stage.specs.declared.Stage.the-variants.{Label, Entry, Program, Term
 use Rattle.stage.specs.declared.Step.{Step}
 use Rattle.stage.specs.declared.Step.the-variants.{More, Done, Refused}
 use Rattle.stage.specs.Record.{recordDue}
-use Rattle.step.specs.Label.{withLabel, labelStep}
-use Rattle.step.specs.Entries.{entriesFit, entryStep}
-use Rattle.step.specs.Termination.{terminationStep}
+use Rattle.records.specs.Label.{withLabel, labelStep}
+use Rattle.records.specs.Entries.{entriesFit, entryStep}
+use Rattle.records.specs.Termination.{terminationStep}
 use Rattle.sections.specs.declared.Item.{Item}
 use Rattle.sections.specs.declared.Item.the-variants.{Go, Stop}
 use Rattle.lists.specs.Load.{Load}
@@ -55,22 +55,22 @@ abbrev GoesOn : Item → Type 0
 GoesOn (Go c due p) = Unit {0}
 GoesOn (Stop s) = Goes s
 
-segment-goes : (area : Area) (ts : List CoreTable) (c : Course) (p : ℕ) (r : SegmentRead) → GoesOn (withSegment area ts c p r)
+segment-goes : (area : Area) (ts : List CoreTable) (c : LabelCounts) (p : ℕ) (r : SegmentRead) → GoesOn (withSegment area ts c p r)
 unfolding withSegment
 segment-goes area ts c p (segment-read g) = both GoesOn (banksFit area ts g) tt refl
 segment-goes area ts c p (no-segment f) = refl
 
-section-goes : (ts : List CoreTable) (c : Course) (least : ℕ) (i : Bank) (p : ℕ) (r : TableSectionRead) → GoesOn (withSection ts c least i p r)
+section-goes : (ts : List CoreTable) (c : LabelCounts) (least : ℕ) (i : Bank) (p : ℕ) (r : TableSectionRead) → GoesOn (withSection ts c least i p r)
 unfolding withSection
-section-goes ts c least i p (section-read t) = both GoesOn (leb least (t .number .0)) (both GoesOn (countFits ts t) tt refl) refl
+section-goes ts c least i p (section-read t) = both GoesOn (leb least (t .number .0)) (both GoesOn (sectionFits ts t) tt refl) refl
 section-goes ts c least i p (no-section f) = refl
 
-group-goes : (c : Course) (same : Due) (least : ℕ) (i : Bank) (g : GroupStep) → GoesOn (afterGroup c same least i g)
+group-goes : (c : LabelCounts) (same : Due) (least : ℕ) (i : Bank) (g : GroupStep) → GoesOn (afterGroup c same least i g)
 unfolding afterGroup afterLast
 group-goes c same least i (group-done p last) = both GoesOn last (both GoesOn (eqb (c .sections) 0) refl tt) tt
 group-goes c same least i (group-refused f) = refl
 
-item-goes : (x : Load) (c : Course) (due : Due) (block : List ℕ) (i : ℕ) (core : List ℕ) → GoesOn (itemStep x c due block i core .item)
+item-goes : (x : Load) (c : LabelCounts) (due : Due) (block : List ℕ) (i : ℕ) (core : List ℕ) → GoesOn (itemStep x c due block i core .item)
 unfolding itemStep segmentStep sectionStep
 item-goes x c segment-due block i core = both GoesOn (leb (i + 3) 254) (segment-goes (x .area) (x .tables) c _ _) refl
 item-goes x c (SegmentGroup g) block i core = group-goes _ _ _ _ _
@@ -80,12 +80,12 @@ item-goes x c (SectionGroup t b) block i core = group-goes _ _ _ _ _
 abbrev OutcomeGoes : StepOutcome → Type 0
 OutcomeGoes o = Goes (o .step)
 
-followed-goes : (it : Item) (core : List ℕ) (next : Course → Due → ℕ → List ℕ → StepOutcome) → GoesOn it
-    → ((d : Course) (u : Due) (p : ℕ) (after : List ℕ) → OutcomeGoes (next d u p after)) → OutcomeGoes (followed it core next)
+followed-goes : (it : Item) (core : List ℕ) (next : LabelCounts → Due → ℕ → List ℕ → StepOutcome) → GoesOn it
+    → ((d : LabelCounts) (u : Due) (p : ℕ) (after : List ℕ) → OutcomeGoes (next d u p after)) → OutcomeGoes (followed it core next)
 followed-goes (Go d u p) core next g h = h d u p core
 followed-goes (Stop s) core next g h = g
 
-program-goes : (n : ℕ) (x : Load) (c : Course) (due : Due) (block : List ℕ) (i : ℕ) (core : List ℕ) → OutcomeGoes (programFrom n x c due block i core)
+program-goes : (n : ℕ) (x : Load) (c : LabelCounts) (due : Due) (block : List ℕ) (i : ℕ) (core : List ℕ) → OutcomeGoes (programFrom n x c due block i core)
 unfolding programFrom
 program-goes zero x c due block i core = refl
 program-goes (suc n) x c due block i core =
@@ -119,7 +119,7 @@ module _ (x : Load) (block : List ℕ) where
   due-tells : (s : Stage) (core : List ℕ) → OutcomeTells (dueStep x s block core)
   unfolding dueStep programStep labelStep entryStep terminationStep
   due-tells Label core = goes-tells _ (label-goes (x .ios) (length (x .tables)) (labelOf block))
-  due-tells (Entry c strict b) core = both Tells (entriesFit (length (x .ios)) (x .tables) strict b block) (goes-tells _ refl) (goes-tells _ refl)
+  due-tells (Entry c exact b) core = both Tells (entriesFit (length (x .ios)) (x .tables) exact b block) (goes-tells _ refl) (goes-tells _ refl)
   due-tells (Program c due) core = goes-tells _ (program-goes 254 x c due block 1 core)
   due-tells (Termination i) core = both Tells (inBank i (startOf block)) (λ a e. sym (ap (startIn a) e)) (goes-tells _ refl)
   due-tells Complete core = goes-tells _ refl

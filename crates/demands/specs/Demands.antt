@@ -29,7 +29,7 @@ use Rattle.demands.specs.Grants.{heldBy, freePlaces, idleRooms}
 use Rattle.demands.specs.Examples.{oldCore, oneRoom, twoRooms, madeWith, answersIn, deckLife, byTurns, oneBroken}
 
 -- a sound desk, and a core of its length
-pub record Ready (s : State) : Type 0 where
+pub record Prepared (s : State) : Type 0 where
   pub desk : sound (s .desk) ≡ true
   pub core : length (s .core) ≡ coreLength (s .desk)
 
@@ -79,8 +79,8 @@ Demand1Broken =
 -- "A fresh desk is sound, and each call keeps it so."
 abbrev pub Demand1Sound : Type 0
 Demand1Sound =
-    ((d core m : List ℕ) → makeOf d (length core) m .answer ≡ Made → Ready (fresh d core m))
-    × ((c : Call) (s : State) → Ready s → Ready (call c s))
+    ((d core m : List ℕ) → makeOf d (length core) m .answer ≡ Made → Prepared (fresh d core m))
+    × ((c : Call) (s : State) → Prepared s → Prepared (call c s))
 
 -- ---- Demand 2. After any calls on a made desk a load is opened, and any calls follow among which its place is not released: if one of them
 -- answered `done`, the area holds the image of the blocks that the load accepted, the start is the file's own, moved by the area's address, and
@@ -121,21 +121,21 @@ abbrev pub fedAnswer : Fed → State → Answer
 fedAnswer e s = answerTo (Feed (e .room) (e .place) (e .block)) s
 
 -- the load that a feed names, 0 to 11; all numbers that name none are one
-abbrev pub loadOf : Fed → ℕ
-loadOf e = min (e .place) placeCount
+abbrev pub loadNumber : Fed → ℕ
+loadNumber e = min (e .place) placeCount
 
 -- any two orders that keep each load's own give the same desk and core, and each load the same answers
 abbrev pub Demand3Orders : Type 0
 Demand3Orders =
-    (s : State) → Ready s → (es fs : List Fed) → ((p : ℕ) → only loadOf p es ≡ only loadOf p fs)
-    → (run feed es s ≡ run feed fs s) × ((p : ℕ) → answersOf loadOf feed fedAnswer p es s ≡ answersOf loadOf feed fedAnswer p fs s)
+    (s : State) → Prepared s → (es fs : List Fed) → ((p : ℕ) → only loadNumber p es ≡ only loadNumber p fs)
+    → (run feed es s ≡ run feed fs s) × ((p : ℕ) → answersOf loadNumber feed fedAnswer p es s ≡ answersOf loadNumber feed fedAnswer p fs s)
 
 -- and so does one load after another
 abbrev pub Demand3Turns : Type 0
 Demand3Turns =
-    (s : State) → Ready s → (es : List Fed)
-    → (run feed es s ≡ run feed (inTurn loadOf 13 es) s)
-    × ((p : ℕ) → answersOf loadOf feed fedAnswer p es s ≡ answersOf loadOf feed fedAnswer p (inTurn loadOf 13 es) s)
+    (s : State) → Prepared s → (es : List Fed)
+    → (run feed es s ≡ run feed (inTurn loadNumber 13 es) s)
+    × ((p : ℕ) → answersOf loadNumber feed fedAnswer p es s ≡ answersOf loadNumber feed fedAnswer p (inTurn loadNumber 13 es) s)
 
 -- "Demand 3 speaks of demand 2's images": a load is opened after any calls on a made desk, any calls follow, and then feeds of any loads. If it
 -- was answered `done`, its area holds its image also where the feeds come in another order that keeps each load's own.
@@ -153,7 +153,7 @@ Demand3Images =
     → ts ≡ told (between ++ feeds es) (call (Open r area ios tables) s)
     → released r p ts ≡ false
     → starts r p ts ≡ a ∷ others
-    → ((q : ℕ) → only loadOf q es ≡ only loadOf q fs)
+    → ((q : ℕ) → only loadNumber q es ≡ only loadNumber q fs)
     → range (run call (between ++ feeds fs) (call (Open r area ios tables) s) .core) (area .at .0) (area .size)
     ≡ imageOf area (tablesOf tables) ios (taken r p ts)
 

@@ -33,7 +33,7 @@ use Rattle.lists.specs.Obey.{noTable}
 use Rattle.field.specs.Field.{Assignments}
 use Rattle.group.specs.declared.Section.{Section}
 use Rattle.group.specs.declared.Section.the-variants.{Segment as InSegment, Table as InTable}
-use Rattle.group.specs.Group.{Words, changedWords, wordsIn, bitsIn, wordsLie, addressOf}
+use Rattle.group.specs.Group.{Words, changedWords, programWords, indicatorBitsIn, wordsLie, addressOf}
 use Rattle.group.specs.Group.Words.{Become, Refuse}
 
 -- ---- the pieces of a program block. A word says by its bits 35-34 what it heads: 10 a group, 01 a table section, zeros the segment section,
@@ -108,7 +108,7 @@ wordsOr (Refuse f) = []
 unfoldable pub storeOf : Assignments → Section → List ℕ → ℕ → Group → Store
 storeOf a section block i g =
     cond (wordsLie section g)
-    (record { at = addressOf (a .area) section g .0; words = wordsOr (changedWords a (bitsIn block i g) 0 (wordsIn block i g)) })
+    (record { at = addressOf (a .area) section g .0; words = wordsOr (changedWords a (indicatorBitsIn block i g) 0 (programWords block i g)) })
     (record { at = 0; words = [] })
 
 -- ---- the groups in order, each with the section that it stands in

@@ -16,7 +16,7 @@ use Rattle.map.specs.Map.{mapOf, mapObeys, none, MapObeys}
 use Rattle.map.proofs.Map.{map-length, map-obeys-says}
 use Rattle.rooms.specs.Rooms.{Fair}
 use Rattle.rooms.proofs.Rooms.{fair-says}
-use Rattle.lists.specs.Chain.{chain}
+use Rattle.lists.specs.HowChain.{chain}
 use Rattle.lists.specs.Obey.{tablesObey}
 use Rattle.lists.specs.Load.{wordsIn, coreTables, Readable}
 use Rattle.lists.proofs.Reading.{io-obey, core-length}

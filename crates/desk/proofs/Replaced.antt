@@ -17,7 +17,7 @@ use Rattle.word.proofs.Says.{says-apart}
 use Rattle.map.specs.declared.Stretch.{Stretch}
 use Rattle.map.specs.Map.{mapOf, none}
 use Rattle.rooms.specs.Rooms.{Fair}
-use Rattle.lists.specs.Chain.{chain}
+use Rattle.lists.specs.HowChain.{chain}
 use Rattle.lists.specs.Obey.{tablesObey}
 use Rattle.lists.specs.Load.{wordsIn, coreTables}
 use Rattle.lists.specs.declared.Given.{Given}

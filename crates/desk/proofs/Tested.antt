@@ -15,7 +15,7 @@ use Rattle.word.proofs.Each.{says-each, says-two}
 use Rattle.word.proofs.Says.{says-and, says-as}
 use Rattle.word.proofs.Lists.{length-tab, getD-tab, every-more, every-fails, every-ends}
 use Rattle.lists.specs.declared.Given.{Given}
-use Rattle.lists.specs.Chain.{chain}
+use Rattle.lists.specs.HowChain.{chain}
 use Rattle.lists.specs.Obey.{tablesObey}
 use Rattle.lists.specs.Load.{wordsIn, ranksIn, coreTables, Readable}
 use Rattle.lists.proofs.Sound.{order-sound}

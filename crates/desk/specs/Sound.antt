@@ -15,7 +15,7 @@ use Rattle.map.specs.declared.Stretch.{Stretch}
 use Rattle.map.specs.Map.{mapOf, mapObeys, none}
 use Rattle.rooms.specs.Rooms.{fair, Fair}
 use Rattle.lists.specs.declared.Given.{Given}
-use Rattle.lists.specs.Chain.{chain}
+use Rattle.lists.specs.HowChain.{chain}
 use Rattle.lists.specs.Obey.{tablesObey, isIoNumber}
 use Rattle.lists.specs.Load.{wordsIn, coreTables, ioNumbers}
 use Rattle.stage.specs.Ranges.{stageFits}

@@ -13,7 +13,7 @@ use Rattle.word.proofs.Cases.{when}
 use Rattle.block.specs.Records.{ofRecord}
 use Rattle.program.specs.declared.Bank.{Bank}
 use Rattle.program.specs.Start.{startOf, inBank}
-use Rattle.stage.specs.declared.Course.{Course}
+use Rattle.stage.specs.declared.LabelCounts.{LabelCounts}
 use Rattle.stage.specs.declared.Due.{Due}
 use Rattle.stage.specs.declared.Stage.{Stage}
 use Rattle.stage.specs.declared.Stage.the-variants.{Label, Entry, Program, Termination, Complete, Broken}
@@ -21,31 +21,31 @@ use Rattle.stage.specs.Ranges.{stageFits}
 use Rattle.stage.specs.declared.Step.{Step}
 use Rattle.stage.specs.declared.Step.the-variants.{More, Done, Refused}
 use Rattle.stage.specs.Record.{recordDue}
-use Rattle.step.specs.Termination.{terminationStep}
-use Rattle.step.proofs.Fits.{label-fits, entry-fits, label-not-done, entry-not-done, label-fault, entry-fault, termination-fault, termination-not-more}
+use Rattle.records.specs.Termination.{terminationStep}
+use Rattle.records.proofs.Fits.{label-fits, entry-fits, label-not-done, entry-not-done, label-fault, entry-fault, termination-fault, termination-not-more}
 use Rattle.lists.specs.Load.{Load}
 use Rattle.sections.specs.Program.{StepOutcome, programStep}
 use Rattle.sections.proofs.Turns.{Stands}
 use Rattle.sections.proofs.Blocks.{program-fits, program-not-done, program-faults, program-length, program-area, program-same, program-alike}
-use Rattle.feed.specs.Block.{only, dueStep, blockStep}
+use Rattle.feed.specs.Block.{storesNothing, dueStep, blockStep}
 use Rattle.feed.proofs.Laws.{Fit, Holds, Alike, BlockLaws}
 
 -- a record whose block is read whole stores nothing; a program block is read word by word. P speaks of the outcome as a function of the core.
-module _ (x : Load) (block : List ℕ) (P : (List ℕ → StepOutcome) → Type 0) (none : (r : Step) → P (only r)) where
-  due-cases : (s : Stage) → ((c : Course) (due : Due) → s ≡ Program c due → P (programStep x c due block)) → P (dueStep x s block)
+module _ (x : Load) (block : List ℕ) (P : (List ℕ → StepOutcome) → Type 0) (none : (r : Step) → P (storesNothing r)) where
+  due-cases : (s : Stage) → ((c : LabelCounts) (due : Due) → s ≡ Program c due → P (programStep x c due block)) → P (dueStep x s block)
   unfolding dueStep
   due-cases Label k = none _
-  due-cases (Entry c strict b) k = none _
+  due-cases (Entry c exact b) k = none _
   due-cases (Program c due) k = k c due refl
   due-cases (Termination i) k = none _
   due-cases Complete k = none _
   due-cases Broken k = none _
 
-  block-cases : (s : Stage) → ((c : Course) (due : Due) → s ≡ Program c due → P (programStep x c due block)) → P (blockStep x s block)
+  block-cases : (s : Stage) → ((c : LabelCounts) (due : Due) → s ≡ Program c due → P (programStep x c due block)) → P (blockStep x s block)
   unfolding blockStep
   block-cases s k = by-record (ofRecord (recordDue s) block) (due-cases s k)
     where
-      by-record : (b : Bool) → P (dueStep x s block) → P (λ core. cond b (dueStep x s block core) (only (Refused (fault 13)) core))
+      by-record : (b : Bool) → P (dueStep x s block) → P (λ core. cond b (dueStep x s block core) (storesNothing (Refused (fault 13)) core))
       by-record true h = h
       by-record false h = none (Refused (fault 13))
 
@@ -56,14 +56,14 @@ module _ (x : Load) (block core : List ℕ) where
   unfolding blockStep
   due-or-13 s P n k = by-record (ofRecord (recordDue s) block)
     where
-      by-record : (b : Bool) → P (cond b (dueStep x s block core) (only (Refused (fault 13)) core) .step)
+      by-record : (b : Bool) → P (cond b (dueStep x s block core) (storesNothing (Refused (fault 13)) core) .step)
       by-record true = k
       by-record false = n
 
   due-fits : (s t : Stage) → Fit x s → dueStep x s block core .step ≡ More t → stageFits (x .area) (x .tables) (length (x .ios)) t ≡ true
   unfolding dueStep
   due-fits Label t f q = label-fits (x .area) (x .tables) (x .ios) block t q
-  due-fits (Entry c strict b) t f q = entry-fits (x .area) (x .tables) (length (x .ios)) c strict b block t (f .stage) q
+  due-fits (Entry c exact b) t f q = entry-fits (x .area) (x .tables) (length (x .ios)) c exact b block t (f .stage) q
   due-fits (Program c due) t f q = program-fits x block c due core t (f .stage) q
   due-fits (Termination i) t f q = absurd (termination-not-more (x .area) i block t q)
   due-fits Complete t f q = let e : Complete ≡ t = cc in rw (← e) (f .stage)
@@ -72,7 +72,7 @@ module _ (x : Load) (block core : List ℕ) where
   due-faults : (s : Stage) (f : Fault) → dueStep x s block core .step ≡ Refused f → (13 ≤ f .number) × (f .number ≤ 22)
   unfolding dueStep
   due-faults Label f q = label-fault (x .ios) (length (x .tables)) block f q
-  due-faults (Entry c strict b) f q = entry-fault (length (x .ios)) (x .tables) c strict b block f q
+  due-faults (Entry c exact b) f q = entry-fault (length (x .ios)) (x .tables) c exact b block f q
   due-faults (Program c due) f q = let k = program-faults x block c due core f q in (omega arith, omega arith)
   due-faults (Termination i) f q = termination-fault (x .area) i block f q
   due-faults Complete f q = let z : _≡_ {A = ℕ} 0 1 = cc in absurd (omega arith)
@@ -87,13 +87,13 @@ module _ (x : Load) (block core : List ℕ) where
   due-starts : (s : Stage) (a : Absolute) → dueStep x s block core .step ≡ Done a → a ≡ absoluteOf (x .area) (startOf block)
   unfolding dueStep
   due-starts Label a q = absurd (label-not-done (x .ios) (length (x .tables)) block a q)
-  due-starts (Entry c strict b) a q = absurd (entry-not-done (length (x .ios)) (x .tables) c strict b block a q)
+  due-starts (Entry c exact b) a q = absurd (entry-not-done (length (x .ios)) (x .tables) c exact b block a q)
   due-starts (Program c due) a q = absurd (program-not-done x block c due core a q)
   due-starts (Termination i) a q = termination-value i a q
   due-starts Complete a q = let z : _≡_ {A = ℕ} 0 1 = cc in absurd (omega arith)
   due-starts Broken a q = let z : _≡_ {A = ℕ} 0 1 = cc in absurd (omega arith)
 
-standing : (x : Load) (s : Stage) (c : Course) (due : Due) (core : List ℕ) → s ≡ Program c due → Fit x s → Holds x core → Stands x (Program c due) core
+standing : (x : Load) (s : Stage) (c : LabelCounts) (due : Due) (core : List ℕ) → s ≡ Program c due → Fit x s → Holds x core → Stands x (Program c due) core
 standing x s c due core e f h = record { inside = h; tables = f .tables; stage = rw e at (f .stage) }
 
 pub block-laws : BlockLaws

@@ -43,7 +43,7 @@ use Rattle.calls.specs.Outcome.{Outcome, refused}
 use Rattle.calls.proofs.Entry.{entered-cases}
 use Rattle.feed.specs.Block.{blockStep}
 use Rattle.lists.specs.Load.{Load}
-use Rattle.sections.specs.Load.{Waits}
+use Rattle.sections.specs.Waits.{Waits}
 use Rattle.sections.specs.Program.{StepMeets}
 use Rattle.feed.specs.Feed.{loadIn, wiped, staged, settledOf, takenOf, checkedOf, heldOf, feedOf}
 use Rattle.feed.proofs.Blocked.{block-laws}

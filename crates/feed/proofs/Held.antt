@@ -14,7 +14,7 @@ use Rattle.layout.specs.Layout.{coreLength, holderIn, placeIn, stageIn}
 use Rattle.desk.specs.Sound.{sound, givenIn, listsHeld, HeldFacts}
 use Rattle.desk.proofs.Facts.{held-readable, held-facts}
 use Rattle.lists.specs.Load.{Load}
-use Rattle.sections.specs.Load.{Waits, KeptWaits}
+use Rattle.sections.specs.Waits.{Waits, KeptWaits}
 use Rattle.feed.specs.Feed.{loadIn}
 use Rattle.feed.proofs.Laws.{Fit}
 

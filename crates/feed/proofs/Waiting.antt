@@ -8,24 +8,24 @@ use lib.ListN.{length}
 use borrow.Author.Tests.{ltb-true}
 use Rattle.word.proofs.Cases.{and-right}
 use Rattle.lists.proofs.Reading.{core-length, io-length}
-use Rattle.stage.specs.declared.Course.{Course}
+use Rattle.stage.specs.declared.LabelCounts.{LabelCounts}
 use Rattle.stage.specs.declared.Stage.{Stage}
 use Rattle.stage.specs.declared.Stage.the-variants.{Label, Entry}
-use Rattle.stage.specs.Ranges.{courseFits, stageFits}
+use Rattle.stage.specs.Ranges.{labelCountsFit, stageFits}
 use Rattle.stage.specs.declared.Step.{Step}
-use Rattle.step.specs.Label.{labelStep}
-use Rattle.step.specs.Entries.{entryStep}
+use Rattle.records.specs.Label.{labelStep}
+use Rattle.records.specs.Entries.{entryStep}
 use Rattle.lists.specs.declared.Given.{Given}
 use Rattle.lists.specs.Load.{Load, loadOf, coreTables, ioNumbers, Readable}
-use Rattle.sections.specs.Load.{Waits}
+use Rattle.sections.specs.Waits.{Waits}
 use Rattle.sections.specs.Program.{StepMeets}
 use Rattle.feed.specs.Block.{dueStep}
 
 -- no block number wraps when it is counted on
-pub entry-block-small : (x : Load) (c : Course) (strict : Bool) (b : ℕ) (block core : List ℕ) → Waits x (Entry c strict b) block core → b < 65536
+pub entry-block-small : (x : Load) (c : LabelCounts) (exact : Bool) (b : ℕ) (block core : List ℕ) → Waits x (Entry c exact b) block core → b < 65536
 unfolding stageFits
-entry-block-small x c strict b block core w =
-    let q = ltb-true b _ (and-right (courseFits (length (x .ios)) (length (x .tables)) c) _ (w .stage)) in
+entry-block-small x c exact b block core w =
+    let q = ltb-true b _ (and-right (labelCountsFit (length (x .ios)) (length (x .tables)) c) _ (w .stage)) in
     omega (arith, q, w .io, w .few)
 
 -- what the record's step answers is what is due
@@ -34,7 +34,7 @@ module _ (g : Given) (l : List ℕ) (readable : Readable g l) (block core : List
   unfolding dueStep
   label-met e = record { told = rw (core-length g l readable) e; left = refl }
 
-  pub entry-met : (c : Course) (strict : Bool) (b : ℕ) → r ≡ entryStep (g .io) (coreTables g l) c strict b block
-      → StepMeets (dueStep (loadOf g l) (Entry c strict b) block core) r core
+  pub entry-met : (c : LabelCounts) (exact : Bool) (b : ℕ) → r ≡ entryStep (g .io) (coreTables g l) c exact b block
+      → StepMeets (dueStep (loadOf g l) (Entry c exact b) block core) r core
   unfolding dueStep
-  entry-met c strict b e = record { told = rw (io-length g l) e; left = refl }
+  entry-met c exact b e = record { told = rw (io-length g l) e; left = refl }

@@ -19,7 +19,7 @@ use Rattle.stage.specs.declared.Step.{Step}
 use Rattle.stage.specs.declared.Step.the-variants.{More as step-more, Done as step-done, Refused as step-refused}
 use Rattle.stage.specs.Record.{recordDue, isOver}
 use Rattle.word.specs.Limits.{placeCount}
-use Rattle.sections.specs.Load.{KeptWaits}
+use Rattle.sections.specs.Waits.{KeptWaits}
 use Rattle.lists.specs.Load.{Load, loadOf}
 use Rattle.sections.specs.Program.{StepOutcome}
 use Rattle.layout.specs.Layout.{deskWords, base, placeIn, ownOf, stageIn, stageAt, listsIn, holds}
@@ -59,12 +59,12 @@ checkedOf d core taken Pass = taken
 checkedOf d core taken (refused-block f) = record { answer = Refused f; desk = d; core = core }
 
 -- from refusal 10 on; the checksum word is where the record that is due has it
-abbrev pub heldBy : List ℕ → List ℕ → ℕ → Load → Stage → List ℕ → Outcome
-heldBy d core p x s block =
+abbrev pub waitingOf : List ℕ → List ℕ → ℕ → Load → Stage → List ℕ → Outcome
+waitingOf d core p x s block =
     cond (isOver s) (refused 10 d core) (checkedOf d core (takenOf d core p x s block) (verdict (recordDue s) block))
 
 unfoldable pub heldOf : List ℕ → List ℕ → ℕ → List ℕ → Outcome
-heldOf d core p block = heldBy d core p (loadIn (placeIn d p)) (stageIn (placeIn d p)) block
+heldOf d core p block = waitingOf d core p (loadIn (placeIn d p)) (stageIn (placeIn d p)) block
 
 unfoldable pub feedOf : List ℕ → List ℕ → ℕ → ℕ → List ℕ → Outcome
 feedOf d core r p block =

@@ -8,7 +8,7 @@ ghost use Rattle.layout.specs.Layout.{deskWords, coreLength, holderIn, placeIn}
 ghost use Rattle.desk.specs.Sound.{sound};
 ghost use Rattle.calls.specs.Outcome.{Meets};
 ghost use Rattle.lists.specs.Load.{loadOf};
-ghost use Rattle.sections.specs.Load.{KeptWaits};
+ghost use Rattle.sections.specs.Waits.{KeptWaits};
 ghost use Rattle.sections.specs.Program.{StepMeets};
 ghost use Rattle.feed.specs.Block.{dueStep, blockStep};
 ghost use Rattle.feed.specs.Feed.{loadIn, staged, settledOf, takenOf, heldOf, feedOf, TakeReady};
@@ -87,10 +87,10 @@ fn due_step(g: Given, lists: &[u64], s: Stage, block: &[u64], core: &mut [u64]) 
     ensures { λ r. ⌜ StepMeets (dueStep (loadOf g (now (lists .entry))) s (now (block .entry)) (now (core .entry))) r (now (core .exit)) ⌝ }
 {
     match s {
-        Stage::Label => step::label_step(g, lists, block),
-        Stage::Entry(c, strict, b) => step::entry_step(g, lists, c, strict, b, block),
+        Stage::Label => records::label_step(g, lists, block),
+        Stage::Entry(c, exact, b) => records::entry_step(g, lists, c, exact, b, block),
         Stage::Program(c, due) => sections::items::program_step(g, lists, c, due, block, core),
-        Stage::Termination(i) => step::termination_step(g.area, i, block),
+        Stage::Termination(i) => records::termination_step(g.area, i, block),
         Stage::Complete => Step::More(Stage::Complete),
         Stage::Broken => Step::More(Stage::Broken),
     }

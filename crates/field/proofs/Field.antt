@@ -25,7 +25,7 @@ use Rattle.field.specs.declared.Becomes.{Becomes}
 use Rattle.field.specs.declared.Becomes.the-variants.{Value, Bad}
 use Rattle.field.specs.declared.Changed.{Changed}
 use Rattle.field.specs.declared.Changed.the-variants.{Word, Refused}
-use Rattle.field.specs.Field.{Assignments, valued, plusOrMinus, movedField, table, addressOrLength, referred, pair, minusZero, short, long, constant, switch, unit, reference, relative, becomes, lowestOf, widthOf, putBack, fieldStep, Fits}
+use Rattle.field.specs.Field.{Assignments, valued, plusOrMinus, movedField, table, addressOrLength, referred, pair, minusZero, short, long, constant, switch, unit, reference, relative, becomes, changedLowest, changedWidth, putBack, fieldStep, Fits}
 
 -- ---- a table of the kept lists
 address-or-length-below : (sized : Bool) (t : Table) → (t .at .0 < 2 ^ 24) × (t .len < 2 ^ 20) → addressOrLength sized t < 2 ^ 24
@@ -84,7 +84,7 @@ module _ (ios : List ℕ) (channels : ℕ) where
   unit-fits k =
       both (Fits 16) (ltb (k .0) channels) tt (both (Fits 16) (ltb (k .0) (length ios)) (valued-fits (getD ios (k .0) 0)) tt)
 
-pub becomes-fits : (a : Assignments) (h : Half) (t w x : ℕ) → Fits (widthOf t) (becomes a h t w x)
+pub becomes-fits : (a : Assignments) (h : Half) (t w x : ℕ) → Fits (changedWidth t) (becomes a h t w x)
 unfolding becomes
 becomes-fits a h t w x = by-eq t 4
     (λ e. rw e (switch-fits (a .ios) (a .channels) h (reference (aField w))))
@@ -136,7 +136,7 @@ unfolding putBack
 back-stored k n w (Value v) u f e = record { value = v; given = refl; fits = f; word = cc }
 back-stored k n w (Bad x) u f e = let z : _≡_ {A = ℕ} 0 1 = cc in absurd (omega arith)
 
-put-word : (h : Half) (t w v : ℕ) → w < 2 ^ 36 → v < 2 ^ widthOf t → put (lowestOf h t) (widthOf t) w v < 2 ^ 36
+put-word : (h : Half) (t w v : ℕ) → w < 2 ^ 36 → v < 2 ^ changedWidth t → put (changedLowest h t) (changedWidth t) w v < 2 ^ 36
 put-word h t w v = by-eq t 4 (λ e. rw e (a-stored-word w v)) (λ n. rw (ne-eqb t 4 n) (stored-word h w v))
 
 -- only a left half has type 100, and that leaves the right field alone
@@ -148,29 +148,29 @@ switch-left a Right t w x v q g =
     let z : _≡_ {A = ℕ} 0 1 = cc in
     absurd (omega arith)
 
-across-kept : (h : Half) (t w v : ℕ) → (t ≡ 4 → h ≡ Left) → v < 2 ^ widthOf t → fieldOf (across h) (put (lowestOf h t) (widthOf t) w v) ≡ fieldOf (across h) w
+across-kept : (h : Half) (t w v : ℕ) → (t ≡ 4 → h ≡ Left) → v < 2 ^ changedWidth t → fieldOf (across h) (put (changedLowest h t) (changedWidth t) w v) ≡ fieldOf (across h) w
 across-kept h t w v g = by-eq t 4
     (λ q. rw (q, g q) (λ f. omega arith))
     (λ n. rw (ne-eqb t 4 n) (across-stored h w v))
 
 module _ (a : Assignments) (h : Half) (t w x u : ℕ) (e : fieldStep a h t w x ≡ Word u) where
-  pub step-stored : Stored (lowestOf h t) (widthOf t) w (becomes a h t w x) u
+  pub step-stored : Stored (changedLowest h t) (changedWidth t) w (becomes a h t w x) u
   unfolding fieldStep
-  step-stored = back-stored (lowestOf h t) (widthOf t) w (becomes a h t w x) u (becomes-fits a h t w x) e
+  step-stored = back-stored (changedLowest h t) (changedWidth t) w (becomes a h t w x) u (becomes-fits a h t w x) e
 
   -- the changed bits read back as the value
-  pub step-reads : becomes a h t w x ≡ Value (part (lowestOf h t) (widthOf t) u)
+  pub step-reads : becomes a h t w x ≡ Value (part (changedLowest h t) (changedWidth t) u)
   step-reads =
       let s = step-stored in
-      s .given ∙ ap Value (sym (ap (part (lowestOf h t) (widthOf t)) (s .word) ∙ part-put (lowestOf h t) (widthOf t) w (s .value) (s .fits)))
+      s .given ∙ ap Value (sym (ap (part (changedLowest h t) (changedWidth t)) (s .word) ∙ part-put (changedLowest h t) (changedWidth t) w (s .value) (s .fits)))
 
   -- a word stays a word
   pub step-word : w < 2 ^ 36 → u < 2 ^ 36
   step-word hw = let s = step-stored in rw (s .word) (put-word h t w (s .value) hw (s .fits))
 
   -- every other bit is as it was
-  pub step-bit : (j : ℕ) → (j < lowestOf h t) ⊎ (lowestOf h t + widthOf t ≤ j) → bit j u ≡ bit j w
-  step-bit j o = let s = step-stored in rw (s .word) (bit-put (lowestOf h t) (widthOf t) j w (s .value) (s .fits) o)
+  pub step-bit : (j : ℕ) → (j < changedLowest h t) ⊎ (changedLowest h t + changedWidth t ≤ j) → bit j u ≡ bit j w
+  step-bit j o = let s = step-stored in rw (s .word) (bit-put (changedLowest h t) (changedWidth t) j w (s .value) (s .fits) o)
 
   -- and so is the other half's field
   pub step-across : fieldOf (across h) u ≡ fieldOf (across h) w

@@ -121,11 +121,11 @@ becomes a h t w x =
     (Bad (fault 19))))))
 
 -- these bits: 25-22 for type 100, else the field of the half
-abbrev pub lowestOf : Half → ℕ → ℕ
-lowestOf h t = cond (eqb t 4) 22 (lowest h)
+abbrev pub changedLowest : Half → ℕ → ℕ
+changedLowest h t = cond (eqb t 4) 22 (lowest h)
 
-abbrev pub widthOf : ℕ → ℕ
-widthOf t = cond (eqb t 4) 4 16
+abbrev pub changedWidth : ℕ → ℕ
+changedWidth t = cond (eqb t 4) 4 16
 
 -- the word with what its n bits from bit k up become
 unfoldable pub putBack : ℕ → ℕ → ℕ → Becomes → Changed
@@ -134,7 +134,7 @@ putBack k n w (Bad f) = Refused f
 
 -- what becomes of a word by a change of type t in its half h; x is the nine more indicator bits of a long type 010
 unfoldable pub fieldStep : Assignments → Half → ℕ → ℕ → ℕ → Changed
-fieldStep a h t w x = putBack (lowestOf h t) (widthOf t) w (becomes a h t w x)
+fieldStep a h t w x = putBack (changedLowest h t) (changedWidth t) w (becomes a h t w x)
 
 -- a value that n bits can hold
 abbrev pub Fits : ℕ → Becomes → Type 0

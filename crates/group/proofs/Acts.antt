@@ -21,14 +21,14 @@ use Rattle.field.specs.Field.{Assignments}
 use Rattle.group.specs.declared.GroupStep.{GroupStep}
 use Rattle.group.specs.declared.GroupStep.the-variants.{Done, Refused}
 use Rattle.group.specs.declared.Section.{Section}
-use Rattle.group.specs.Group.{Words, changedWords, wordsIn, bitsIn, wordsLie, groupFits, Outcome, addressOf, refusedGroup, storedGroup, groupOutcome, readOutcome, groupStep, InArea}
+use Rattle.group.specs.Group.{Words, changedWords, programWords, indicatorBitsIn, wordsLie, groupFits, GroupOutcome, addressOf, refusedGroup, storedGroup, groupOutcome, readOutcome, groupStep, InArea}
 use Rattle.group.specs.Group.Words.{Become, Refuse}
 use Rattle.group.proofs.Group.{untouched, group-fits}
 use Rattle.group.proofs.Places.{words-lie}
 use Rattle.group.proofs.Words.{Many, changed-many}
 
 -- one answer, and one stretch of words of the area, whatever the core holds
-pub record Acts (area : Area) (f : List ℕ → Outcome) : Type 0 where
+pub record Acts (area : Area) (f : List ℕ → GroupOutcome) : Type 0 where
   pub answer : GroupStep
   pub to : ℕ
   pub words : List ℕ
@@ -38,7 +38,7 @@ pub record Acts (area : Area) (f : List ℕ → Outcome) : Type 0 where
   pub left : (core : List ℕ) → f core .core ≡ splice core to words
 
 module _ (area : Area) where
-  choose : (b : Bool) (f g : List ℕ → Outcome) → (b ≡ true → Acts area f) → Acts area g → Acts area (λ core. cond b (f core) (g core))
+  choose : (b : Bool) (f g : List ℕ → GroupOutcome) → (b ≡ true → Acts area f) → Acts area g → Acts area (λ core. cond b (f core) (g core))
   choose true f g p q = p refl
   choose false f g p q = q
 
@@ -91,7 +91,7 @@ module _ (a : Assignments) (section : Section) (block : List ℕ) (i : ℕ) wher
   unfolding readOutcome groupOutcome
   read-acts room (Good g) =
       choose (a .area) (groupFits section block i g) _ _
-      (λ q. stored-acts (a .area) section g room (group-fits section block i g q .lies) i (length (wordsIn block i g)) (length-range-most block (i + 1) (g .program)) (changedWords a (bitsIn block i g) 0 (wordsIn block i g)) (changed-many a (bitsIn block i g) 0 (wordsIn block i g)))
+      (λ q. stored-acts (a .area) section g room (group-fits section block i g q .lies) i (length (programWords block i g)) (length-range-most block (i + 1) (g .program)) (changedWords a (indicatorBitsIn block i g) 0 (programWords block i g)) (changed-many a (indicatorBitsIn block i g) 0 (programWords block i g)))
       (refused-acts (a .area) section g room (fault 18))
   read-acts room (Bad f) = untouched-acts (a .area) f
 

@@ -13,7 +13,7 @@ use Rattle.indicator.specs.Indicator.{bitsOf, indicatorBits, bitsBefore, number
 use Rattle.group.specs.declared.GroupStep.the-variants.{Done, Refused}
 use Rattle.group.specs.declared.Section.{Section}
 use Rattle.group.specs.declared.Section.the-variants.{Segment as InSegment, Table as InTable}
-use Rattle.group.specs.Group.{halfStep, wordStep, changedWords, wordsLie, indicatorsFit, groupFits, Outcome, addressOf, refusedGroup, storedGroup, groupOutcome, readOutcome, groupStep}
+use Rattle.group.specs.Group.{halfStep, wordStep, changedWords, wordsLie, indicatorsFit, groupFits, GroupOutcome, addressOf, refusedGroup, storedGroup, groupOutcome, readOutcome, groupStep}
 
 abbrev load : Assignments
 load = record {
@@ -35,20 +35,20 @@ abbrev table : Section
 table = InTable (record { at = record { 0 = 4 }; len = 2 }) 2
 
 -- the group at place i of a block, with the numbers 100 to 107 in the core
-abbrev after : Section → List ℕ → ℕ → Outcome
+abbrev after : Section → List ℕ → ℕ → GroupOutcome
 after section block i = groupStep load section block i (100 ∷ 101 ∷ 102 ∷ 103 ∷ 104 ∷ 105 ∷ 106 ∷ 107 ∷ [])
 
 -- the outcomes: the word at the Program Name is now v, or the table's second word is; a refusal cleared the former, or nothing
-abbrev stored : ℕ → ℕ → Outcome
+abbrev stored : ℕ → ℕ → GroupOutcome
 stored p v = record { answer = Done p true; core = 100 ∷ 101 ∷ v ∷ 103 ∷ 104 ∷ 105 ∷ 106 ∷ 107 ∷ [] }
 
-abbrev storedInTable : ℕ → ℕ → Outcome
+abbrev storedInTable : ℕ → ℕ → GroupOutcome
 storedInTable p v = record { answer = Done p true; core = 100 ∷ 101 ∷ 102 ∷ 103 ∷ 104 ∷ v ∷ 106 ∷ 107 ∷ [] }
 
-abbrev zeros : ℕ → Outcome
+abbrev zeros : ℕ → GroupOutcome
 zeros n = record { answer = Refused (fault n); core = 100 ∷ 101 ∷ 0 ∷ 103 ∷ 104 ∷ 105 ∷ 106 ∷ 107 ∷ [] }
 
-abbrev untouched : ℕ → Outcome
+abbrev untouched : ℕ → GroupOutcome
 untouched n = record { answer = Refused (fault n); core = 100 ∷ 101 ∷ 102 ∷ 103 ∷ 104 ∷ 105 ∷ 106 ∷ 107 ∷ [] }
 
 -- the hand deck's program block: its group at word 5 has one program word, 7, whose indicators are a 0, and 1 000 for its right half
@@ -59,7 +59,7 @@ deck =
     ++ (0o000001146450 ∷ [])
 
 -- what a group gives, and what 01 says
-abbrev cases : List (Outcome × Outcome)
+abbrev cases : List (GroupOutcome × GroupOutcome)
 cases =
     -- the area's address is added to the right field
     (after segment deck 5, stored 8 9)
@@ -79,6 +79,6 @@ cases =
     ∷ (after segment (replicate 253 0 ++ (0o401001400000 ∷ 0o000000000007 ∷ 0o200000000000 ∷ [])) 253, zeros 18)
     ∷ []
 
-worked : map (λ (c : Outcome × Outcome). c .0) cases ≡ map (λ (c : Outcome × Outcome). c .1) cases
+worked : map (λ (c : GroupOutcome × GroupOutcome). c .0) cases ≡ map (λ (c : GroupOutcome × GroupOutcome). c .1) cases
 unfolding groupStep readOutcome groupOutcome groupFits wordsLie indicatorsFit storedGroup refusedGroup addressOf changedWords wordStep halfStep groupOf within range splice cleared bitsBefore indicatorBits flatMap bitsOf numberAt indicatorAt afterField afterWord afterAll fieldStep putBack becomes movedField valued
 worked = refl

@@ -24,14 +24,14 @@ use Rattle.field.specs.declared.Becomes.{Becomes}
 use Rattle.field.specs.declared.Becomes.the-variants.{Value, Bad}
 use Rattle.field.specs.declared.Changed.{Changed}
 use Rattle.field.specs.declared.Changed.the-variants.{Word, Refused as RefusedWord}
-use Rattle.field.specs.Field.{Assignments, relative, reference, addressOrLength, table, valued, plusOrMinus, movedField, referred, pair, minusZero, short, long, constant, switch, unit, becomes, lowestOf, widthOf, putBack, fieldStep}
+use Rattle.field.specs.Field.{Assignments, relative, reference, addressOrLength, table, valued, plusOrMinus, movedField, referred, pair, minusZero, short, long, constant, switch, unit, becomes, changedLowest, changedWidth, putBack, fieldStep}
 use Rattle.indicator.specs.declared.Indicator.{Indicator}
 use Rattle.indicator.specs.declared.Indicator.the-variants.{Same, Change, Long}
 use Rattle.indicator.specs.Indicator.{indicatorAt, afterField, afterWord}
 use Rattle.group.specs.declared.GroupStep.{GroupStep}
 use Rattle.group.specs.declared.GroupStep.the-variants.{Done, Refused}
 use Rattle.group.specs.declared.Section.{Section}
-use Rattle.group.specs.Group.{halfStep, thenHalf, wordStep, Words, thenWords, changedWords, wordsIn, bitsIn, groupFits, Outcome, refusedGroup, storedGroup, groupOutcome, readOutcome, groupStep}
+use Rattle.group.specs.Group.{halfStep, thenHalf, wordStep, Words, thenWords, changedWords, programWords, indicatorBitsIn, groupFits, GroupOutcome, refusedGroup, storedGroup, groupOutcome, readOutcome, groupStep}
 use Rattle.group.specs.Group.Words.{Become, Refuse}
 
 -- the numbers of the table of refusals from m to n
@@ -133,7 +133,7 @@ then-words (RefusedWord f) rest h k = h
 module _ (a : Assignments) where
   field-fault : (h : Half) (t w x : ℕ) → ofWord (fieldStep a h t w x)
   unfolding fieldStep
-  field-fault h t w x = put-fault (lowestOf h t) (widthOf t) w (becomes a h t w x) (becomes-fault a h t w x)
+  field-fault h t w x = put-fault (changedLowest h t) (changedWidth t) w (becomes a h t w x) (becomes-fault a h t w x)
 
   half-fault : (h : Half) (m : Indicator) (w : ℕ) → ofWord (halfStep a h m w)
   unfolding halfStep
@@ -154,7 +154,7 @@ module _ (a : Assignments) where
 
   -- ---- the group
   module _ (section : Section) (block : List ℕ) (i : ℕ) (core : List ℕ) where
-    abbrev Answered : Outcome → Type 0
+    abbrev Answered : GroupOutcome → Type 0
     Answered o = ofGroup (o .answer)
 
     refused-fault : (g : Group) (f : Fault) → Among 18 21 f → Answered (refusedGroup (a .area) section g core f)
@@ -179,7 +179,7 @@ module _ (a : Assignments) where
     unfolding readOutcome groupOutcome
     outcome-fault (Good g) h =
         both Answered (groupFits section block i g)
-        (stored-fault g (changedWords a (bitsIn block i g) 0 (wordsIn block i g)) (words-fault (bitsIn block i g) 0 (wordsIn block i g)))
+        (stored-fault g (changedWords a (indicatorBitsIn block i g) 0 (programWords block i g)) (words-fault (indicatorBitsIn block i g) 0 (programWords block i g)))
         (refused-fault g (fault 18) (omega arith, omega arith))
     outcome-fault (no-group f) h = h
 

@@ -24,13 +24,13 @@ use Rattle.field.specs.Field.{Assignments}
 use Rattle.group.specs.declared.GroupStep.{GroupStep}
 use Rattle.group.specs.declared.GroupStep.the-variants.{Done, Refused}
 use Rattle.group.specs.declared.Section.{Section}
-use Rattle.group.specs.Group.{Words, changedWords, wordsIn, bitsIn, inOneBlock, holdsProgram, wordsLie, indicatorsFit, groupFits, Outcome, Meets, addressOf, refusedGroup, storedGroup, groupOutcome, readOutcome, groupStep, InArea}
+use Rattle.group.specs.Group.{Words, changedWords, programWords, indicatorBitsIn, inOneBlock, holdsProgram, wordsLie, indicatorsFit, groupFits, GroupOutcome, GroupMeets, addressOf, refusedGroup, storedGroup, groupOutcome, readOutcome, groupStep, InArea}
 use Rattle.group.specs.Group.Words.{Become, Refuse}
 use Rattle.group.proofs.Places.{Lies, words-lie}
 use Rattle.group.proofs.Words.{changed-many, changed-below}
 
 -- two outcomes that meet the contract are equal
-pub one-outcome : (o : Outcome) (r r′ : GroupStep) (core core′ : List ℕ) → Meets o r core → Meets o r′ core′ → (r ≡ r′) × (core ≡ core′)
+pub one-outcome : (o : GroupOutcome) (r r′ : GroupStep) (core core′ : List ℕ) → GroupMeets o r core → GroupMeets o r′ core′ → (r ≡ r′) × (core ≡ core′)
 one-outcome o r r′ core core′ p q = (p .told ∙ sym (q .told), p .left ∙ sym (q .left))
 
 -- what the tests of a group say together
@@ -59,16 +59,16 @@ pub record Goes (a : Assignments) (section : Section) (block : List ℕ) (i : �
 
 -- its words become vs
 abbrev pub Gives : Assignments → List ℕ → ℕ → Group → List ℕ → Type 0
-Gives a block i g vs = changedWords a (bitsIn block i g) 0 (wordsIn block i g) ≡ Become vs
+Gives a block i g vs = changedWords a (indicatorBitsIn block i g) 0 (programWords block i g) ≡ Become vs
 
 -- the three outcomes
-abbrev pub untouched : List ℕ → Fault → Outcome
+abbrev pub untouched : List ℕ → Fault → GroupOutcome
 untouched core f = record { answer = Refused f; core = core }
 
-abbrev pub zeroed : Group → Absolute → List ℕ → Fault → Outcome
+abbrev pub zeroed : Group → Absolute → List ℕ → Fault → GroupOutcome
 zeroed g to core f = record { answer = Refused f; core = cleared core (to .0) (g .program) }
 
-abbrev pub stored : ℕ → Group → Absolute → List ℕ → List ℕ → Outcome
+abbrev pub stored : ℕ → Group → Absolute → List ℕ → List ℕ → GroupOutcome
 stored i g to core vs = record { answer = Done (i + 1 + g .words) (g .last); core = splice core (to .0) vs }
 
 -- the next identifier is due at place p
@@ -82,7 +82,7 @@ pub record Ended (block : List ℕ) (i p : ℕ) (last : Bool) : Type 0 where
 
 module _ (a : Assignments) (section : Section) (block : List ℕ) (i : ℕ) where
   -- the core is untouched, the words are cleared, or they are stored
-  module _ (core : List ℕ) (P : Outcome → Type 0) (none : (f : Fault) → P (untouched core f))
+  module _ (core : List ℕ) (P : GroupOutcome → Type 0) (none : (f : Fault) → P (untouched core f))
       (zeros : (g : Group) (to : Absolute) (f : Fault) → Goes a section block i g to → P (zeroed g to core f))
       (all : (g : Group) (to : Absolute) (vs : List ℕ) → Goes a section block i g to → Fit section i g → Gives a block i g vs → P (stored i g to core vs)) where
     by-place : (g : Group) (f : Fault) → groupOf (getD block i 0) ≡ Good g → P (refusedGroup (a .area) section g core f)
@@ -92,7 +92,7 @@ module _ (a : Assignments) (section : Section) (block : List ℕ) (i : ℕ) wher
         (λ q. zeros g (addressOf (a .area) section g) f (record { read = e; lies = q; address = refl }))
         (λ q. none f)
 
-    by-words : (g : Group) → groupOf (getD block i 0) ≡ Good g → Fit section i g → (r : Words) → changedWords a (bitsIn block i g) 0 (wordsIn block i g) ≡ r
+    by-words : (g : Group) → groupOf (getD block i 0) ≡ Good g → Fit section i g → (r : Words) → changedWords a (indicatorBitsIn block i g) 0 (programWords block i g) ≡ r
         → P (storedGroup (a .area) section i g core r)
     unfolding storedGroup
     by-words g e h (Become vs) q = all g (addressOf (a .area) section g) vs (record { read = e; lies = h .lies; address = refl }) h q
@@ -102,7 +102,7 @@ module _ (a : Assignments) (section : Section) (block : List ℕ) (i : ℕ) wher
     unfolding readOutcome groupOutcome
     by-read (Good g) e =
         when P (groupFits section block i g)
-        (λ q. by-words g e (group-fits section block i g q) (changedWords a (bitsIn block i g) 0 (wordsIn block i g)) refl)
+        (λ q. by-words g e (group-fits section block i g q) (changedWords a (indicatorBitsIn block i g) 0 (programWords block i g)) refl)
         (λ q. by-place g (fault 18) e)
     by-read (Bad f) e = none f
 
@@ -112,7 +112,7 @@ module _ (a : Assignments) (section : Section) (block : List ℕ) (i : ℕ) wher
 
   -- where it answers `Done`, the next identifier is due behind it, at word 255 at the latest
   pub group-done : (core : List ℕ) (p : ℕ) (last : Bool) → groupStep a section block i core .answer ≡ Done p last → Ended block i p last
-  group-done core p last = group-outcomes core (λ (o : Outcome). o .answer ≡ Done p last → Ended block i p last)
+  group-done core p last = group-outcomes core (λ (o : GroupOutcome). o .answer ≡ Done p last → Ended block i p last)
       (λ f q. let z : _≡_ {A = ℕ} 0 1 = cc in absurd (omega arith))
       (λ g to f h q. let z : _≡_ {A = ℕ} 0 1 = cc in absurd (omega arith))
       (λ g to vs h t e q.
@@ -136,19 +136,19 @@ module _ (a : Assignments) (section : Section) (block : List ℕ) (i : ℕ) wher
 
     gives-few : (g : Group) (vs : List ℕ) → Gives a block i g vs → length vs ≤ g .program
     gives-few g vs e =
-        let n = rw e at (changed-many a (bitsIn block i g) 0 (wordsIn block i g)) in
+        let n = rw e at (changed-many a (indicatorBitsIn block i g) 0 (programWords block i g)) in
         omega (arith, n, length-range-most block (i + 1) (g .program))
 
     -- the core keeps its length
     pub group-length : length (groupStep a section block i core .core) ≡ length core
-    group-length = group-outcomes core (λ (o : Outcome). length (o .core) ≡ length core) (λ f. refl)
+    group-length = group-outcomes core (λ (o : GroupOutcome). length (o .core) ≡ length core) (λ f. refl)
         (λ g to f h. let l = goes-lies g to h in length-cleared core (to .0) (g .program) (omega (arith, l .high)))
         (λ g to vs h t e. let l = goes-lies g to h in let n = gives-few g vs e in length-splice core (to .0) vs (omega (arith, l .high)))
 
     -- no word beside the group's words changes
     pub group-beside : (j : ℕ) → ((g : Group) (to : Absolute) → Goes a section block i g to → Beside j (to .0) (g .program))
         → getD (groupStep a section block i core .core) j 0 ≡ getD core j 0
-    group-beside j b = group-outcomes core (λ (o : Outcome). getD (o .core) j 0 ≡ getD core j 0) (λ f. refl)
+    group-beside j b = group-outcomes core (λ (o : GroupOutcome). getD (o .core) j 0 ≡ getD core j 0) (λ f. refl)
         (λ g to f h. let l = goes-lies g to h in getD-cleared-beside core (to .0) (g .program) j (omega (arith, l .high)) (b g to h))
         (λ g to vs h t e.
         let l = goes-lies g to h in
@@ -162,28 +162,28 @@ module _ (a : Assignments) (section : Section) (block : List ℕ) (i : ℕ) wher
 
     -- a core of words below 2^36 stays one
     pub group-words : every isWord block ≡ true → every isWord core ≡ true → every isWord (groupStep a section block i core .core) ≡ true
-    group-words w c = group-outcomes core (λ (o : Outcome). every isWord (o .core) ≡ true) (λ f. c)
+    group-words w c = group-outcomes core (λ (o : GroupOutcome). every isWord (o .core) ≡ true) (λ f. c)
         (λ g to f h. let l = goes-lies g to h in every-cleared isWord core (to .0) (g .program) (omega (arith, l .high)) c refl)
         (λ g to vs h t e.
         let l = goes-lies g to h in
         let n = gives-few g vs e in
         every-splice isWord core (to .0) vs (omega (arith, l .high)) c
-        (rw e at (changed-below a (bitsIn block i g) 0 (wordsIn block i g) (every-range isWord block (i + 1) (g .program) w))))
+        (rw e at (changed-below a (indicatorBitsIn block i g) 0 (programWords block i g) (every-range isWord block (i + 1) (g .program) w))))
 
     -- where it answers `Done`, each of its words stands in the core, whatever stood there
     pub group-stored : length block ≡ 256 → (p : ℕ) (last : Bool) → groupStep a section block i core .answer ≡ Done p last
         → (g : Group) (to : Absolute) (vs : List ℕ) → Goes a section block i g to → Gives a block i g vs
         → (k : ℕ) → k < g .program → getD (groupStep a section block i core .core) (to .0 + k) 0 ≡ getD vs k 0
     group-stored long p last q g to vs h e k b =
-        group-outcomes core (λ (o : Outcome). o .answer ≡ Done p last → getD (o .core) (to .0 + k) 0 ≡ getD vs k 0)
+        group-outcomes core (λ (o : GroupOutcome). o .answer ≡ Done p last → getD (o .core) (to .0 + k) 0 ≡ getD vs k 0)
         (λ f r. let z : _≡_ {A = ℕ} 0 1 = cc in absurd (omega arith))
         (λ g′ to′ f h′ r. let z : _≡_ {A = ℕ} 0 1 = cc in absurd (omega arith))
         (λ g′ to′ vs′ h′ t e′ r.
         let s = goes-same g g′ to to′ h h′ in
-        let v : vs ≡ vs′ = become (changedWords a (bitsIn block i g′) 0 (wordsIn block i g′)) vs vs′ (rw (s .0) at e) e′ in
+        let v : vs ≡ vs′ = become (changedWords a (indicatorBitsIn block i g′) 0 (programWords block i g′)) vs vs′ (rw (s .0) at e) e′ in
         let l = goes-lies g to h in
         let u : Fit section i g = rw (s .0) t in
-        let n = rw e at (changed-many a (bitsIn block i g) 0 (wordsIn block i g)) in
+        let n = rw e at (changed-many a (indicatorBitsIn block i g) 0 (programWords block i g)) in
         let m = length-range block (i + 1) (g .program) (omega (arith, u .whole, u .holds)) in
         rw (← s .1, ← v) (getD-splice-in core (to .0) vs k (omega arith) (omega (arith, l .high))))
         q

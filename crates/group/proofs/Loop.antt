@@ -19,7 +19,7 @@ use Rattle.field.specs.declared.Changed.the-variants.{Word, Refused as RefusedW
 use Rattle.field.specs.Field.{Assignments}
 use Rattle.indicator.specs.Indicator.{InBlock, bitsBefore, indicatorAt, afterField, afterWord, afterAll}
 use Rattle.indicator.specs.declared.Cursor.{Cursor}
-use Rattle.indicator.specs.HowCursor.{never, Sees, startOf, pastWord, refilled, plainWords, pastPlain}
+use Rattle.indicator.specs.HowCursor.{never, Sees, startCursor, pastWord, refilled, plainWords, pastPlain}
 use Rattle.indicator.proofs.Reading.{start-sees, word-sees, word-past, past-word-most, refill-sees, refill-at}
 use Rattle.indicator.proofs.Turns.{Plain, plain-words, after-zeros, after-all-plain, plain-bits, plain-sees}
 use Rattle.group.specs.declared.changes.GroupChange.the-variants.{Bits, Stop as stop-group}
@@ -126,7 +126,7 @@ module _ (a : Assignments) (block : List ℕ) (end n : ℕ) (given : List ℕ) w
     pub become : becomeFrom out k (c .at) ≡ changedWords a bits 0 given
     pub ends : afterAll bits (c .at) (rest k) ≡ afterAll bits 0 given
 
-  pub reached-start : (out : List ℕ) → out ≡ given → Reached out (startOf n) 0
+  pub reached-start : (out : List ℕ) → out ≡ given → Reached out (startCursor n) 0
   reached-start out e = record {
     most = omega arith;
     reach = omega arith;

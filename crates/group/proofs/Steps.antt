@@ -24,7 +24,7 @@ use Rattle.group.specs.declared.changes.GroupChange.the-variants.{Bits, 
 use Rattle.group.specs.declared.GroupStep.{GroupStep}
 use Rattle.group.specs.declared.GroupStep.the-variants.{Done, Refused}
 use Rattle.group.specs.declared.Section.{Section}
-use Rattle.group.specs.Group.{Words, changedWords, wordsIn, bitsIn, inOneBlock, holdsProgram, wordsLie, indicatorsFit, groupFits, Meets, addressOf, refusedGroup, storedGroup, groupOutcome}
+use Rattle.group.specs.Group.{Words, changedWords, programWords, indicatorBitsIn, inOneBlock, holdsProgram, wordsLie, indicatorsFit, groupFits, GroupMeets, addressOf, refusedGroup, storedGroup, groupOutcome}
 use Rattle.group.specs.Group.Words.{Become, Refuse}
 use Rattle.group.specs.HowGroup.{Fills, zeroFill, changedFill, countedFill, fillOf, FillReady, Fitting}
 use Rattle.group.specs.HowWords.{bitsOr, wordsOrZeros, Changes, ChangeReady}
@@ -42,7 +42,7 @@ cleared-whole out = splice-whole out (replicate (length out) 0) (length-replicat
 
 -- ---- a group that is whole in its block and holds its program words
 module _ (x : Given) (l block : List ℕ) (i : ℕ) (g : Group) (out : List ℕ) (ready : FillReady x l block i g out) (fit : Fitting i g) where
-  many : length (wordsIn block i g) ≡ g .program
+  many : length (programWords block i g) ≡ g .program
   many = length-range block (i + 1) (g .program) (omega (arith, ready .long, fit .whole, fit .holds))
 
   -- the program words as the code lends them
@@ -60,17 +60,17 @@ module _ (x : Given) (l block : List ℕ) (i : ℕ) (g : Group) (out : List ℕ)
 
   module _ (a : Assignments) where
     abbrev gives : Words
-    gives = changedWords a (bitsIn block i g) 0 (wordsIn block i g)
+    gives = changedWords a (indicatorBitsIn block i g) 0 (programWords block i g)
 
     abbrev ends : ℕ
-    ends = afterAll (bitsIn block i g) 0 (wordsIn block i g)
+    ends = afterAll (indicatorBitsIn block i g) 0 (programWords block i g)
 
-    filled-bits : (r : Words) (b : ℕ) → Bits b ≡ bitsOr r ends → (out′ : List ℕ) → out′ ≡ wordsOrZeros (length (wordsIn block i g)) r
+    filled-bits : (r : Words) (b : ℕ) → Bits b ≡ bitsOr r ends → (out′ : List ℕ) → out′ ≡ wordsOrZeros (length (programWords block i g)) r
         → (b ≡ ends) × Fills (changedFill i g r) (Done (i + 1 + g .words) (g .last)) out′
     filled-bits (Become vs) b q out′ e = (cc, record { told = refl; left = e })
     filled-bits (Refuse f) b q out′ e = let z : _≡_ {A = ℕ} 0 1 = cc in absurd (omega arith)
 
-    filled-stop : (r : Words) (f : Fault) → stop-group f ≡ bitsOr r ends → (out′ : List ℕ) → out′ ≡ wordsOrZeros (length (wordsIn block i g)) r
+    filled-stop : (r : Words) (f : Fault) → stop-group f ≡ bitsOr r ends → (out′ : List ℕ) → out′ ≡ wordsOrZeros (length (programWords block i g)) r
         → (out′ ≡ replicate (g .program) 0) × Fills (changedFill i g r) (Refused f) out′
     filled-stop (Become vs) f q out′ e = let z : _≡_ {A = ℕ} 0 1 = cc in absurd (omega arith)
     filled-stop (Refuse x) f q out′ e =
@@ -78,15 +78,15 @@ module _ (x : Given) (l block : List ℕ) (i : ℕ) (g : Group) (out : List ℕ)
         let l = e ∙ ap (λ (n : ℕ). replicate n 0) many in
         (l, record { told = ap Refused y; left = l })
 
-    module _ (r : GroupChange) (out′ : List ℕ) (run : Changes a (bitsIn block i g) (take (i + 1 + g .program - (i + 1)) (drop (i + 1) block)) r out′) where
-      changed : Changes a (bitsIn block i g) (wordsIn block i g) r out′
+    module _ (r : GroupChange) (out′ : List ℕ) (run : Changes a (indicatorBitsIn block i g) (take (i + 1 + g .program - (i + 1)) (drop (i + 1) block)) r out′) where
+      changed : Changes a (indicatorBitsIn block i g) (programWords block i g) r out′
       changed = rw (range-lent block (i + 1) (g .program)) at run
 
       bits-told : (b : ℕ) → r ≡ Bits b → (b ≡ ends) × Fills (changedFill i g gives) (Done (i + 1 + g .words) (g .last)) out′
       bits-told b e = filled-bits gives b (sym e ∙ changed .told) out′ (changed .left)
 
       pub bits-most : (b : ℕ) → r ≡ Bits b → b ≤ 26 * g .program
-      bits-most b e = let s = bits-told b e in omega (arith, s .0, after-all-most (bitsIn block i g) 0 (wordsIn block i g), many)
+      bits-most b e = let s = bits-told b e in omega (arith, s .0, after-all-most (indicatorBitsIn block i g) 0 (programWords block i g), many)
 
       pub counted-done : (b : ℕ) → r ≡ Bits b → (q : Bool) → q ≡ justEnough b (g .words - g .program) → q ≡ true
           → Fills (countedFill a block i g) (Done (i + 1 + g .words) (g .last)) out′
@@ -95,11 +95,11 @@ module _ (x : Given) (l block : List ℕ) (i : ℕ) (g : Group) (out : List ℕ)
 
       -- as many words as were given
       long-out : length out′ ≡ g .program
-      long-out = ap length (changed .left) ∙ words-many gives (changed-many a (bitsIn block i g) 0 (wordsIn block i g)) ∙ many
+      long-out = ap length (changed .left) ∙ words-many gives (changed-many a (indicatorBitsIn block i g) 0 (programWords block i g)) ∙ many
         where
-          words-many : (w : Words) → Many (length (wordsIn block i g)) w → length (wordsOrZeros (length (wordsIn block i g)) w) ≡ length (wordsIn block i g)
+          words-many : (w : Words) → Many (length (programWords block i g)) w → length (wordsOrZeros (length (programWords block i g)) w) ≡ length (programWords block i g)
           words-many (Become vs) m = m
-          words-many (Refuse f) m = length-replicate (length (wordsIn block i g)) 0
+          words-many (Refuse f) m = length-replicate (length (programWords block i g)) 0
 
       pub counted-wrong : (b : ℕ) → r ≡ Bits b → (q : Bool) → q ≡ justEnough b (g .words - g .program) → q ≡ false
           → (x : GroupStep) (out″ : List ℕ) → Fills (zeroFill (length out′) (fault 18)) x out″ → Fills (countedFill a block i g) x out″
@@ -108,7 +108,7 @@ module _ (x : Given) (l block : List ℕ) (i : ℕ) (g : Group) (out : List ℕ)
 
       -- the count anew; the code takes the words' place away from their end
       module _ (f : Fault) (e : r ≡ stop-group f) (q : Bool)
-          (j : q ≡ justEnough (afterAll (bitsIn block i g) 0 (range block (i + 1) (i + 1 + g .program - (i + 1)))) (g .words - g .program)) where
+          (j : q ≡ justEnough (afterAll (indicatorBitsIn block i g) 0 (range block (i + 1) (i + 1 + g .program - (i + 1)))) (g .words - g .program)) where
         count : justEnough ends (g .words - g .program) ≡ q
         count = sym (rw (add-sub-cancel-left (i + 1) (g .program)) at j)
 
@@ -133,29 +133,29 @@ module _ (a : Assignments) (section : Section) (block : List ℕ) (i : ℕ) (g :
   to = addressOf (a .area) section g .0
 
   -- the tests that are left where the words lie where they must
-  zero-stored : (f : Fault) → wordsLie section g ≡ true → Meets (refusedGroup (a .area) section g core f) (Refused f) (splice core to (replicate (g .program) 0))
+  zero-stored : (f : Fault) → wordsLie section g ≡ true → GroupMeets (refusedGroup (a .area) section g core f) (Refused f) (splice core to (replicate (g .program) 0))
   unfolding refusedGroup cleared
   zero-stored f q = rw q (record { told = refl; left = refl })
 
-  changed-stored : wordsLie section g ≡ true → (r : Words) → Meets (storedGroup (a .area) section i g core r) (changedFill i g r .answer) (splice core to (changedFill i g r .words))
+  changed-stored : wordsLie section g ≡ true → (r : Words) → GroupMeets (storedGroup (a .area) section i g core r) (changedFill i g r .answer) (splice core to (changedFill i g r .words))
   unfolding storedGroup
   changed-stored q (Become vs) = record { told = refl; left = refl }
   changed-stored q (Refuse f) = zero-stored f q
 
   -- what was filled in is the outcome
-  fill-is : wordsLie section g ≡ true → Meets (groupOutcome a section block i g core) (fillOf a block i g .answer) (splice core to (fillOf a block i g .words))
+  fill-is : wordsLie section g ≡ true → GroupMeets (groupOutcome a section block i g core) (fillOf a block i g .answer) (splice core to (fillOf a block i g .words))
   unfolding groupOutcome groupFits fillOf countedFill
   fill-is q =
       rw q
       (by-test (inOneBlock i g)
       (λ x. by-test (holdsProgram g)
       (λ y. by-test (indicatorsFit block i g)
-      (λ z. rw (x, y, z) (changed-stored q (changedWords a (bitsIn block i g) 0 (wordsIn block i g))))
+      (λ z. rw (x, y, z) (changed-stored q (changedWords a (indicatorBitsIn block i g) 0 (programWords block i g))))
       (λ z. rw (x, y, z) (zero-stored (fault 18) q)))
       (λ y. rw (x, y) (zero-stored (fault 18) q)))
       (λ x. rw x (zero-stored (fault 18) q)))
 
-  pub outcome-outside : wordsLie section g ≡ false → Meets (groupOutcome a section block i g core) (Refused (fault 18)) core
+  pub outcome-outside : wordsLie section g ≡ false → GroupMeets (groupOutcome a section block i g core) (Refused (fault 18)) core
   unfolding groupOutcome groupFits refusedGroup
   outcome-outside q =
       rw q
@@ -170,19 +170,19 @@ module _ (a : Assignments) (section : Section) (block : List ℕ) (i : ℕ) (g :
       by-test (inOneBlock i g)
       (λ x. by-test (holdsProgram g)
       (λ y. by-test (indicatorsFit block i g)
-      (λ z. rw (x, y, z) (words-many x y (changedWords a (bitsIn block i g) 0 (wordsIn block i g)) (changed-many a (bitsIn block i g) 0 (wordsIn block i g))))
+      (λ z. rw (x, y, z) (words-many x y (changedWords a (indicatorBitsIn block i g) 0 (programWords block i g)) (changed-many a (indicatorBitsIn block i g) 0 (programWords block i g))))
       (λ z. rw (x, y, z) (length-replicate (g .program) 0)))
       (λ y. rw (x, y) (length-replicate (g .program) 0)))
       (λ x. rw x (length-replicate (g .program) 0))
     where
-      words-many : inOneBlock i g ≡ true → holdsProgram g ≡ true → (r : Words) → Many (length (wordsIn block i g)) r → length (changedFill i g r .words) ≡ g .program
+      words-many : inOneBlock i g ≡ true → holdsProgram g ≡ true → (r : Words) → Many (length (programWords block i g)) r → length (changedFill i g r .words) ≡ g .program
       words-many x y (Become vs) m =
           m ∙ length-range block (i + 1) (g .program) (omega (arith, leb-true (i + g .words) 254 x, leb-true (g .program) (g .words) y))
       words-many x y (Refuse f) m = length-replicate (g .program) 0
 
   -- the words that were lent come back filled
   pub outcome-filled : length block ≡ 256 → to + g .program ≤ length core → wordsLie section g ≡ true → (t : ℕ) → t ≡ to → (r : GroupStep) (out : List ℕ) → Fills (fillOf a block i g) r out
-      → Meets (groupOutcome a section block i g core) r (take t core ++ (out ++ drop (t + g .program - t) (drop t core)))
+      → GroupMeets (groupOutcome a section block i g core) r (take t core ++ (out ++ drop (t + g .program - t) (drop t core)))
   outcome-filled long h q t e r out m =
       let o = fill-is q in
       rw e (record { told = m .told ∙ o .told; left = lent-back core to (g .program) out h (ap length (m .left) ∙ fill-many long) ∙ ap (splice core to) (m .left) ∙ o .left })

@@ -73,11 +73,11 @@ changedWords a bits p [] = Become []
 changedWords a bits p (w ∷ ws) = thenWords (wordStep a bits p w) (changedWords a bits (afterWord bits p w) ws)
 
 -- "The program words come first" after the identifier at place i, and the indicator words are the rest of the group
-abbrev pub wordsIn : List ℕ → ℕ → Group → List ℕ
-wordsIn block i g = range block (i + 1) (g .program)
+abbrev pub programWords : List ℕ → ℕ → Group → List ℕ
+programWords block i g = range block (i + 1) (g .program)
 
-abbrev pub bitsIn : List ℕ → ℕ → Group → List ℕ
-bitsIn block i g = bitsBefore block (i + 1 + g .words) (g .words - g .program)
+abbrev pub indicatorBitsIn : List ℕ → ℕ → Group → List ℕ
+indicatorBitsIn block i g = bitsBefore block (i + 1 + g .words) (g .words - g .program)
 
 -- ---- what is tested before any field of the group: each is 18
 
@@ -100,19 +100,19 @@ wordsLie (InTable t count) g = not (g .ibank) && within (g .at .0) (g .program) 
 
 -- "The group has just as many indicator words as the bits need"
 unfoldable pub indicatorsFit : List ℕ → ℕ → Group → Bool
-indicatorsFit block i g = justEnough (afterAll (bitsIn block i g) 0 (wordsIn block i g)) (g .words - g .program)
+indicatorsFit block i g = justEnough (afterAll (indicatorBitsIn block i g) 0 (programWords block i g)) (g .words - g .program)
 
 unfoldable pub groupFits : Section → List ℕ → ℕ → Group → Bool
 groupFits section block i g =
     inOneBlock i g && (holdsProgram g && (wordsLie section g && indicatorsFit block i g))
 
 -- ---- the outcome: the answer, and the core afterwards
-pub record Outcome : Type 0 where
+pub record GroupOutcome : Type 0 where
   pub answer : GroupStep
   pub core : List ℕ
 
 -- an answer and a core are those of an outcome
-pub record Meets (o : Outcome) (answer : GroupStep) (core : List ℕ) : Type 0 where
+pub record GroupMeets (o : GroupOutcome) (answer : GroupStep) (core : List ℕ) : Type 0 where
   pub told : answer ≡ o .answer
   pub left : core ≡ o .core
 
@@ -124,30 +124,30 @@ addressOf area (InTable t count) g = fromTable (t .at) (g .at)
 -- a refused group leaves zeros in the words that it goes to, if these lie where they must, and nothing else is changed. The whole
 -- area is set to zero at such a refusal (01, "Refusal numbers"); here zeros are said, so that the code is free to store before all is
 -- read.
-unfoldable pub refusedGroup : Area → Section → Group → List ℕ → Fault → Outcome
+unfoldable pub refusedGroup : Area → Section → Group → List ℕ → Fault → GroupOutcome
 refusedGroup area section g core f =
     record { answer = Refused f; core = cond (wordsLie section g) (cleared core (addressOf area section g .0) (g .program)) core }
 
 -- all fields read: the words stand in the core, and the next identifier is due after the group; or the first field's refusal
-unfoldable pub storedGroup : Area → Section → ℕ → Group → List ℕ → Words → Outcome
+unfoldable pub storedGroup : Area → Section → ℕ → Group → List ℕ → Words → GroupOutcome
 storedGroup area section i g core (Become vs) =
     record { answer = Done (i + 1 + g .words) (g .last); core = splice core (addressOf area section g .0) vs }
 storedGroup area section i g core (Refuse f) = refusedGroup area section g core f
 
 -- "Otherwise 18, tested before any field of the group."
-unfoldable pub groupOutcome : Assignments → Section → List ℕ → ℕ → Group → List ℕ → Outcome
+unfoldable pub groupOutcome : Assignments → Section → List ℕ → ℕ → Group → List ℕ → GroupOutcome
 groupOutcome a section block i g core =
     cond (groupFits section block i g)
-    (storedGroup (a .area) section i g core (changedWords a (bitsIn block i g) 0 (wordsIn block i g)))
+    (storedGroup (a .area) section i g core (changedWords a (indicatorBitsIn block i g) 0 (programWords block i g)))
     (refusedGroup (a .area) section g core (fault 18))
 
 -- a word that is no group where one is due: 18, and nothing is changed
-unfoldable pub readOutcome : Assignments → Section → List ℕ → ℕ → List ℕ → GroupRead → Outcome
+unfoldable pub readOutcome : Assignments → Section → List ℕ → ℕ → List ℕ → GroupRead → GroupOutcome
 readOutcome a section block i core (Good g) = groupOutcome a section block i g core
 readOutcome a section block i core (Bad f) = record { answer = Refused f; core = core }
 
 -- the group whose identifier is due at place i of a block
-unfoldable pub groupStep : Assignments → Section → List ℕ → ℕ → List ℕ → Outcome
+unfoldable pub groupStep : Assignments → Section → List ℕ → ℕ → List ℕ → GroupOutcome
 groupStep a section block i core = readOutcome a section block i core (groupOf (getD block i 0))
 
 -- ---- what has been seen to before a group is read

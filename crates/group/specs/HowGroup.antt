@@ -14,7 +14,7 @@ use Rattle.program.specs.declared.Group.{Group}
 use Rattle.field.specs.Field.{Assignments}
 use Rattle.group.specs.declared.GroupStep.{GroupStep}
 use Rattle.group.specs.declared.GroupStep.the-variants.{Done, Refused}
-use Rattle.group.specs.Group.{Words, changedWords, wordsIn, bitsIn, inOneBlock, holdsProgram, indicatorsFit}
+use Rattle.group.specs.Group.{Words, changedWords, programWords, indicatorBitsIn, inOneBlock, holdsProgram, indicatorsFit}
 use Rattle.group.specs.Group.Words.{Become, Refuse}
 
 -- the answer, and the words of the core that the group goes to
@@ -38,7 +38,7 @@ changedFill i g (Refuse f) = zeroFill (g .program) f
 unfoldable pub countedFill : Assignments → List ℕ → ℕ → Group → Fill
 countedFill a block i g =
     cond (indicatorsFit block i g)
-    (changedFill i g (changedWords a (bitsIn block i g) 0 (wordsIn block i g)))
+    (changedFill i g (changedWords a (indicatorBitsIn block i g) 0 (programWords block i g)))
     (zeroFill (g .program) (fault 18))
 
 unfoldable pub fillOf : Assignments → List ℕ → ℕ → Group → Fill

@@ -9,7 +9,7 @@ ghost use Prim.Native.Nat.{_+_, _*_, _<_, _≤_, _^_};
 ghost use lib.ListN.{length};
 ghost use Rattle.field.specs.Field.{assignedBy};
 ghost use Rattle.indicator.specs.Indicator.{justEnough};
-ghost use Rattle.group.specs.Group.{liesIn, wordsLie, addressOf, groupOutcome, groupStep, Meets, InArea, Ready};
+ghost use Rattle.group.specs.Group.{liesIn, wordsLie, addressOf, groupOutcome, groupStep, GroupMeets, InArea, Ready};
 ghost use Rattle.group.specs.HowGroup.{Sized, FillReady, Fitting, zeroFill, countedFill, fillOf, Fills};
 use crate::changes::GroupChange;
 use crate::changes::IndicatorWords;
@@ -45,7 +45,7 @@ pub fn group_step(
     core: &mut [u64],
 ) -> GroupStep
     requires { ⌜ Ready (s .given) (now lists) section (now block) i (now core) ⌝ }
-    ensures { λ r. ⌜ Meets (groupStep (assignedBy s (now (lists .entry))) section (now (block .entry)) i (now (core .entry))) r (now (core .exit)) ⌝ }
+    ensures { λ r. ⌜ GroupMeets (groupStep (assignedBy s (now (lists .entry))) section (now (block .entry)) i (now (core .entry))) r (now (core .exit)) ⌝ }
 {
     match program::read_group(block[i]) {
         GroupRead::Good(g) => place_group(s, section, lists, block, i, g, core),
@@ -64,7 +64,7 @@ fn place_group(
     core: &mut [u64],
 ) -> GroupStep
     requires { ⌜ (Ready (s .given) (now lists) section (now block) i (now core)) × (Sized g) ⌝ }
-    ensures { λ r. ⌜ Meets (groupOutcome (assignedBy s (now (lists .entry))) section (now (block .entry)) i g (now (core .entry))) r (now (core .exit)) ⌝ }
+    ensures { λ r. ⌜ GroupMeets (groupOutcome (assignedBy s (now (lists .entry))) section (now (block .entry)) i g (now (core .entry))) r (now (core .exit)) ⌝ }
 {
     if words_lie(section, g) {
         let area = s.given.area;

@@ -43,7 +43,7 @@ termination-known = refl
 
 -- the label of a program named A: no tables, no table sections
 pub label-read-whole : labelOf deckLabel
-    ≡ label-read (record { switches = 0; channels = 0; units = 0; tables = 0; «no_longer_tables» = false; sections = 0 })
+    ≡ label-read (record { switches = 0; channels = 0; units = 0; tables = 0; exact = false; sections = 0 })
 unfolding deckLabel withWords blank labelOf isName isRest letterOrDigit every characters
     tableWordsIn tableWords tablesInOrder entriesOf countsOf withinLimits everyTwo tab
     finished programWordFits

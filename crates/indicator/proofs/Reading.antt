@@ -16,7 +16,7 @@ use Rattle.indicator.specs.declared.Indicator.{Indicator}
 use Rattle.indicator.specs.Indicator.{InBlock, bitsBefore, indicatorAt, widthOf, afterField, afterWord}
 use Rattle.indicator.proofs.Places.{width-most}
 use Rattle.indicator.specs.declared.Cursor.{Cursor}
-use Rattle.indicator.specs.HowCursor.{never, Sees, edgeOf, startOf, lookOf, pastOf, pastField, pastWord, refilled}
+use Rattle.indicator.specs.HowCursor.{never, Sees, edgeOf, startCursor, lookOf, pastOf, pastField, pastWord, refilled}
 use Rattle.indicator.proofs.Numbers.{N, number-high, number-low, number-one, number-past}
 use Rattle.indicator.proofs.Numbers.{number-moved, number-fewer, number-more}
 
@@ -39,7 +39,7 @@ unfolding edgeOf
 edge-all n m l = rw (le-leb n m l)
 
 module _ (block : List ℕ) (end n : ℕ) where
-  pub start-sees : Sees block end n (startOf n) 0
+  pub start-sees : Sees block end n (startCursor n) 0
   start-sees =
       record { few = omega arith; seen = sym (number-past block end 0 0 64 (omega arith)); near = omega arith; edge = refl; room = λ h. omega arith }
 

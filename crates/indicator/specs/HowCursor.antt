@@ -33,8 +33,8 @@ pub record Sees (block : List ℕ) (end n : ℕ) (c : Cursor) (d : ℕ) : Type 0
   pub room : c .words < n → c .at + d ≤ 36 * c .words
 
 -- before the first bit of n words
-abbrev pub startOf : ℕ → Cursor
-startOf n = record { at = 0; ahead = 0; words = 0; edge = edgeOf n 0 }
+abbrev pub startCursor : ℕ → Cursor
+startCursor n = record { at = 0; ahead = 0; words = 0; edge = edgeOf n 0 }
 
 -- the indicator that comes next, of a field that holds f: bit 63 tells a change, bits 62-60 are the type, bits 59-51 the nine more
 unfoldable pub lookOf : ℕ → ℕ → Indicator

@@ -5,7 +5,7 @@ ghost use Prim.Native.Nat.{_+_, _-_, _*_, _<_, _≤_, _^_};
 ghost use lib.ListN.{length};
 ghost use Rattle.word.specs.Lists.{range};
 ghost use Rattle.indicator.specs.Indicator.{InBlock, bitsBefore, widthOf, afterAll, justEnough};
-ghost use Rattle.indicator.specs.HowCursor.{never, Sees, edgeOf, startOf, lookOf, pastOf, pastField, pastWord, refilled};
+ghost use Rattle.indicator.specs.HowCursor.{never, Sees, edgeOf, startCursor, lookOf, pastOf, pastField, pastWord, refilled};
 ghost use Rattle.indicator.specs.HowCursor.{plainWords, pastPlain, turnOf};
 use word::Half;
 use word::WORD_BITS;
@@ -46,7 +46,7 @@ struct Turn {
 // Before the first bit of n words.
 pub fn start(n: usize) -> Cursor
     requires { ⌜ 36 * n < 2 ^ 64 ⌝ }
-    ensures { λ r. ⌜ r ≡ startOf n ⌝ }
+    ensures { λ r. ⌜ r ≡ startCursor n ⌝ }
 {
     Cursor {
         at: 0,

@@ -45,7 +45,7 @@ finished block c =
       channels = c .channels;
       units = c .units;
       tables = c .tables;
-      «no_longer_tables» = isSet 35 (getD block 3 0);
+      exact = isSet 35 (getD block 3 0);
       sections = bits 15 0 (getD block 253 0);
     }))
     (Bad (fault 15)))

@@ -57,7 +57,7 @@ pub struct Label {
     pub channels: u64,
     pub units: u64,
     pub tables: u64,
-    pub no_longer_tables: bool,
+    pub exact: bool,
     pub sections: u64,
 }
 
@@ -195,7 +195,7 @@ fn finish(block: &[u64], c: Counts) -> LabelRead
         channels: c.channels,
         units: c.units,
         tables: c.tables,
-        no_longer_tables: word::is_set(w, 35),
+        exact: word::is_set(w, 35),
         sections: word::bits(p, 15, 0),
     })
 }

@@ -8,8 +8,8 @@ use lib.ListN.{length, take, drop}
 use Rattle.word.specs.declared.Area.{Area}
 use Rattle.word.specs.Lists.{range, splice}
 use Rattle.word.proofs.Lists.{length-splice, length-range, range-splice-same, range-splice-before, range-splice-inner, splice-lent}
-use Rattle.lists.specs.Keep.{numbersKept, wordsKept, ranksKept}
-use Rattle.lists.specs.Kept.{numbersIn, tablesIn}
+use Rattle.lists.specs.HowKeep.{numbersKept, wordsKept, ranksKept}
+use Rattle.lists.specs.HowKept.{numbersIn, tablesIn}
 use Rattle.lists.specs.Obey.{tablesOf, listsObey}
 use Rattle.lists.specs.Load.{Load, loadOf, givenBy, keptLists, iosIn, wordsIn, ranksIn, coreTables, ioNumbers, ioWords, wordsPlace, ranksPlace, listWords, ReadsBack, Keepable}
 use Rattle.lists.proofs.Keep.{lists-obey, numbers-copied-back, tables-copied-back}

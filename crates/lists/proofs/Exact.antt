@@ -15,10 +15,10 @@ use Rattle.word.proofs.Cases.{by-eq, and-both, and-left, and-right}
 use Rattle.word.proofs.Every.{every-then}
 use Rattle.word.proofs.Says.{says-lt, says-le, says-and}
 use Rattle.lists.specs.declared.Table.{Table}
-use Rattle.lists.specs.Kept.{addressIn, lengthIn, tableNumberIn, tableOf}
-use Rattle.lists.specs.Chain.{chainFrom, chain}
+use Rattle.lists.specs.HowKept.{addressIn, lengthIn, tableNumberIn, tableOf}
+use Rattle.lists.specs.HowChain.{chainFrom, chain}
 use Rattle.lists.specs.Obey.{tableInside, tablesApart}
-use Rattle.lists.specs.Keep.{wordOf, hasRoom, wordsFrom, wordsKept}
+use Rattle.lists.specs.HowKeep.{keptWord, hasRoom, wordsFrom, wordsKept}
 use Rattle.sorting.specs.Sorted.{sorted}
 use Rattle.lists.proofs.Obey.{says-inside, first-empty, second-empty, first-before, apart-before, apart-sym}
 use Rattle.sorting.proofs.Rising.{every-sorted, two-sorted, sorted-rising, rising-sorted}
@@ -96,16 +96,16 @@ unfolding hasRoom
 says-room t = says-and (says-lt _ _) (says-lt _ _)
 
 module _ (k : ℕ) (t : Table) (few : k < 2 ^ 20) (room : hasRoom t ≡ true) where
-  pub word-address : addressIn (wordOf k t) ≡ t .at .0
+  pub word-address : addressIn (keptWord k t) ≡ t .at .0
   word-address = let r = says-room t .fact room in omega arith
 
-  pub word-length : lengthIn (wordOf k t) ≡ t .len
+  pub word-length : lengthIn (keptWord k t) ≡ t .len
   word-length = let r = says-room t .fact room in omega arith
 
-  pub word-number : tableNumberIn (wordOf k t) ≡ k
+  pub word-number : tableNumberIn (keptWord k t) ≡ k
   word-number = let r = says-room t .fact room in omega arith
 
-  pub word-table : tableOf (wordOf k t) ≡ t
+  pub word-table : tableOf (keptWord k t) ≡ t
   unfolding tableOf
   word-table = rw (word-address, word-length)
 
@@ -125,10 +125,10 @@ module _ (area : Area) where
       by-eq (t .len) 0
       (λ z. rw (eq-eqb (t .len) 0 z) rest)
       (λ z. rw (ne-eqb (t .len) 0 z)
-      (and-both _ _ (says-lies (area .at .0) (area .at .0 + area .size) (wordOf k t) .test ((omega arith, omega arith), (omega arith, omega arith))) rest))
+      (and-both _ _ (says-lies (area .at .0) (area .at .0 + area .size) (keptWord k t) .test ((omega arith, omega arith), (omega arith, omega arith))) rest))
 
 clear-words : (j k : ℕ) (t : Table) (ts : List Table) → j < 2 ^ 20 → hasRoom t ≡ true → k + length ts ≤ 2 ^ 20 → every hasRoom ts ≡ true
-    → every (clear (wordOf j t)) (wordsFrom k ts) ≡ every (tablesApart t) ts
+    → every (clear (keptWord j t)) (wordsFrom k ts) ≡ every (tablesApart t) ts
 unfolding wordsFrom every clear
 clear-words j k t [] m s n r = refl
 clear-words j k t (u ∷ ts) m s n r =

@@ -11,10 +11,10 @@ use Rattle.word.specs.declared.Area.{Area}
 use Rattle.word.specs.Limits.{ioMost, tablesMost}
 use Rattle.word.specs.Lists.{every, everyTwo, splice}
 use Rattle.word.proofs.Cases.{and-left, and-right}
-use Rattle.lists.specs.Kept.{numbersIn, tablesIn}
-use Rattle.lists.specs.Chain.{chain}
+use Rattle.lists.specs.HowKept.{numbersIn, tablesIn}
+use Rattle.lists.specs.HowChain.{chain}
 use Rattle.lists.specs.Obey.{tablesOf, tableInside, tablesApart, tablesObey, isIoNumber, listsObey}
-use Rattle.lists.specs.Keep.{numbersKept, wordsKept, ranksKept, Ranking}
+use Rattle.lists.specs.HowKeep.{numbersKept, wordsKept, ranksKept, Ranking}
 use Rattle.lists.proofs.Lent.{lent-length}
 use Rattle.lists.proofs.Exact.{all-room, order-exact}
 use Rattle.lists.proofs.Numbers.{numbers-back}

@@ -13,9 +13,9 @@ use Rattle.word.specs.Lists.{every, tab, splice}
 use Rattle.word.proofs.Cases.{by-eq}
 use Rattle.word.proofs.Every.{every-place}
 use Rattle.word.proofs.Lists.{length-tab, getD-tab, getD-range, range-splice-same}
-use Rattle.lists.specs.Kept.{numberIn, numbersIn}
+use Rattle.lists.specs.HowKept.{numberIn, numbersIn}
 use Rattle.lists.specs.Obey.{isIoNumber}
-use Rattle.lists.specs.Keep.{fourFrom, foursKept, numbersKept}
+use Rattle.lists.specs.HowKeep.{fourFrom, foursKept, numbersKept}
 use Rattle.lists.proofs.Kept.{numbers-length, numbers-at}
 
 -- one more number after those at the start of a stretch

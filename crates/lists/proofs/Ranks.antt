@@ -19,11 +19,11 @@ use Rattle.word.proofs.Every.{every-place, every-then}
 use Rattle.word.proofs.Lists.{length-splice, getD-splice-out}
 use Rattle.word.proofs.Says.{says-eq, says-lt, says-le, says-and, says-within}
 use Rattle.lists.specs.declared.Table.{Table}
-use Rattle.lists.specs.Kept.{tableNumberIn, tableOf, rankIn, awayIn, emptyIn, tableBy, tableAt, tablesIn}
+use Rattle.lists.specs.HowKept.{tableNumberIn, tableOf, rankIn, awayIn, emptyIn, tableBy, tableAt, tablesIn}
 use Rattle.lists.specs.Obey.{noTable, tableInside}
-use Rattle.lists.specs.Keep.{wordOf, hasRoom, wordsFrom, wordsKept, awayRank, ranked, ranksKept, Ranking}
+use Rattle.lists.specs.HowKeep.{keptWord, hasRoom, wordsFrom, wordsKept, awayRank, ranked, ranksKept, Ranking}
 use Rattle.sorting.specs.Sorted.{sorted}
-use Rattle.lists.specs.Taking.{numberBelow}
+use Rattle.lists.specs.HowTaking.{numberBelow}
 use Rattle.lists.proofs.Kept.{tables-length, tables-at}
 use Rattle.lists.proofs.Obey.{says-inside}
 use Rattle.sorting.proofs.Rising.{length-sorted, every-sorted}
@@ -81,11 +81,11 @@ ranked-at p (w ∷ ws) rs k h =
 unfoldable wordIn : ℕ → List Table → ℕ → Bool
 wordIn k ts w =
     leb k (tableNumberIn w)
-    && (eqb w (wordOf (tableNumberIn w) (getD ts (tableNumberIn w - k) noTable)) && ltb 0 (getD ts (tableNumberIn w - k) noTable .len))
+    && (eqb w (keptWord (tableNumberIn w) (getD ts (tableNumberIn w - k) noTable)) && ltb 0 (getD ts (tableNumberIn w - k) noTable .len))
 
 says-word : (k : ℕ) (ts : List Table) (w : ℕ)
     → Says (wordIn k ts w)
-    ((k ≤ tableNumberIn w) × ((w ≡ wordOf (tableNumberIn w) (getD ts (tableNumberIn w - k) noTable)) × (0 < getD ts (tableNumberIn w - k) noTable .len)))
+    ((k ≤ tableNumberIn w) × ((w ≡ keptWord (tableNumberIn w) (getD ts (tableNumberIn w - k) noTable)) × (0 < getD ts (tableNumberIn w - k) noTable .len)))
 unfolding wordIn
 says-word k ts w = says-and (says-le _ _) (says-and (says-eq _ _) (says-lt _ _))
 
@@ -106,7 +106,7 @@ words-in k (t ∷ ts) n q =
     by-eq (t .len) 0
     (λ y. rw (eq-eqb (t .len) 0 y) r)
     (λ y. rw (ne-eqb (t .len) 0 y)
-    (and-both _ _ (says-word k (t ∷ ts) (wordOf k t) .test (rw e (omega arith), (rw (e, z) refl, rw (e, z) (omega arith)))) r))
+    (and-both _ _ (says-word k (t ∷ ts) (keptWord k t) .test (rw e (omega arith), (rw (e, z) refl, rw (e, z) (omega arith)))) r))
 
 -- and a table that is not empty has its word
 has-word : (k : ℕ) (ts : List Table) (i : ℕ) → k + length ts ≤ 2 ^ 20 → every hasRoom ts ≡ true → i < length ts → 0 < getD ts i noTable .len
@@ -116,14 +116,14 @@ has-word k [] i n q h l a = omega arith
 has-word k (t ∷ ts) zero n q h l a =
     let e = word-number k t (omega arith) (and-left (hasRoom t) _ q) in
     let b = rw (ne-eqb (t .len) 0 (λ z. omega arith)) at a in
-    let d = and-left (notOf (k + 0) (wordOf k t)) _ b in
+    let d = and-left (notOf (k + 0) (keptWord k t)) _ b in
     false≢true (sym (rw (e, add-zero, eq-eqb k k refl)) ∙ d)
 has-word k (t ∷ ts) (suc i) n q h l a =
     let e : k + suc i ≡ suc k + i = omega arith in
     has-word (suc k) ts i (omega arith) (and-right (hasRoom t) _ q) (omega arith) l
     (rw e at (by-eq (t .len) 0
     (λ z. rw (eq-eqb (t .len) 0 z) at a)
-    (λ z. and-right (notOf (k + suc i) (wordOf k t)) _ (rw (ne-eqb (t .len) 0 z) at a))))
+    (λ z. and-right (notOf (k + suc i) (keptWord k t)) _ (rw (ne-eqb (t .len) 0 z) at a))))
 
 -- the number of every kept word is that of a table
 numbers-below : (k : ℕ) (ts : List Table) → k + length ts ≤ 2 ^ 20 → every hasRoom ts ≡ true → every (numberBelow (k + length ts)) (wordsFrom k ts) ≡ true
@@ -135,7 +135,7 @@ numbers-below k (t ∷ ts) n q =
     let e = word-number k t (omega arith) (and-left (hasRoom t) _ q) in
     by-eq (t .len) 0
     (λ y. rw (eq-eqb (t .len) 0 y) r)
-    (λ y. rw (ne-eqb (t .len) 0 y) (and-both (numberBelow (k + suc (length ts)) (wordOf k t)) _ (rw e (lt-ltb k (k + suc (length ts)) (omega arith))) r))
+    (λ y. rw (ne-eqb (t .len) 0 y) (and-both (numberBelow (k + suc (length ts)) (keptWord k t)) _ (rw e (lt-ltb k (k + suc (length ts)) (omega arith))) r))
 
 pub words-numbered : (ts : List Table) → length ts ≤ 2 ^ 20 → every hasRoom ts ≡ true → every (numberBelow (length ts)) (wordsKept ts) ≡ true
 unfolding wordsKept

@@ -15,8 +15,8 @@ use Rattle.word.proofs.Cases.{by-test, by-lt, when, and-both, and-left, and-rig
 use Rattle.word.proofs.Every.{every-by, two-by}
 use Rattle.word.proofs.Says.{says-within}
 use Rattle.lists.specs.declared.Table.{Table}
-use Rattle.lists.specs.Kept.{addressIn, lengthIn, tableNumberIn, tableOf, rankIn, awayIn, emptyIn, tableBy, tableAt, tablesIn}
-use Rattle.lists.specs.Chain.{chainFrom, chain}
+use Rattle.lists.specs.HowKept.{addressIn, lengthIn, tableNumberIn, tableOf, rankIn, awayIn, emptyIn, tableBy, tableAt, tablesIn}
+use Rattle.lists.specs.HowChain.{chainFrom, chain}
 use Rattle.lists.specs.Obey.{tableInside, tablesApart, tablesObey}
 use Rattle.lists.proofs.Kept.{tables-length, tables-at}
 use Rattle.lists.proofs.Obey.{says-inside, first-empty, second-empty, first-before, apart-sym}

@@ -1,6 +1,6 @@
-pub mod Kept
-pub mod Chain
+pub mod HowKept
+pub mod HowChain
 pub mod Obey
-pub mod Keep
+pub mod HowKeep
 pub mod Load
-pub mod Taking
+pub mod HowTaking

@@ -10,9 +10,9 @@ use Rattle.word.specs.Limits.{ioMost, tablesMost}
 use Rattle.word.specs.Lists.{range, splice}
 use Rattle.lists.specs.declared.Given.{Given}
 use Rattle.lists.specs.declared.Table.{Table}
-use Rattle.lists.specs.Keep.{numbersKept, wordsKept, ranksKept}
+use Rattle.lists.specs.HowKeep.{numbersKept, wordsKept, ranksKept}
 use Rattle.lists.specs.Obey.{tablesOf, listsObey}
-use Rattle.lists.specs.Kept.{numbersIn, tableAt, tablesIn}
+use Rattle.lists.specs.HowKept.{numbersIn, tableAt, tablesIn}
 
 -- what a load was given: its area, its core tables, and the number of each of its I/O references
 pub record Load : Type 0 where

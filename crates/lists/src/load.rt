@@ -1,7 +1,7 @@
 // The lists of a load, in the one slice that the desk keeps of them, read: what stands where says specs/Load.antt.
 ghost use mathlib.Core.Path.{_≡_};
 ghost use lib.ListN.{getD};
-ghost use Rattle.lists.specs.Chain.{chain};
+ghost use Rattle.lists.specs.HowChain.{chain};
 ghost use Rattle.lists.specs.Load.{wordsIn, coreTable, ioNumbers, keptLists, Readable, Keepable};
 use crate::Given;
 use crate::Table;

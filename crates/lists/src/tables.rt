@@ -4,9 +4,9 @@ ghost use mathlib.Core.Bool.{true};
 ghost use Prim.Native.Nat.{_/_, _<_};
 ghost use lib.ListN.{length, getD};
 ghost use Rattle.word.specs.Lists.{every};
-ghost use Rattle.lists.specs.Keep.{hasRoom, hasWords};
+ghost use Rattle.lists.specs.HowKeep.{hasRoom, hasWords};
 ghost use Rattle.lists.specs.Obey.{tablesOf, noTable};
-ghost use Rattle.lists.specs.Taking.{Fillable, Fills};
+ghost use Rattle.lists.specs.HowTaking.{Fillable, FillsWords};
 use crate::ADDRESS;
 use crate::NUMBER;
 use crate::Table;
@@ -27,7 +27,7 @@ pub fn lent_table(tables: &[u64], k: usize) -> Table
 // The words of the tables that are not empty, in the order of the tables, to the start of words; says how many they are.
 pub fn fill_words(tables: &[u64], words: &mut [u64]) -> usize
     requires { ⌜ Fillable (tablesOf (now tables)) (now words) ⌝ }
-    ensures { λ n. ⌜ Fills (tablesOf (now (tables .entry))) (now (words .entry)) n (now (words .exit)) ⌝ }
+    ensures { λ n. ⌜ FillsWords (tablesOf (now (tables .entry))) (now (words .entry)) n (now (words .exit)) ⌝ }
 {
     if none_empty(tables) {
         return fill_all(tables, words);
@@ -54,7 +54,7 @@ fn none_empty(tables: &[u64]) -> bool
 // The words of the tables where none is empty: each stands at its table's number.
 fn fill_all(tables: &[u64], words: &mut [u64]) -> usize
     requires { ⌜ Fillable (tablesOf (now tables)) (now words) × (every hasWords (tablesOf (now tables)) ≡ true) ⌝ }
-    ensures { λ n. ⌜ Fills (tablesOf (now (tables .entry))) (now (words .entry)) n (now (words .exit)) ⌝ }
+    ensures { λ n. ⌜ FillsWords (tablesOf (now (tables .entry))) (now (words .entry)) n (now (words .exit)) ⌝ }
 {
     let mut k: usize = 0;
     while k < tables.len() / 2 {
@@ -68,7 +68,7 @@ fn fill_all(tables: &[u64], words: &mut [u64]) -> usize
 // The words of the tables that are not empty, whichever these are.
 fn fill_some(tables: &[u64], words: &mut [u64]) -> usize
     requires { ⌜ Fillable (tablesOf (now tables)) (now words) ⌝ }
-    ensures { λ n. ⌜ Fills (tablesOf (now (tables .entry))) (now (words .entry)) n (now (words .exit)) ⌝ }
+    ensures { λ n. ⌜ FillsWords (tablesOf (now (tables .entry))) (now (words .entry)) n (now (words .exit)) ⌝ }
 {
     let mut k: usize = 0;
     let mut n: usize = 0;

@@ -8,7 +8,7 @@ use lib.ListN.{length, take, drop}
 use borrow.Author.Tests.{le-leb, lt-leb}
 use Rattle.word.specs.Lists.{every}
 use Rattle.word.proofs.Lists.{take-tab, every-more, every-fails, every-ends}
-use Rattle.lists.specs.Kept.{numberIn, numbersIn}
+use Rattle.lists.specs.HowKept.{numberIn, numbersIn}
 use Rattle.lists.proofs.Kept.{numbers-length, numbers-at}
 use Rattle.modification.specs.Assignments.{channelMost, isChannel}
 

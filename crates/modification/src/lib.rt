@@ -3,7 +3,7 @@
 ghost use mathlib.Core.Path.{_≡_};
 ghost use Prim.Native.Nat.{_≤_, _^_};
 ghost use Rattle.word.specs.Lists.{every};
-ghost use Rattle.lists.specs.Kept.{numbersIn};
+ghost use Rattle.lists.specs.HowKept.{numbersIn};
 ghost use Rattle.lists.specs.Load.{ioNumbers, Readable};
 ghost use Rattle.label.specs.Label.{Carried};
 ghost use Rattle.modification.specs.Entries.{entryWords, entryBlocks, lengthSpot, minimum, lengthFits};
@@ -89,10 +89,10 @@ pub fn minimum_length(w: u64) -> u64
 }
 
 // Whether an assigned length agrees with the minimum: where it does not, the refusal is 16.
-pub fn length_fits(no_longer_tables: bool, least: u64, len: u64) -> bool
-    ensures { λ r. ⌜ r ≡ lengthFits «no_longer_tables» least len ⌝ }
+pub fn length_fits(exact: bool, least: u64, len: u64) -> bool
+    ensures { λ r. ⌜ r ≡ lengthFits exact least len ⌝ }
 {
-    if no_longer_tables {
+    if exact {
         return len == least;
     }
     least <= len

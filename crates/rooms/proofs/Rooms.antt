@@ -12,7 +12,7 @@ use Rattle.word.specs.Runs.{Says}
 use Rattle.word.proofs.Cases.{by-test, by-eq, by-lt}
 use Rattle.word.proofs.Says.{says-le, says-and, says-as, says-every}
 use Rattle.word.specs.Limits.{roomCount, placeCount}
-use Rattle.rooms.specs.Rooms.{mostHeld, hit, count, free, held, heldEach, idle, atMost, fair, Fair, fresh, lowestFree, placeRefusal}
+use Rattle.rooms.specs.Rooms.{mostHeld, hit, count, free, held, heldEach, idle, atMost, fair, Fair, allFree, lowestFree, placeRefusal}
 use Rattle.rooms.proofs.Count.{hit-yes, hit-no, hit-most, count-set, count-some, count-three, tab-set, each-length, each-at, lowest-inside, lowest-is-free}
 
 -- ---- the test and the facts
@@ -42,9 +42,9 @@ pub no-third : (l : List ℕ) (r i j k : ℕ) → Fair l → r < roomCount → i
 unfolding held
 no-third l r i j k f h o u in-k p q s = omega (arith, f .two r h, count-three (r + 1) l i j k o u (omega (arith, f .twelve)) p q s)
 
-pub fresh-fair : Fair fresh
+pub fresh-fair : Fair allFree
 unfolding fair every atMost heldEach tab held idle free count hit
-fresh-fair = fair-says fresh refl .fact refl
+fresh-fair = fair-says allFree refl .fact refl
 
 -- ---- what a place that changes hands does to the counts
 module _ (l : List ℕ) (p b : ℕ) (h : p < length l) where

@@ -57,8 +57,8 @@ heldPlaces p [] = []
 heldPlaces p (a ∷ l) = cond (eqb a 0) (heldPlaces (p + 1) l) (p ∷ heldPlaces (p + 1) l)
 
 -- the holders of a fresh desk
-abbrev pub fresh : List ℕ
-fresh = replicate placeCount 0
+abbrev pub allFree : List ℕ
+allFree = replicate placeCount 0
 
 -- "the lowest free place"; the length where none is free
 unfoldable pub lowestFree : List ℕ → ℕ

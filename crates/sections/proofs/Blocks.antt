@@ -15,7 +15,7 @@ use Rattle.word.proofs.Stretch.{Beside}
 use Rattle.group.proofs.Acts.{Alike, group-same, group-alike}
 use Rattle.group.proofs.Faults.{Among}
 use Rattle.group.proofs.Group.{group-area, group-words}
-use Rattle.stage.specs.declared.Course.{Course}
+use Rattle.stage.specs.declared.LabelCounts.{LabelCounts}
 use Rattle.stage.specs.declared.Due.{Due}
 use Rattle.stage.specs.declared.Stage.{Stage}
 use Rattle.stage.specs.declared.Stage.the-variants.{Program}
@@ -24,7 +24,7 @@ use Rattle.stage.specs.declared.Step.the-variants.{More, Done, Refused}
 use Rattle.sections.specs.declared.Item.{Item}
 use Rattle.sections.specs.declared.Item.the-variants.{Go, Stop}
 use Rattle.lists.specs.Load.{Load}
-use Rattle.sections.specs.Load.{assignments}
+use Rattle.sections.specs.Waits.{assignments}
 use Rattle.sections.specs.Program.{afterGroup, itemStep, ItemOutcome, StepOutcome, StepMeets, closes, followed, programFrom, programStep}
 use Rattle.sections.proofs.Ranges.{Fits}
 use Rattle.sections.proofs.Leads.{Told, Leads, item-leads}
@@ -42,12 +42,12 @@ module _ (x : Load) (block : List ℕ) where
   told-through s t (Done a) h k = k
   told-through s t (Refused f) h k = k
 
-  follow-told : (s : Stage) (i : ℕ) (it : Item) (core : List ℕ) (next : Course → Due → ℕ → List ℕ → StepOutcome) → Leads x s i it
-      → ((d : Course) (t : Due) (p : ℕ) → Told x (Program d t) (next d t p core .step)) → Told x s (followed it core next .step)
+  follow-told : (s : Stage) (i : ℕ) (it : Item) (core : List ℕ) (next : LabelCounts → Due → ℕ → List ℕ → StepOutcome) → Leads x s i it
+      → ((d : LabelCounts) (t : Due) (p : ℕ) → Told x (Program d t) (next d t p core .step)) → Told x s (followed it core next .step)
   follow-told s i (Go d t p) core next l h = told-through s (Program d t) (next d t p core .step) (l .2) (h d t p)
   follow-told s i (Stop r) core next l h = l
 
-  from-told : (n : ℕ) (c : Course) (due : Due) (i : ℕ) (core : List ℕ) → Told x (Program c due) (programFrom n x c due block i core .step)
+  from-told : (n : ℕ) (c : LabelCounts) (due : Due) (i : ℕ) (core : List ℕ) → Told x (Program c due) (programFrom n x c due block i core .step)
   unfolding programFrom
   from-told zero c due i core = λ f. f
   from-told (suc n) c due i core = by-test (closes block i)
@@ -57,7 +57,7 @@ module _ (x : Load) (block : List ℕ) where
       (item-leads x c due block i core (open-place x block i q))
       (λ d t p. from-told n d t p (itemStep x c due block i core .core))))
 
-  module _ (c : Course) (due : Due) (core : List ℕ) where
+  module _ (c : LabelCounts) (due : Due) (core : List ℕ) where
     program-told : Told x (Program c due) (programStep x c due block core .step)
     unfolding programStep
     program-told = from-told 254 c due 1 core
@@ -75,13 +75,13 @@ module _ (x : Load) (block : List ℕ) where
 module _ (x : Load) (block : List ℕ) where
   -- what each item keeps, the block keeps
   module _ (P : List ℕ → List ℕ → Type 0) (same : (core : List ℕ) → P core core) (both : (a b c : List ℕ) → P a b → P b c → P a c)
-      (item : (c : Course) (due : Due) (i : ℕ) (core : List ℕ) → Stands x (Program c due) core → P core (itemStep x c due block i core .core)) where
-    follow-keeps : (core : List ℕ) (it : Item) (after : List ℕ) (next : Course → Due → ℕ → List ℕ → StepOutcome) → P core after
-        → ((d : Course) (t : Due) (p : ℕ) → it ≡ Go d t p → P after (next d t p after .core)) → P core (followed it after next .core)
+      (item : (c : LabelCounts) (due : Due) (i : ℕ) (core : List ℕ) → Stands x (Program c due) core → P core (itemStep x c due block i core .core)) where
+    follow-keeps : (core : List ℕ) (it : Item) (after : List ℕ) (next : LabelCounts → Due → ℕ → List ℕ → StepOutcome) → P core after
+        → ((d : LabelCounts) (t : Due) (p : ℕ) → it ≡ Go d t p → P after (next d t p after .core)) → P core (followed it after next .core)
     follow-keeps core (Go d t p) after next h k = both core after (next d t p after .core) h (k d t p refl)
     follow-keeps core (Stop r) after next h k = h
 
-    from-keeps : (n : ℕ) (c : Course) (due : Due) (i : ℕ) (core : List ℕ) → Stands x (Program c due) core → P core (programFrom n x c due block i core .core)
+    from-keeps : (n : ℕ) (c : LabelCounts) (due : Due) (i : ℕ) (core : List ℕ) → Stands x (Program c due) core → P core (programFrom n x c due block i core .core)
     unfolding programFrom
     from-keeps zero c due i core w = same core
     from-keeps (suc n) c due i core w = by-test (closes block i)
@@ -90,22 +90,22 @@ module _ (x : Load) (block : List ℕ) where
         (follow-keeps core (itemStep x c due block i core .item) (itemStep x c due block i core .core) _ (item c due i core w)
         (λ d t p e. from-keeps n d t p (itemStep x c due block i core .core) (item-stands x block c due i core d t p e (open-place x block i q) w))))
 
-    program-keeps : (c : Course) (due : Due) (core : List ℕ) → Stands x (Program c due) core → P core (programStep x c due block core .core)
+    program-keeps : (c : LabelCounts) (due : Due) (core : List ℕ) → Stands x (Program c due) core → P core (programStep x c due block core .core)
     unfolding programStep
     program-keeps c due core w = from-keeps 254 c due 1 core w
 
-  pub program-length : (c : Course) (due : Due) (core : List ℕ) → Stands x (Program c due) core → length (programStep x c due block core .core) ≡ length core
+  pub program-length : (c : LabelCounts) (due : Due) (core : List ℕ) → Stands x (Program c due) core → length (programStep x c due block core .core) ≡ length core
   program-length = program-keeps (λ (a b : List ℕ). length b ≡ length a) (λ core. refl) (λ a b c h k. k ∙ h) (item-length x block)
 
   -- no word outside the area changes
-  pub program-area : (j : ℕ) → Beside j (x .area .at .0) (x .area .size) → (c : Course) (due : Due) (core : List ℕ) → Stands x (Program c due) core
+  pub program-area : (j : ℕ) → Beside j (x .area .at .0) (x .area .size) → (c : LabelCounts) (due : Due) (core : List ℕ) → Stands x (Program c due) core
       → getD (programStep x c due block core .core) j 0 ≡ getD core j 0
   program-area j o = program-keeps (λ (a b : List ℕ). getD b j 0 ≡ getD a j 0) (λ core. refl) (λ a b c h k. k ∙ h)
       (λ c due i core w. item-cases x block i (λ (f : List ℕ → ItemOutcome). getD (f core .core) j 0 ≡ getD core j 0) (λ it. refl) c
       (λ same least ibank section room. group-area (assignments x c) section block i core room (w .inside) j o) due (w .tables) (w .stage))
 
   -- a core of words below 2^36 stays one
-  pub program-words : every isWord block ≡ true → (c : Course) (due : Due) (core : List ℕ) → Stands x (Program c due) core → every isWord core ≡ true
+  pub program-words : every isWord block ≡ true → (c : LabelCounts) (due : Due) (core : List ℕ) → Stands x (Program c due) core → every isWord core ≡ true
       → every isWord (programStep x c due block core .core) ≡ true
   program-words words = program-keeps (λ (a b : List ℕ). every isWord a ≡ true → every isWord b ≡ true) (λ core h. h) (λ a b c h k m. k (h m))
       (λ c due i core w h. item-cases x block i (λ (f : List ℕ → ItemOutcome). every isWord (f core .core) ≡ true) (λ it. h) c
@@ -113,7 +113,7 @@ module _ (x : Load) (block : List ℕ) where
 
 -- ---- two cores that a load could have
 module _ (x : Load) (block : List ℕ) where
-  item-same : (c : Course) (due : Due) (i : ℕ) (core core′ : List ℕ) → Stands x (Program c due) core
+  item-same : (c : LabelCounts) (due : Due) (i : ℕ) (core core′ : List ℕ) → Stands x (Program c due) core
       → itemStep x c due block i core .item ≡ itemStep x c due block i core′ .item
   item-same c due i core core′ w =
       item-cases x block i (λ (f : List ℕ → ItemOutcome). f core .item ≡ f core′ .item) (λ it. refl) c
@@ -121,17 +121,17 @@ module _ (x : Load) (block : List ℕ) where
 
   -- what each item keeps of two cores, the block keeps; and it answers the same of both
   module _ (P : List ℕ → List ℕ → Type 0)
-      (item : (c : Course) (due : Due) (i : ℕ) (core core′ : List ℕ) → Stands x (Program c due) core → Stands x (Program c due) core′ → P core core′
+      (item : (c : LabelCounts) (due : Due) (i : ℕ) (core core′ : List ℕ) → Stands x (Program c due) core → Stands x (Program c due) core′ → P core core′
       → P (itemStep x c due block i core .core) (itemStep x c due block i core′ .core)) where
     abbrev Same : StepOutcome → StepOutcome → Type 0
     Same o o′ = (o .step ≡ o′ .step) × P (o .core) (o′ .core)
 
-    follow-both : (it it′ : Item) (core core′ : List ℕ) (next : Course → Due → ℕ → List ℕ → StepOutcome) → it ≡ it′ → P core core′
-        → ((d : Course) (t : Due) (p : ℕ) → it ≡ Go d t p → Same (next d t p core) (next d t p core′)) → Same (followed it core next) (followed it′ core′ next)
+    follow-both : (it it′ : Item) (core core′ : List ℕ) (next : LabelCounts → Due → ℕ → List ℕ → StepOutcome) → it ≡ it′ → P core core′
+        → ((d : LabelCounts) (t : Due) (p : ℕ) → it ≡ Go d t p → Same (next d t p core) (next d t p core′)) → Same (followed it core next) (followed it′ core′ next)
     follow-both (Go d t p) it′ core core′ next e h k = rw (← e) (k d t p refl)
     follow-both (Stop r) it′ core core′ next e h k = rw (← e) (refl, h)
 
-    from-both : (n : ℕ) (c : Course) (due : Due) (i : ℕ) (core core′ : List ℕ) → Stands x (Program c due) core → Stands x (Program c due) core′ → P core core′
+    from-both : (n : ℕ) (c : LabelCounts) (due : Due) (i : ℕ) (core core′ : List ℕ) → Stands x (Program c due) core → Stands x (Program c due) core′ → P core core′
         → Same (programFrom n x c due block i core) (programFrom n x c due block i core′)
     unfolding programFrom
     from-both zero c due i core core′ w w′ h = (refl, h)
@@ -145,12 +145,12 @@ module _ (x : Load) (block : List ℕ) where
         (λ d t p g. from-both n d t p (itemStep x c due block i core .core) (itemStep x c due block i core′ .core)
         (item-stands x block c due i core d t p g l w) (item-stands x block c due i core′ d t p (sym e ∙ g) l w′) (item c due i core core′ w w′ h))))
 
-    program-both : (c : Course) (due : Due) (core core′ : List ℕ) → Stands x (Program c due) core → Stands x (Program c due) core′ → P core core′
+    program-both : (c : LabelCounts) (due : Due) (core core′ : List ℕ) → Stands x (Program c due) core → Stands x (Program c due) core′ → P core core′
         → Same (programStep x c due block core) (programStep x c due block core′)
     unfolding programStep
     program-both c due core core′ w w′ h = from-both 254 c due 1 core core′ w w′ h
 
-  module _ (c : Course) (due : Due) (core core′ : List ℕ) (w : Stands x (Program c due) core) (w′ : Stands x (Program c due) core′) where
+  module _ (c : LabelCounts) (due : Due) (core core′ : List ℕ) (w : Stands x (Program c due) core) (w′ : Stands x (Program c due) core′) where
     -- the answer does not hang on the core
     pub program-same : programStep x c due block core .step ≡ programStep x c due block core′ .step
     program-same = program-both (λ (a b : List ℕ). Unit {0}) (λ d t i a b v v′ h. tt) c due core core′ w w′ tt .0

@@ -27,21 +27,21 @@ use Rattle.group.specs.declared.Section.the-variants.{Segment as in-segment}
 use Rattle.group.specs.Group.{groupStep}
 use Rattle.group.proofs.Faults.{Among, ofGroup, group-faults}
 use Rattle.group.proofs.Group as groups
-use Rattle.stage.specs.declared.Course.{Course}
+use Rattle.stage.specs.declared.LabelCounts.{LabelCounts}
 use Rattle.stage.specs.declared.Due.{Due}
 use Rattle.stage.specs.declared.Due.the-variants.{Segment as segment-due, SegmentGroup, Section as section-due, SectionGroup}
 use Rattle.stage.specs.declared.Stage.{Stage}
 use Rattle.stage.specs.declared.Stage.the-variants.{Program}
-use Rattle.stage.specs.Ranges.{courseFits, bankFits, countFits, stageFits}
+use Rattle.stage.specs.Ranges.{labelCountsFit, bankFits, sectionFits, stageFits}
 use Rattle.stage.specs.declared.Step.{Step}
 use Rattle.stage.specs.declared.Step.the-variants.{More, Done, Refused}
 use Rattle.sections.specs.declared.Item.{Item}
 use Rattle.sections.specs.declared.Item.the-variants.{Go, Stop}
 use Rattle.lists.specs.Load.{Load}
-use Rattle.sections.specs.Load.{assignments}
+use Rattle.sections.specs.Waits.{assignments}
 use Rattle.sections.specs.Heads.{banksFit, withSegment, segmentStep, withSection, sectionStep}
 use Rattle.sections.specs.Program.{inSection, afterLast, afterGroup, itemStep}
-use Rattle.sections.proofs.Ranges.{Fits, CourseFits, BankFits, says-first, says-segment, says-section, says-table}
+use Rattle.sections.proofs.Ranges.{Fits, LabelCountsFit, BankFits, says-first, says-segment, says-section, says-table}
 
 -- an answer for a load that waited for s
 abbrev pub Told : Load → Stage → Step → Type 0
@@ -98,7 +98,7 @@ module _ (x : Load) where
       let d = bankFits (x .area) (g .dbank) in
       (and-left i _ q, and-left d _ (and-right i _ q))
 
-  with-segment : (c : Course) (i : ℕ) → i + 3 ≤ 254 → (r : SegmentRead) → ofSegment r
+  with-segment : (c : LabelCounts) (i : ℕ) → i + 3 ≤ 254 → (r : SegmentRead) → ofSegment r
       → Leads x (Program c segment-due) i (withSegment (x .area) (x .tables) c (i + 4) r)
   unfolding withSegment
   with-segment c i h (segment-read g) k =
@@ -107,7 +107,7 @@ module _ (x : Load) where
       (λ q. (omega arith, omega arith))
   with-segment c i h (no-segment f) k = k
 
-  segment-leads : (c : Course) (block : List ℕ) (i : ℕ) → Leads x (Program c segment-due) i (segmentStep (x .area) (x .tables) c block i)
+  segment-leads : (c : LabelCounts) (block : List ℕ) (i : ℕ) → Leads x (Program c segment-due) i (segmentStep (x .area) (x .tables) c block i)
   unfolding segmentStep
   segment-leads c block i =
       when (Leads x (Program c segment-due) i) (leb (i + 3) 254)
@@ -115,30 +115,30 @@ module _ (x : Load) where
       (λ q. (omega arith, omega arith))
 
   -- one section fewer to come is no more
-  fewer-fits : (io tables : ℕ) (c : Course) → courseFits io tables c ≡ true → courseFits io tables (record { near = c .near; sections = c .sections - 1 }) ≡ true
-  unfolding courseFits
+  fewer-fits : (io tables : ℕ) (c : LabelCounts) → labelCountsFit io tables c ≡ true → labelCountsFit io tables (record { channels = c .channels; sections = c .sections - 1 }) ≡ true
+  unfolding labelCountsFit
   fewer-fits io tables c q =
-      let s = says-and (says-le (c .near) io) (says-le (c .sections) tables) .fact q in
-      says-and (says-le (c .near) io) (says-le (c .sections - 1) tables) .test (s .0, omega arith)
+      let s = says-and (says-le (c .channels) io) (says-le (c .sections) tables) .fact q in
+      says-and (says-le (c .channels) io) (says-le (c .sections - 1) tables) .test (s .0, omega arith)
 
-  with-section : (c : Course) (least : Reference) (ibank : Bank) (i : ℕ) → i ≤ 254 → (r : TableSectionRead) → ofSection r
+  with-section : (c : LabelCounts) (least : Reference) (ibank : Bank) (i : ℕ) → i ≤ 254 → (r : TableSectionRead) → ofSection r
       → Leads x (Program c (section-due least ibank)) i (withSection (x .tables) c (least .0) ibank (i + 1) r)
   unfolding withSection
   with-section c least ibank i h (section-read t) k =
       both (Leads x (Program c (section-due least ibank)) i) (leb (least .0) (t .number .0))
-      (when (Leads x (Program c (section-due least ibank)) i) (countFits (x .tables) t)
-      (λ q. (omega arith, omega arith, λ f. let d = says-section x c least ibank .fact f in says-table x (record { near = c .near; sections = c .sections - 1 }) t ibank .test (fewer-fits _ _ c (d .0), (q, d .1))))
+      (when (Leads x (Program c (section-due least ibank)) i) (sectionFits (x .tables) t)
+      (λ q. (omega arith, omega arith, λ f. let d = says-section x c least ibank .fact f in says-table x (record { channels = c .channels; sections = c .sections - 1 }) t ibank .test (fewer-fits _ _ c (d .0), (q, d .1))))
       (λ q. (omega arith, omega arith)))
       (omega arith, omega arith)
   with-section c least ibank i h (no-section f) k = k
 
-  section-leads : (c : Course) (least : Reference) (ibank : Bank) (block : List ℕ) (i : ℕ) → i ≤ 254
+  section-leads : (c : LabelCounts) (least : Reference) (ibank : Bank) (block : List ℕ) (i : ℕ) → i ≤ 254
       → Leads x (Program c (section-due least ibank)) i (sectionStep (x .tables) c (least .0) ibank block i)
   unfolding sectionStep
   section-leads c least ibank block i h = with-section c least ibank i h (tableSectionOf (getD block i 0)) (section-fault (getD block i 0))
 
   -- ---- groups: their section's stage fits, so what the section leaves fits
-  module _ (c : Course) (same : Due) (least i : ℕ) (ibank : Bank) (fits : Fits x (Program c same) → CourseFits x c × BankFits x ibank) where
+  module _ (c : LabelCounts) (same : Due) (least i : ℕ) (ibank : Bank) (fits : Fits x (Program c same) → LabelCountsFit x c × BankFits x ibank) where
     last-leads : (p : ℕ) → i < p → p ≤ 255 → Leads x (Program c same) i (afterLast c least ibank p)
     unfolding afterLast stageFits
     last-leads p h k =
@@ -158,7 +158,7 @@ module _ (x : Load) where
         answer-leads (groupStep (assignments x c) section block i core .answer) (group-faults (assignments x c) section block i core)
         (λ p last q. let e = groups.group-done (assignments x c) section block i core p last q in (e .after, e .most))
 
-  pub item-leads : (c : Course) (due : Due) (block : List ℕ) (i : ℕ) (core : List ℕ) → i ≤ 254 → Leads x (Program c due) i (itemStep x c due block i core .item)
+  pub item-leads : (c : LabelCounts) (due : Due) (block : List ℕ) (i : ℕ) (core : List ℕ) → i ≤ 254 → Leads x (Program c due) i (itemStep x c due block i core .item)
   unfolding itemStep
   item-leads c segment-due block i core h = segment-leads c block i
   item-leads c (SegmentGroup g) block i core h =
@@ -172,7 +172,7 @@ module _ (x : Load) where
       (inSection x t) block core
 
   -- an item that goes on goes to a later place, at most 255, and keeps the stage's numbers in their ranges
-  module _ (c : Course) (due : Due) (block : List ℕ) (i : ℕ) (core : List ℕ) (d : Course) (t : Due) (p : ℕ) (e : itemStep x c due block i core .item ≡ Go d t p)
+  module _ (c : LabelCounts) (due : Due) (block : List ℕ) (i : ℕ) (core : List ℕ) (d : LabelCounts) (t : Due) (p : ℕ) (e : itemStep x c due block i core .item ≡ Go d t p)
       (h : i ≤ 254) where
     leads : Leads x (Program c due) i (Go d t p)
     leads = rw e at (item-leads c due block i core h)

@@ -9,7 +9,7 @@ use Rattle.lists.specs.declared.Given.{Given}
 use Rattle.group.specs.declared.Section.{Section}
 use Rattle.group.specs.declared.Section.the-variants.{Segment as in-segment, Table as in-table}
 use Rattle.group.specs.Group.{Ready, groupStep}
-use Rattle.stage.specs.declared.Course.{Course}
+use Rattle.stage.specs.declared.LabelCounts.{LabelCounts}
 use Rattle.stage.specs.declared.Due.{Due}
 use Rattle.stage.specs.declared.Due.the-variants.{Segment as segment-due, SegmentGroup, Section as section-due, SectionGroup}
 use Rattle.stage.specs.declared.Stage.the-variants.{Program}
@@ -18,12 +18,12 @@ use Rattle.sections.specs.declared.items.Reading.the-variants.{Segment a
 use Rattle.sections.specs.Heads.{segmentStep, sectionStep}
 use Rattle.sections.specs.HowItems.{Numbered, readingOf}
 use Rattle.lists.specs.Load.{loadOf, coreTable, coreTables, Readable}
-use Rattle.sections.specs.Load.{assignments, Waits}
+use Rattle.sections.specs.Waits.{assignments, Waits}
 use Rattle.sections.specs.Program.{grouped, headed, itemStep}
 use Rattle.sections.proofs.Ranges.{segment-ready, table-ready}
 use Rattle.sections.proofs.Turns.{table-number, table-read}
 
-module _ (g : Given) (l : List ℕ) (readable : Readable g l) (block : List ℕ) (i : ℕ) (core : List ℕ) (c : Course) where
+module _ (g : Given) (l : List ℕ) (readable : Readable g l) (block : List ℕ) (i : ℕ) (core : List ℕ) (c : LabelCounts) where
   pub due-numbered : (due : Due) → Waits (loadOf g l) (Program c due) block core → Numbered due
   due-numbered segment-due w = tt
   due-numbered (SegmentGroup s) w = tt

@@ -21,9 +21,9 @@ use Rattle.field.specs.Field.{assignedBy}
 use Rattle.group.specs.declared.GroupStep.{GroupStep}
 use Rattle.group.specs.declared.Section.{Section}
 use Rattle.group.specs.declared.Section.the-variants.{Segment as in-segment}
-use Rattle.group.specs.Group.{Outcome as GroupOutcome, Meets, InArea, groupStep}
+use Rattle.group.specs.Group.{GroupOutcome, GroupMeets, InArea, groupStep}
 use Rattle.group.proofs.Group.{group-length}
-use Rattle.stage.specs.declared.Course.{Course}
+use Rattle.stage.specs.declared.LabelCounts.{LabelCounts}
 use Rattle.stage.specs.declared.Due.{Due}
 use Rattle.stage.specs.declared.Due.the-variants.{Segment as segment-due, SegmentGroup, Section as section-due, SectionGroup}
 use Rattle.stage.specs.declared.Stage.{Stage}
@@ -33,23 +33,23 @@ use Rattle.stage.specs.declared.Step.the-variants.{More}
 use Rattle.sections.specs.declared.Item.{Item}
 use Rattle.sections.specs.declared.Item.the-variants.{Go, Stop}
 use Rattle.lists.specs.Load.{Load, loadOf, coreTable, coreTables, Readable}
-use Rattle.sections.specs.Load.{assignments, Waits}
+use Rattle.sections.specs.Waits.{assignments, Waits}
 use Rattle.sections.specs.Program.{inSection, afterGroup, grouped, headed, itemStep, ItemOutcome, ItemMeets, StepOutcome, StepMeets, closes, followed, programFrom}
 use Rattle.sections.proofs.Ranges.{Fits, segment-room, table-there, table-room}
 use Rattle.sections.proofs.Leads.{item-onward, item-fits}
 
 -- ---- a group: what its fields are changed by is what the code hands over
-pub assigned-same : (g : Given) (l : List ℕ) (c : Course)
-    → assignedBy (record { given = g; channels = c .near }) l ≡ assignments (loadOf g l) c
+pub assigned-same : (g : Given) (l : List ℕ) (c : LabelCounts)
+    → assignedBy (record { given = g; channels = c .channels }) l ≡ assignments (loadOf g l) c
 unfolding assignedBy
 assigned-same g l c = refl
 
-pub group-met : (c : Course) (same : Due) (least : ℕ) (ibank : Bank) (o : GroupOutcome) (r : GroupStep) (core : List ℕ) (it : Item)
-    → Meets o r core → it ≡ afterGroup c same least ibank r → ItemMeets (grouped c same least ibank o) it core
+pub group-met : (c : LabelCounts) (same : Due) (least : ℕ) (ibank : Bank) (o : GroupOutcome) (r : GroupStep) (core : List ℕ) (it : Item)
+    → GroupMeets o r core → it ≡ afterGroup c same least ibank r → ItemMeets (grouped c same least ibank o) it core
 group-met c same least ibank o r core it m e = record { told = e ∙ ap (afterGroup c same least ibank) (m .told); left = m .left }
 
 -- a table section's table is there, so the one that the code reads is it
-module _ (g : Given) (l : List ℕ) (readable : Readable g l) (c : Course) (t : TableSection) (ibank : Bank) (block core : List ℕ)
+module _ (g : Given) (l : List ℕ) (readable : Readable g l) (c : LabelCounts) (t : TableSection) (ibank : Bank) (block core : List ℕ)
     (w : Waits (loadOf g l) (Program c (SectionGroup t ibank)) block core) where
   there : t .number .0 < length (coreTables g l)
   there = table-there (loadOf g l) c t ibank (w .stage) .0
@@ -71,7 +71,7 @@ stands x s block core w = record { inside = w .inside; tables = w .tables; stage
 
 module _ (x : Load) (block : List ℕ) where
   -- ---- an item: it leaves the core as it is, or it is a group whose section has its room in the area
-  module _ (i : ℕ) (P : (List ℕ → ItemOutcome) → Type 0) (none : (it : Item) → P (headed it)) (c : Course)
+  module _ (i : ℕ) (P : (List ℕ → ItemOutcome) → Type 0) (none : (it : Item) → P (headed it)) (c : LabelCounts)
       (group : (same : Due) (least : ℕ) (ibank : Bank) (section : Section) → InArea (x .area) section
       → P (λ core. grouped c same least ibank (groupStep (assignments x c) section block i core))) where
     pub item-cases : (due : Due) → every (tableInside (x .area)) (x .tables) ≡ true → Fits x (Program c due) → P (itemStep x c due block i)
@@ -81,12 +81,12 @@ module _ (x : Load) (block : List ℕ) where
     item-cases (section-due t ibank) e f = none _
     item-cases (SectionGroup t ibank) e f = group (SectionGroup t ibank) (t .number .0 + 1) ibank (inSection x t) (table-room x c t ibank e f)
 
-  pub item-length : (c : Course) (due : Due) (i : ℕ) (core : List ℕ) → Stands x (Program c due) core → length (itemStep x c due block i core .core) ≡ length core
+  pub item-length : (c : LabelCounts) (due : Due) (i : ℕ) (core : List ℕ) → Stands x (Program c due) core → length (itemStep x c due block i core .core) ≡ length core
   item-length c due i core w =
       item-cases i (λ (f : List ℕ → ItemOutcome). length (f core .core) ≡ length core) (λ it. refl) c
       (λ same least ibank section room. group-length (assignments x c) section block i core room (w .inside)) due (w .tables) (w .stage)
 
-  module _ (c : Course) (due : Due) (i : ℕ) (core : List ℕ) (d : Course) (t : Due) (p : ℕ) (e : itemStep x c due block i core .item ≡ Go d t p) (h : i ≤ 254) where
+  module _ (c : LabelCounts) (due : Due) (i : ℕ) (core : List ℕ) (d : LabelCounts) (t : Due) (p : ℕ) (e : itemStep x c due block i core .item ≡ Go d t p) (h : i ≤ 254) where
     pub item-stands : Stands x (Program c due) core → Stands x (Program d t) (itemStep x c due block i core .core)
     item-stands w = record {
       inside = rw (item-length c due i core w) (w .inside);
@@ -108,8 +108,8 @@ module _ (x : Load) (block : List ℕ) where
     }
 
   -- ---- the block
-  follow-same : (it : Item) (core : List ℕ) (f g : Course → Due → ℕ → List ℕ → StepOutcome)
-      → ((d : Course) (t : Due) (p : ℕ) → it ≡ Go d t p → f d t p core ≡ g d t p core) → followed it core f ≡ followed it core g
+  follow-same : (it : Item) (core : List ℕ) (f g : LabelCounts → Due → ℕ → List ℕ → StepOutcome)
+      → ((d : LabelCounts) (t : Due) (p : ℕ) → it ≡ Go d t p → f d t p core ≡ g d t p core) → followed it core f ≡ followed it core g
   follow-same (Go d t p) core f g h = h d t p refl
   follow-same (Stop r) core f g h = refl
 
@@ -121,7 +121,7 @@ module _ (x : Load) (block : List ℕ) where
       neither true b h = h
       neither false b h = refl
 
-  pub from-closed : (n : ℕ) (c : Course) (due : Due) (i : ℕ) (core : List ℕ) → closes block i ≡ true
+  pub from-closed : (n : ℕ) (c : LabelCounts) (due : Due) (i : ℕ) (core : List ℕ) → closes block i ≡ true
       → programFrom n x c due block i core ≡ record { step = More (Program c due); core = core }
   unfolding programFrom
   from-closed zero c due i core q = refl
@@ -131,14 +131,14 @@ module _ (x : Load) (block : List ℕ) where
   unfolding closes
   past i h = rw (le-leb 255 i h)
 
-  pub from-open : (n : ℕ) (c : Course) (due : Due) (i : ℕ) (core : List ℕ) → closes block i ≡ false
+  pub from-open : (n : ℕ) (c : LabelCounts) (due : Due) (i : ℕ) (core : List ℕ) → closes block i ≡ false
       → programFrom (suc n) x c due block i core
       ≡ followed (itemStep x c due block i core .item) (itemStep x c due block i core .core) (λ d t p after. programFrom n x d t block p after)
   unfolding programFrom
   from-open n c due i core q = rw q
 
   -- more turns than there are words left make no difference
-  pub fuel-enough : (n m : ℕ) (c : Course) (due : Due) (i : ℕ) (core : List ℕ) → 255 ≤ n + i → 255 ≤ m + i
+  pub fuel-enough : (n m : ℕ) (c : LabelCounts) (due : Due) (i : ℕ) (core : List ℕ) → 255 ≤ n + i → 255 ≤ m + i
       → programFrom n x c due block i core ≡ programFrom m x c due block i core
   fuel-enough zero m c due i core h k = from-closed 0 c due i core (past i (omega arith)) ∙ sym (from-closed m c due i core (past i (omega arith)))
   fuel-enough (suc n) zero c due i core h k = from-closed (suc n) c due i core (past i (omega arith)) ∙ sym (from-closed 0 c due i core (past i (omega arith)))
@@ -152,7 +152,7 @@ module _ (x : Load) (block : List ℕ) where
       ∙ sym (from-open m c due i core q))
 
   -- ---- the code's loop, where `due` is due at place i: the items from there on decide the outcome o
-  module _ (c : Course) (due : Due) (i : ℕ) (core : List ℕ) (o : StepOutcome) where
+  module _ (c : LabelCounts) (due : Due) (i : ℕ) (core : List ℕ) (o : StepOutcome) where
     pub turn-zero : i < 255 → getD block i 0 ≡ 0 → o ≡ programFrom (255 - i) x c due block i core → StepMeets o (More (Program c due)) core
     unfolding closes
     turn-zero h z q =
@@ -172,7 +172,7 @@ module _ (x : Load) (block : List ℕ) where
           let e : 255 - i ≡ suc (254 - i) = omega arith in
           q ∙ rw (e, m .told, m .left) (from-open (254 - i) c due i core opens)
 
-      pub turn-on : (d : Course) (t : Due) (p : ℕ) → it ≡ Go d t p → (i < p) × (p ≤ 255) × (o ≡ programFrom (255 - p) x d t block p after)
+      pub turn-on : (d : LabelCounts) (t : Due) (p : ℕ) → it ≡ Go d t p → (i < p) × (p ≤ 255) × (o ≡ programFrom (255 - p) x d t block p after)
       turn-on d t p e =
           let l = item-onward x c due block i core d t p (sym (m .told) ∙ e) (omega arith) in
           (l .0, l .1, rw e at decides ∙ fuel-enough (254 - i) (255 - p) d t p after (omega arith) (omega arith))
@@ -180,7 +180,7 @@ module _ (x : Load) (block : List ℕ) where
       pub turn-stop : (r : Step) → it ≡ Stop r → StepMeets o r after
       turn-stop r e = rw (rw e at decides) (record { told = refl; left = refl })
 
-      pub turn-waits : (d : Course) (t : Due) (p : ℕ) → it ≡ Go d t p → Waits x (Program c due) block core → Waits x (Program d t) block after
+      pub turn-waits : (d : LabelCounts) (t : Due) (p : ℕ) → it ≡ Go d t p → Waits x (Program c due) block core → Waits x (Program d t) block after
       turn-waits d t p e w = rw (m .left) (item-waits c due i core d t p (sym (m .told) ∙ e) (omega arith) w)
 
       pub turn-length : Waits x (Program c due) block core → length after ≡ length core

@@ -18,9 +18,9 @@ use Rattle.program.specs.declared.TableSectionRead.{TableSectionRead}
 use Rattle.program.specs.declared.TableSectionRead.the-variants.{Good as section-read, Bad as no-section}
 use Rattle.program.specs.Sections.{segmentOf, tableSectionOf}
 use Rattle.lists.specs.declared.Table.{Table as CoreTable}
-use Rattle.stage.specs.declared.Course.{Course}
+use Rattle.stage.specs.declared.LabelCounts.{LabelCounts}
 use Rattle.stage.specs.declared.Due.the-variants.{SegmentGroup, SectionGroup}
-use Rattle.stage.specs.Ranges.{bankFits, countFits}
+use Rattle.stage.specs.Ranges.{bankFits, sectionFits}
 use Rattle.stage.specs.declared.Step.the-variants.{Refused}
 use Rattle.sections.specs.declared.Item.{Item}
 use Rattle.sections.specs.declared.Item.the-variants.{Go, Stop}
@@ -45,12 +45,12 @@ banksFit area ts g =
     && every (besideTable area (g .dbank)) ts)))
 
 -- its groups are due after its four words, from place p on
-unfoldable pub withSegment : Area → List CoreTable → Course → ℕ → SegmentRead → Item
+unfoldable pub withSegment : Area → List CoreTable → LabelCounts → ℕ → SegmentRead → Item
 withSegment area ts c p (segment-read g) = cond (banksFit area ts g) (Go c (SegmentGroup g) p) headFault
 withSegment area ts c p (no-segment f) = Stop (Refused f)
 
 -- "its identifier words stay in one block (else 17)": words up to 254
-unfoldable pub segmentStep : Area → List CoreTable → Course → List ℕ → ℕ → Item
+unfoldable pub segmentStep : Area → List CoreTable → LabelCounts → List ℕ → ℕ → Item
 segmentStep area ts c block i =
     cond (leb (i + 3) 254) (withSegment area ts c (i + 4) (segmentOf (getD block i 0) (getD block (i + 1) 0))) headFault
 
@@ -58,12 +58,12 @@ segmentStep area ts c block i =
 
 -- "a count from 1 to the assigned length, .. the table's number, rising from section to section": at least `least`. One section fewer
 -- is then to come.
-unfoldable pub withSection : List CoreTable → Course → ℕ → Bank → ℕ → TableSectionRead → Item
+unfoldable pub withSection : List CoreTable → LabelCounts → ℕ → Bank → ℕ → TableSectionRead → Item
 withSection ts c least ibank p (section-read t) =
     cond (leb least (t .number .0))
-    (cond (countFits ts t) (Go (record { near = c .near; sections = c .sections - 1 }) (SectionGroup t ibank) p) headFault)
+    (cond (sectionFits ts t) (Go (record { channels = c .channels; sections = c .sections - 1 }) (SectionGroup t ibank) p) headFault)
     headFault
 withSection ts c least ibank p (no-section f) = Stop (Refused f)
 
-unfoldable pub sectionStep : List CoreTable → Course → ℕ → Bank → List ℕ → ℕ → Item
+unfoldable pub sectionStep : List CoreTable → LabelCounts → ℕ → Bank → List ℕ → ℕ → Item
 sectionStep ts c least ibank block i = withSection ts c least ibank (i + 1) (tableSectionOf (getD block i 0))

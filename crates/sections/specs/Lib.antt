@@ -1,4 +1,4 @@
-pub mod Load
+pub mod Waits
 pub mod Heads
 pub mod Program
 pub mod HowItems

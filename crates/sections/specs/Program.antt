@@ -13,8 +13,8 @@ use Rattle.group.specs.declared.Section.{Section as GroupSection}
 use Rattle.group.specs.declared.Section.the-variants.{Segment as in-segment, Table as in-table}
 use Rattle.group.specs.declared.GroupStep.{GroupStep}
 use Rattle.group.specs.declared.GroupStep.the-variants.{Done as group-done, Refused as group-refused}
-use Rattle.group.specs.Group.{Outcome as GroupOutcome, groupStep}
-use Rattle.stage.specs.declared.Course.{Course}
+use Rattle.group.specs.Group.{GroupOutcome, groupStep}
+use Rattle.stage.specs.declared.LabelCounts.{LabelCounts}
 use Rattle.stage.specs.declared.Due.{Due}
 use Rattle.stage.specs.declared.Due.the-variants.{Segment, SegmentGroup, Section, SectionGroup}
 use Rattle.stage.specs.declared.Stage.the-variants.{Program, Termination}
@@ -23,7 +23,7 @@ use Rattle.stage.specs.declared.Step.the-variants.{More, Refused}
 use Rattle.sections.specs.declared.Item.{Item}
 use Rattle.sections.specs.declared.Item.the-variants.{Go, Stop}
 use Rattle.lists.specs.Load.{Load}
-use Rattle.sections.specs.Load.{assignments}
+use Rattle.sections.specs.Waits.{assignments}
 use Rattle.sections.specs.Heads.{segmentStep, sectionStep}
 
 -- what an item leads to, and the core as its stores left it
@@ -39,12 +39,12 @@ pub record ItemMeets (o : ItemOutcome) (item : Item) (core : List ℕ) : Type 0 
 
 -- of the section's last one: "After the last section's last group the rest of the block is disregarded and the termination block is
 -- due." Else the word of a table section is due, its number at least `least`.
-unfoldable pub afterLast : Course → ℕ → Bank → ℕ → Item
+unfoldable pub afterLast : LabelCounts → ℕ → Bank → ℕ → Item
 afterLast c least ibank p =
     cond (eqb (c .sections) 0) (Stop (More (Termination ibank))) (Go c (Section (record { 0 = least }) ibank) p)
 
 -- of any other: the identifier of a group of the same section is due
-unfoldable pub afterGroup : Course → Due → ℕ → Bank → GroupStep → Item
+unfoldable pub afterGroup : LabelCounts → Due → ℕ → Bank → GroupStep → Item
 afterGroup c same least ibank (group-done p last) = cond last (afterLast c least ibank p) (Go c same p)
 afterGroup c same least ibank (group-refused f) = Stop (Refused f)
 
@@ -54,7 +54,7 @@ afterGroup c same least ibank (group-refused f) = Stop (Refused f)
 abbrev pub headed : Item → List ℕ → ItemOutcome
 headed it core = record { item = it; core = core }
 
-abbrev pub grouped : Course → Due → ℕ → Bank → GroupOutcome → ItemOutcome
+abbrev pub grouped : LabelCounts → Due → ℕ → Bank → GroupOutcome → ItemOutcome
 grouped c same least ibank o = record { item = afterGroup c same least ibank (o .answer); core = o .core }
 
 -- the words that a group of a table section may store into: those of the table with its number, as many as it counts
@@ -62,7 +62,7 @@ abbrev pub inSection : Load → TableSection → GroupSection
 inSection x t = in-table (getD (x .tables) (t .number .0) noTable) (t .count)
 
 -- what is due there says how the word is read
-unfoldable pub itemStep : Load → Course → Due → List ℕ → ℕ → List ℕ → ItemOutcome
+unfoldable pub itemStep : Load → LabelCounts → Due → List ℕ → ℕ → List ℕ → ItemOutcome
 -- "Segment section, first and once, four words"
 itemStep x c Segment block i core = headed (segmentStep (x .area) (x .tables) c block i) core
 -- "Group addresses count from the Program Name": a group of the segment section; the table section after its last has any number
@@ -87,12 +87,12 @@ pub record StepMeets (o : StepOutcome) (step : Step) (core : List ℕ) : Type 0 
 unfoldable pub closes : List ℕ → ℕ → Bool
 closes block i = leb 255 i || eqb (getD block i 0) 0
 
-abbrev pub followed : Item → List ℕ → (Course → Due → ℕ → List ℕ → StepOutcome) → StepOutcome
+abbrev pub followed : Item → List ℕ → (LabelCounts → Due → ℕ → List ℕ → StepOutcome) → StepOutcome
 followed (Go c due p) core next = next c due p core
 followed (Stop s) core next = record { step = s; core = core }
 
 -- n items at most, from place i on, `due` being due there
-unfoldable pub programFrom : ℕ → Load → Course → Due → List ℕ → ℕ → List ℕ → StepOutcome
+unfoldable pub programFrom : ℕ → Load → LabelCounts → Due → List ℕ → ℕ → List ℕ → StepOutcome
 programFrom zero x c due block i core = record { step = More (Program c due); core = core }
 programFrom (suc n) x c due block i core =
     cond (closes block i)
@@ -101,5 +101,5 @@ programFrom (suc n) x c due block i core =
     (λ d next p after. programFrom n x d next block p after))
 
 -- each item takes a word or more, so 254 are all there can be
-unfoldable pub programStep : Load → Course → Due → List ℕ → List ℕ → StepOutcome
+unfoldable pub programStep : Load → LabelCounts → Due → List ℕ → List ℕ → StepOutcome
 programStep x c due block core = programFrom 254 x c due block 1 core

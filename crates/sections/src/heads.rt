@@ -11,14 +11,14 @@ use program::Bank;
 use program::Segment;
 use program::SegmentRead;
 use program::TableSectionRead;
-use stage::Course;
 use stage::Due;
+use stage::LabelCounts;
 use stage::Step;
 use word::Fault;
 use word::Reference;
 
 // The segment section's four words at place i: 17 where they do not stay in the block, are none, or the banks do not fit.
-pub fn segment_head(g: Given, lists: &[u64], c: Course, block: &[u64], i: usize) -> Item
+pub fn segment_head(g: Given, lists: &[u64], c: LabelCounts, block: &[u64], i: usize) -> Item
     requires { ⌜ (Readable g (now lists)) × (length (now block) ≡ 256) × (i ≤ 254) ⌝ }
     ensures { λ r. ⌜ r ≡ segmentStep (g .area) (coreTables g (now (lists .entry))) c (now (block .entry)) i ⌝ }
 {
@@ -41,7 +41,7 @@ pub fn segment_head(g: Given, lists: &[u64], c: Course, block: &[u64], i: usize)
 pub fn section_head(
     g: Given,
     lists: &[u64],
-    c: Course,
+    c: LabelCounts,
     least: Reference,
     ibank: Bank,
     block: &[u64],
@@ -55,7 +55,7 @@ pub fn section_head(
             if t.number.0 < least.0 {
                 return Item::Stop(Step::Refused(Fault { number: 17 }));
             }
-            if stage::count_fits(g, lists, t) {
+            if stage::section_fits(g, lists, t) {
                 let past = i + 1;
                 return Item::Go(one_fewer(c), Due::SectionGroup(t, ibank), past);
             }
@@ -65,15 +65,15 @@ pub fn section_head(
     }
 }
 
-// The course with one section fewer to come; there is one where a section is due.
-fn one_fewer(c: Course) -> Course
-    ensures { λ r. ⌜ r ≡ record { near = c .near; sections = c .sections - 1 } ⌝ }
+// The label's counts with one section fewer to come; there is one where a section is due.
+fn one_fewer(c: LabelCounts) -> LabelCounts
+    ensures { λ r. ⌜ r ≡ record { channels = c .channels; sections = c .sections - 1 } ⌝ }
 {
     if c.sections == 0 {
         return c;
     }
-    Course {
-        near: c.near,
+    LabelCounts {
+        channels: c.channels,
         sections: c.sections - 1,
     }
 }

@@ -2,7 +2,7 @@
 ghost use mathlib.Core.Path.{_≡_};
 ghost use Prim.Native.Nat.{_+_, _≤_};
 ghost use Rattle.lists.specs.Load.{loadOf, Readable};
-ghost use Rattle.sections.specs.Load.{KeptWaits};
+ghost use Rattle.sections.specs.Waits.{KeptWaits};
 ghost use Rattle.sections.specs.HowItems.{Numbered, readingOf};
 ghost use Rattle.sections.specs.Program.{afterLast, afterGroup, itemStep, programStep, ItemMeets, StepMeets};
 use crate::Item;
@@ -12,8 +12,8 @@ use group::GroupStep;
 use group::Section;
 use lists::Given;
 use program::Bank;
-use stage::Course;
 use stage::Due;
+use stage::LabelCounts;
 use stage::Stage;
 use stage::Step;
 use word::Reference;
@@ -26,12 +26,12 @@ enum Reading {
     Group(Section, Reference, Bank),
 }
 
-// A program block for a load of course c where due is due, into the core. The lent block is copied first (01, "blocks of 256 words
+// A program block for a load with these counts of its label, where due is due, into the core. The lent block is copied first (01, "blocks of 256 words
 // built with repeat arrays").
 pub fn program_step(
     g: Given,
     lists: &[u64],
-    c: Course,
+    c: LabelCounts,
     due: Due,
     block: &[u64],
     core: &mut [u64],
@@ -45,20 +45,27 @@ pub fn program_step(
 }
 
 // Item after item, from word 1 on.
-fn walk_items(g: Given, lists: &[u64], c: Course, due: Due, block: &[u64], core: &mut [u64]) -> Step
+fn walk_items(
+    g: Given,
+    lists: &[u64],
+    c: LabelCounts,
+    due: Due,
+    block: &[u64],
+    core: &mut [u64],
+) -> Step
     requires { ⌜ KeptWaits g (now lists) (Stage.Program c due) (now block) (now core) ⌝ }
     ensures { λ r. ⌜ StepMeets (programStep (loadOf g (now (lists .entry))) c due (now (block .entry)) (now (core .entry))) r (now (core .exit)) ⌝ }
 {
-    let mut course = c;
+    let mut counts = c;
     let mut next = due;
     let mut i: usize = 1;
     while i < 255 {
         if block[i] == 0 {
-            return Step::More(Stage::Program(course, next));
+            return Step::More(Stage::Program(counts, next));
         }
-        match item_step(g, lists, course, next, block, i, core) {
+        match item_step(g, lists, counts, next, block, i, core) {
             Item::Go(d, t, p) => {
-                course = d;
+                counts = d;
                 next = t;
                 i = p;
             }
@@ -67,7 +74,7 @@ fn walk_items(g: Given, lists: &[u64], c: Course, due: Due, block: &[u64], core:
             }
         }
     }
-    Step::More(Stage::Program(course, next))
+    Step::More(Stage::Program(counts, next))
 }
 
 // What stands at place i, where due is due. Groups of either section are read here, at one place, so that the compiler makes their
@@ -75,7 +82,7 @@ fn walk_items(g: Given, lists: &[u64], c: Course, due: Due, block: &[u64], core:
 fn item_step(
     g: Given,
     lists: &[u64],
-    c: Course,
+    c: LabelCounts,
     due: Due,
     block: &[u64],
     i: usize,
@@ -88,7 +95,7 @@ fn item_step(
         Reading::Segment => heads::segment_head(g, lists, c, block, i),
         Reading::Section(t, b) => heads::section_head(g, lists, c, t, b, block, i),
         Reading::Group(section, least, ibank) => {
-            let channels = c.near;
+            let channels = c.channels;
             let set = Assigned { given: g, channels };
             let r = group::group_step(set, section, lists, block, i, core);
             after_group(c, due, least, ibank, r)
@@ -119,7 +126,7 @@ fn reading_of(g: Given, lists: &[u64], due: Due) -> Reading
 }
 
 // What is due after a group: a group of the same section, or what follows the section's last one.
-fn after_group(c: Course, same: Due, least: Reference, ibank: Bank, r: GroupStep) -> Item
+fn after_group(c: LabelCounts, same: Due, least: Reference, ibank: Bank, r: GroupStep) -> Item
     ensures { λ it. ⌜ it ≡ afterGroup c same (least .0) ibank r ⌝ }
 {
     match r {
@@ -134,7 +141,7 @@ fn after_group(c: Course, same: Due, least: Reference, ibank: Bank, r: GroupStep
 }
 
 // What is due after a section: a table section whose number is at least `least`, or after the last one the termination block.
-fn after_last(c: Course, least: Reference, ibank: Bank, p: usize) -> Item
+fn after_last(c: LabelCounts, least: Reference, ibank: Bank, p: usize) -> Item
     ensures { λ it. ⌜ it ≡ afterLast c (least .0) ibank p ⌝ }
 {
     if c.sections == 0 {

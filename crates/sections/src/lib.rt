@@ -2,12 +2,12 @@
 pub mod heads;
 pub mod items;
 
-use stage::Course;
 use stage::Due;
+use stage::LabelCounts;
 use stage::Step;
 
 // What stands at a place of a program block leads to what is due at another place, or to the block's end.
 pub enum Item {
-    Go(Course, Due, usize),
+    Go(LabelCounts, Due, usize),
     Stop(Step),
 }

@@ -10,7 +10,7 @@ use Rattle.stage.specs.declared.Stage.the-variants.{Label, Entry, Progra
 pub stage-length : (s : Stage) → length (numbersOf s) ≡ 9
 unfolding numbersOf
 stage-length Label = refl
-stage-length (Entry c strict b) = refl
+stage-length (Entry c exact b) = refl
 stage-length (Program c Segment) = refl
 stage-length (Program c (SegmentGroup g)) = refl
 stage-length (Program c (Section t i)) = refl

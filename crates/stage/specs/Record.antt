@@ -8,7 +8,7 @@ use Rattle.stage.specs.declared.Stage.the-variants.{Label, Entry, Progra
 
 unfoldable pub recordDue : Stage → Record
 recordDue Label = label-record
-recordDue (Entry c strict b) = Modification
+recordDue (Entry c exact b) = Modification
 recordDue (Program c due) = program-record
 recordDue (Termination i) = termination-record
 recordDue Complete = termination-record
@@ -17,7 +17,7 @@ recordDue Broken = termination-record
 -- refusal 10: "feed: the load is complete or broken"
 unfoldable pub isOver : Stage → Bool
 isOver Label = false
-isOver (Entry c strict b) = false
+isOver (Entry c exact b) = false
 isOver (Program c due) = false
 isOver (Termination i) = false
 isOver Complete = true

@@ -8,7 +8,7 @@ use lib.Dec.{eqb}
 use Rattle.program.specs.declared.Bank.{Bank}
 use Rattle.program.specs.declared.Segment.{Segment}
 use Rattle.program.specs.declared.TableSection.{TableSection}
-use Rattle.stage.specs.declared.Course.{Course}
+use Rattle.stage.specs.declared.LabelCounts.{LabelCounts}
 use Rattle.stage.specs.declared.Due.the-variants.{Segment as segment-due, SegmentGroup, Section, SectionGroup}
 use Rattle.stage.specs.declared.Stage.{Stage}
 use Rattle.stage.specs.declared.Stage.the-variants.{Label, Entry, Program, Termination, Complete, Broken}
@@ -16,23 +16,23 @@ use Rattle.stage.specs.declared.Stage.the-variants.{Label, Entry, Progra
 -- the numbers are: what is due; the course's two; a table's number, a block's, or whether longer tables are forbidden; a second of
 -- these; the IBANK's address and count; the DBANK's
 abbrev pub flag : Bool → ℕ
-flag strict = cond strict 1 0
+flag exact = cond exact 1 0
 
 unfoldable pub numbersOf : Stage → List ℕ
 numbersOf Label = 0 ∷ 0 ∷ 0 ∷ 0 ∷ 0 ∷ 0 ∷ 0 ∷ 0 ∷ 0 ∷ []
-numbersOf (Entry c strict b) = 1 ∷ c .near ∷ c .sections ∷ b ∷ flag strict ∷ 0 ∷ 0 ∷ 0 ∷ 0 ∷ []
-numbersOf (Program c segment-due) = 2 ∷ c .near ∷ c .sections ∷ 0 ∷ 0 ∷ 0 ∷ 0 ∷ 0 ∷ 0 ∷ []
+numbersOf (Entry c exact b) = 1 ∷ c .channels ∷ c .sections ∷ b ∷ flag exact ∷ 0 ∷ 0 ∷ 0 ∷ 0 ∷ []
+numbersOf (Program c segment-due) = 2 ∷ c .channels ∷ c .sections ∷ 0 ∷ 0 ∷ 0 ∷ 0 ∷ 0 ∷ 0 ∷ []
 numbersOf (Program c (SegmentGroup g)) =
-    3 ∷ c .near ∷ c .sections ∷ 0 ∷ 0 ∷ g .ibank .at .0 ∷ g .ibank .count ∷ g .dbank .at .0 ∷ g .dbank .count ∷ []
-numbersOf (Program c (Section t i)) = 4 ∷ c .near ∷ c .sections ∷ t .0 ∷ 0 ∷ i .at .0 ∷ i .count ∷ 0 ∷ 0 ∷ []
-numbersOf (Program c (SectionGroup t i)) = 5 ∷ c .near ∷ c .sections ∷ t .number .0 ∷ t .count ∷ i .at .0 ∷ i .count ∷ 0 ∷ 0 ∷ []
+    3 ∷ c .channels ∷ c .sections ∷ 0 ∷ 0 ∷ g .ibank .at .0 ∷ g .ibank .count ∷ g .dbank .at .0 ∷ g .dbank .count ∷ []
+numbersOf (Program c (Section t i)) = 4 ∷ c .channels ∷ c .sections ∷ t .0 ∷ 0 ∷ i .at .0 ∷ i .count ∷ 0 ∷ 0 ∷ []
+numbersOf (Program c (SectionGroup t i)) = 5 ∷ c .channels ∷ c .sections ∷ t .number .0 ∷ t .count ∷ i .at .0 ∷ i .count ∷ 0 ∷ 0 ∷ []
 numbersOf (Termination i) = 6 ∷ 0 ∷ 0 ∷ 0 ∷ 0 ∷ i .at .0 ∷ i .count ∷ 0 ∷ 0 ∷ []
 numbersOf Complete = 7 ∷ 0 ∷ 0 ∷ 0 ∷ 0 ∷ 0 ∷ 0 ∷ 0 ∷ 0 ∷ []
 numbersOf Broken = 8 ∷ 0 ∷ 0 ∷ 0 ∷ 0 ∷ 0 ∷ 0 ∷ 0 ∷ 0 ∷ []
 
 -- the parts of a stage, from its numbers
-abbrev pub courseIn : List ℕ → Course
-courseIn l = record { near = getD l 1 0; sections = getD l 2 0 }
+abbrev pub courseIn : List ℕ → LabelCounts
+courseIn l = record { channels = getD l 1 0; sections = getD l 2 0 }
 
 abbrev pub ibankIn : List ℕ → Bank
 ibankIn l = record { at = record { 0 = getD l 5 0 }; count = getD l 6 0 }

@@ -6,7 +6,7 @@ ghost use Prim.Native.Nat.{_+_, _≤_, _<_};
 ghost use lib.ListN.{length};
 ghost use Rattle.lists.specs.Load.{coreTables, Readable};
 ghost use Rattle.stage.specs.Stage.{numbersOf, stageOf};
-ghost use Rattle.stage.specs.Ranges.{courseFits, bankFits, countFits, dueFits, stageFits};
+ghost use Rattle.stage.specs.Ranges.{labelCountsFit, bankFits, sectionFits, dueFits, stageFits};
 ghost use Rattle.stage.specs.Record.{recordDue, isOver};
 use block::Record;
 use lists::Given;
@@ -20,8 +20,8 @@ use word::Reference;
 use word::Relative;
 
 // What of the label is still needed: how many I/O references are of types 0 and 2, and how many table sections are to come.
-pub struct Course {
-    pub near: u64,
+pub struct LabelCounts {
+    pub channels: u64,
     pub sections: u64,
 }
 
@@ -37,8 +37,8 @@ pub enum Due {
 // What is due next. An entry's block is counted from 0 among the modification blocks, with whether longer tables are forbidden.
 pub enum Stage {
     Label,
-    Entry(Course, bool, u64),
-    Program(Course, Due),
+    Entry(LabelCounts, bool, u64),
+    Program(LabelCounts, Due),
     Termination(Bank),
     Complete,
     Broken,
@@ -85,7 +85,7 @@ pub fn stage_numbers(s: Stage) -> [u64; 9]
 {
     match s {
         Stage::Label => [0, 0, 0, 0, 0, 0, 0, 0, 0],
-        Stage::Entry(c, strict, b) => entry_numbers(c, strict, b),
+        Stage::Entry(c, exact, b) => entry_numbers(c, exact, b),
         Stage::Program(c, due) => due_numbers(c, due),
         Stage::Termination(i) => [6, 0, 0, 0, 0, i.at.0, i.count, 0, 0],
         Stage::Complete => [7, 0, 0, 0, 0, 0, 0, 0, 0],
@@ -93,34 +93,34 @@ pub fn stage_numbers(s: Stage) -> [u64; 9]
     }
 }
 
-fn entry_numbers(c: Course, strict: bool, b: u64) -> [u64; 9]
-    ensures { λ r. ⌜ r ≡ numbersOf (Stage.Entry c strict b) ⌝ }
+fn entry_numbers(c: LabelCounts, exact: bool, b: u64) -> [u64; 9]
+    ensures { λ r. ⌜ r ≡ numbersOf (Stage.Entry c exact b) ⌝ }
 {
-    if strict {
-        return [1, c.near, c.sections, b, 1, 0, 0, 0, 0];
+    if exact {
+        return [1, c.channels, c.sections, b, 1, 0, 0, 0, 0];
     }
-    [1, c.near, c.sections, b, 0, 0, 0, 0, 0]
+    [1, c.channels, c.sections, b, 0, 0, 0, 0, 0]
 }
 
-fn due_numbers(c: Course, due: Due) -> [u64; 9]
+fn due_numbers(c: LabelCounts, due: Due) -> [u64; 9]
     ensures { λ r. ⌜ r ≡ numbersOf (Stage.Program c due) ⌝ }
 {
     match due {
-        Due::Segment => [2, c.near, c.sections, 0, 0, 0, 0, 0, 0],
+        Due::Segment => [2, c.channels, c.sections, 0, 0, 0, 0, 0, 0],
         Due::SegmentGroup(g) => segment_numbers(c, g),
-        Due::Section(t, i) => [4, c.near, c.sections, t.0, 0, i.at.0, i.count, 0, 0],
+        Due::Section(t, i) => [4, c.channels, c.sections, t.0, 0, i.at.0, i.count, 0, 0],
         Due::SectionGroup(t, i) => section_numbers(c, t, i),
     }
 }
 
-fn segment_numbers(c: Course, g: Segment) -> [u64; 9]
+fn segment_numbers(c: LabelCounts, g: Segment) -> [u64; 9]
     ensures { λ r. ⌜ r ≡ numbersOf (Stage.Program c (Due.SegmentGroup g)) ⌝ }
 {
     let i = g.ibank;
     let d = g.dbank;
     [
         3,
-        c.near,
+        c.channels,
         c.sections,
         0,
         0,
@@ -131,12 +131,12 @@ fn segment_numbers(c: Course, g: Segment) -> [u64; 9]
     ]
 }
 
-fn section_numbers(c: Course, t: TableSection, i: Bank) -> [u64; 9]
+fn section_numbers(c: LabelCounts, t: TableSection, i: Bank) -> [u64; 9]
     ensures { λ r. ⌜ r ≡ numbersOf (Stage.Program c (Due.SectionGroup t i)) ⌝ }
 {
     [
         5,
-        c.near,
+        c.channels,
         c.sections,
         t.number.0,
         t.count,
@@ -153,8 +153,8 @@ pub fn read_stage(n: &[u64]) -> Stage
     ensures { λ s. ⌜ s ≡ stageOf (now (n .entry)) ⌝ }
 {
     let tag = n[0];
-    let c = Course {
-        near: n[1],
+    let c = LabelCounts {
+        channels: n[1],
         sections: n[2],
     };
     let i = Bank {
@@ -206,13 +206,13 @@ pub fn stage_fits(g: Given, lists: &[u64], s: Stage) -> bool
     match s {
         Stage::Label => true,
         Stage::Entry(c, _, b) => {
-            if !course_fits(io, tables, c) {
+            if !label_counts_fit(io, tables, c) {
                 return false;
             }
             b < modification::entry_blocks(io, tables)
         }
         Stage::Program(c, due) => {
-            if !course_fits(io, tables, c) {
+            if !label_counts_fit(io, tables, c) {
                 return false;
             }
             due_fits(g, lists, due)
@@ -223,10 +223,10 @@ pub fn stage_fits(g: Given, lists: &[u64], s: Stage) -> bool
     }
 }
 
-fn course_fits(io: u64, tables: u64, c: Course) -> bool
-    ensures { λ r. ⌜ r ≡ courseFits io tables c ⌝ }
+fn label_counts_fit(io: u64, tables: u64, c: LabelCounts) -> bool
+    ensures { λ r. ⌜ r ≡ labelCountsFit io tables c ⌝ }
 {
-    if io < c.near {
+    if io < c.channels {
         return false;
     }
     c.sections <= tables
@@ -256,7 +256,7 @@ fn due_fits(g: Given, lists: &[u64], due: Due) -> bool
         }
         Due::Section(_, i) => bank_fits(area, i),
         Due::SectionGroup(t, i) => {
-            if !count_fits(g, lists, t) {
+            if !section_fits(g, lists, t) {
                 return false;
             }
             bank_fits(area, i)
@@ -265,9 +265,9 @@ fn due_fits(g: Given, lists: &[u64], due: Due) -> bool
 }
 
 // Whether a table section is of a table that there is, and of no more words than the table has.
-pub fn count_fits(g: Given, lists: &[u64], t: TableSection) -> bool
+pub fn section_fits(g: Given, lists: &[u64], t: TableSection) -> bool
     requires { ⌜ Readable g (now lists) ⌝ }
-    ensures { λ r. ⌜ r ≡ countFits (coreTables g (now (lists .entry))) t ⌝ }
+    ensures { λ r. ⌜ r ≡ sectionFits (coreTables g (now (lists .entry))) t ⌝ }
 {
     let number = t.number;
     if g.tables <= number.0 {

@@ -19,18 +19,18 @@ use Rattle.program.specs.Groups.{groupOf}
 use Rattle.program.specs.Start.{inBank}
 use Rattle.indicator.specs.Indicator.{bitsOf, indicatorBits, bitsBefore, numberAt, indicatorAt, afterField, afterWord, afterAll}
 use Rattle.lists.specs.Obey.{listsObey, tablesObey, tablesOf}
-use Rattle.lists.specs.Keep.{numbersKept, wordsKept, ranksKept, wordsFrom, ranked}
+use Rattle.lists.specs.HowKeep.{numbersKept, wordsKept, ranksKept, wordsFrom, ranked}
 use Rattle.sorting.specs.Sorted.{sorted}
-use Rattle.lists.specs.Kept.{numbersIn, tablesIn}
+use Rattle.lists.specs.HowKept.{numbersIn, tablesIn}
 use Rattle.lists.specs.Load.{iosIn, wordsIn, ranksIn, coreTables, ioNumbers, keptLists}
-use Rattle.lists.specs.Chain.{chain, chainFrom}
+use Rattle.lists.specs.HowChain.{chain, chainFrom}
 use Rattle.field.specs.Field.{valued, movedField, becomes, putBack, fieldStep}
 use Rattle.group.specs.Group.{halfStep, wordStep, changedWords, wordsLie, addressOf, indicatorsFit, groupFits, refusedGroup, storedGroup, groupOutcome, readOutcome, groupStep}
 use Rattle.stage.specs.Stage.{numbersOf, stageOf}
-use Rattle.stage.specs.Ranges.{courseFits, bankFits, dueFits, stageFits}
+use Rattle.stage.specs.Ranges.{labelCountsFit, bankFits, dueFits, stageFits}
 use Rattle.stage.specs.Record.{recordDue, isOver}
-use Rattle.step.specs.Label.{afterLabel, withLabel, labelStep}
-use Rattle.step.specs.Termination.{terminationStep}
+use Rattle.records.specs.Label.{afterLabel, withLabel, labelStep}
+use Rattle.records.specs.Termination.{terminationStep}
 use Rattle.sections.specs.Heads.{banksFit, withSegment, segmentStep}
 use Rattle.sections.specs.Program.{afterLast, afterGroup, itemStep, closes, programFrom, programStep}
 use Rattle.map.specs.Map.{stretchOf, mapOf, inCore, stretchesApart, mapObeys}
@@ -60,7 +60,7 @@ unfolding every everyTwo range tab splice cleared within apart characters spelt 
     labelOf finished programWordFits assignmentsFit bankOf segmentOf tableSectionOf groupOf inBank
     bitsOf flatMap indicatorBits bitsBefore numberAt indicatorAt afterField afterWord afterAll listsObey tablesObey tablesOf numbersKept
     wordsKept ranksKept wordsFrom sorted ranked numbersIn tablesIn chain chainFrom valued movedField becomes putBack fieldStep halfStep
-    wordStep changedWords wordsLie addressOf indicatorsFit groupFits refusedGroup storedGroup groupOutcome readOutcome groupStep numbersOf stageOf courseFits bankFits dueFits stageFits
+    wordStep changedWords wordsLie addressOf indicatorsFit groupFits refusedGroup storedGroup groupOutcome readOutcome groupStep numbersOf stageOf labelCountsFit bankFits dueFits stageFits
     recordDue isOver afterLabel withLabel labelStep terminationStep banksFit withSegment segmentStep afterLast afterGroup itemStep closes
     programFrom programStep stretchOf mapOf inCore stretchesApart mapObeys hit count free held heldEach idle atMost fair placeRefusal
     lowestFree mapNumbers holders places placeIn ownOf stageIn listsIn iosIn wordsIn ranksIn coreTables ioNumbers keptLists areaIn countsFit loadFits heldFits placeFits areasApart

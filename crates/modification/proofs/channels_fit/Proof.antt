@@ -5,7 +5,7 @@ use native.Mathlib.Omega.{arith}
 use borrow.Author.Needs.{needs}
 use lib.ListN.{drop}
 use Rattle.word.specs.Lists.{every}
-use Rattle.lists.specs.Kept.{numbersIn}
+use Rattle.lists.specs.HowKept.{numbersIn}
 use Rattle.modification.specs.Assignments.{isChannel}
 use Rattle.modification.proofs.Channels.{channels-more, channels-fails, channels-ends}
 use Rattle.modification.proofs.channels_fit.Statement.{statement}

@@ -31,12 +31,12 @@ bank-fits-requires-3 c κs = search needs
 enum-known-due-3 : tie.Need-enum-known-due-3
 enum-known-due-3 c = search needs
 
-count-fits-requires : tie.Need-count-fits-requires
-count-fits-requires c κs = search needs
+section-fits-requires : tie.Need-section-fits-requires
+section-fits-requires c κs = search needs
 
 returns-2 : tie.Need-returns-2
 unfolding dueFits
-returns-2 c = rw (c .before .before .before .due3 .given .1, sym (c .before .count-fits .ensures) ∙ not-true _ (c .if2 .taken))
+returns-2 c = rw (c .before .before .before .due3 .given .1, sym (c .before .section-fits .ensures) ∙ not-true _ (c .if2 .taken))
 
 bank-fits-requires-4 : tie.Need-bank-fits-requires-4
 bank-fits-requires-4 c κs = search needs
@@ -55,7 +55,7 @@ returns-5 c = rw (c .before .before .due2 .given .1) (c .bank-fits3 .ensures)
 
 returns-6 : tie.Need-returns-6
 unfolding dueFits
-returns-6 c = rw (c .before .before .before .before .due3 .given .1, sym (c .before .before .count-fits .ensures) ∙ not-false _ (c .before .if2 .left)) (c .bank-fits4 .ensures)
+returns-6 c = rw (c .before .before .before .before .due3 .given .1, sym (c .before .before .section-fits .ensures) ∙ not-false _ (c .before .if2 .left)) (c .bank-fits4 .ensures)
 
 pub due-fits-spec : {M : Type 1} → statement M
 due-fits-spec =
@@ -69,7 +69,7 @@ due-fits-spec =
     enum-known-due-2
     bank-fits-requires-3
     enum-known-due-3
-    count-fits-requires
+    section-fits-requires
     returns-2
     bank-fits-requires-4
     returns-3

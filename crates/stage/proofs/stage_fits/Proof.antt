@@ -14,14 +14,14 @@ enum-told c = search needs
 enum-known-s : tie.Need-enum-known-s
 enum-known-s c = search needs
 
-course-fits-requires : tie.Need-course-fits-requires
-course-fits-requires c κs = search needs
+label-counts-fit-requires : tie.Need-label-counts-fit-requires
+label-counts-fit-requires c κs = search needs
 
 returns : tie.Need-returns
 unfolding stageFits
 returns c = let z = c .before .before .before .before .before .before .before in
     let e = core-length (z .args .g) (now (z .args .lists)) (z .pre) in
-    rw (c .before .before .before .s .given .1, e, sym (c .before .course-fits .ensures) ∙ not-true _ (c .if1 .taken))
+    rw (c .before .before .before .s .given .1, e, sym (c .before .label-counts-fit .ensures) ∙ not-true _ (c .if1 .taken))
 
 entry-blocks-requires : tie.Need-entry-blocks-requires
 entry-blocks-requires c κs = search needs
@@ -29,14 +29,14 @@ entry-blocks-requires c κs = search needs
 enum-known-s-2 : tie.Need-enum-known-s-2
 enum-known-s-2 c = search needs
 
-course-fits-requires-2 : tie.Need-course-fits-requires-2
-course-fits-requires-2 c κs = search needs
+label-counts-fit-requires-2 : tie.Need-label-counts-fit-requires-2
+label-counts-fit-requires-2 c κs = search needs
 
 returns-2 : tie.Need-returns-2
 unfolding stageFits
 returns-2 c = let z = c .before .before .before .before .before .before .before in
     let e = core-length (z .args .g) (now (z .args .lists)) (z .pre) in
-    rw (c .before .before .before .s2 .given .1, e, sym (c .before .course-fits2 .ensures) ∙ not-true _ (c .if2 .taken))
+    rw (c .before .before .before .s2 .given .1, e, sym (c .before .label-counts-fit2 .ensures) ∙ not-true _ (c .if2 .taken))
 
 due-fits-requires : tie.Need-due-fits-requires
 due-fits-requires c κs = search needs
@@ -61,13 +61,13 @@ returns-4 : tie.Need-returns-4
 unfolding stageFits
 returns-4 c = let z = c .before .before .before .before .before .before .before .before in
     let e = core-length (z .args .g) (now (z .args .lists)) (z .pre) in
-    rw (c .before .before .before .before .s .given .1, e, sym (c .before .before .course-fits .ensures) ∙ not-false _ (c .before .if1 .left), ← c .entry-blocks .ensures)
+    rw (c .before .before .before .before .s .given .1, e, sym (c .before .before .label-counts-fit .ensures) ∙ not-false _ (c .before .if1 .left), ← c .entry-blocks .ensures)
 
 returns-5 : tie.Need-returns-5
 unfolding stageFits
 returns-5 c = let z = c .before .before .before .before .before .before .before .before in
     let e = core-length (z .args .g) (now (z .args .lists)) (z .pre) in
-    rw (c .before .before .before .before .s2 .given .1, e, sym (c .before .before .course-fits2 .ensures) ∙ not-false _ (c .before .if2 .left)) (c .due-fits .ensures)
+    rw (c .before .before .before .before .s2 .given .1, e, sym (c .before .before .label-counts-fit2 .ensures) ∙ not-false _ (c .before .if2 .left)) (c .due-fits .ensures)
 
 returns-6 : tie.Need-returns-6
 unfolding stageFits
@@ -87,11 +87,11 @@ stage-fits-spec =
     (tie.spec
     enum-told
     enum-known-s
-    course-fits-requires
+    label-counts-fit-requires
     returns
     entry-blocks-requires
     enum-known-s-2
-    course-fits-requires-2
+    label-counts-fit-requires-2
     returns-2
     due-fits-requires
     enum-known-s-3

@@ -15,15 +15,15 @@ slice-write-desk c = search needs
 copy-in-requires : tie.Need-copy-in-requires
 copy-in-requires c κs = simp length-set (omega arith)
 
-free-places-requires : tie.Need-free-places-requires
-free-places-requires c κs =
+clear-places-requires : tie.Need-clear-places-requires
+clear-places-requires c κs =
     let s = c .before .before .before .before .before .before .before in
     ap length (c .before .before .before .copy-in .ensures) ∙ fixed-length (now (s .args .desk)) (s .args .core) (now (s .args .numbers)) (s .pre .0) (s .pre .1)
 
 same-length : tie.Need-same-length
 same-length c =
     let s = c .before .before .before .before .before .before .before .before .before .before in
-    ap length (c .before .before .free-places .ensures)
+    ap length (c .before .before .clear-places .ensures)
     ∙ length-freed 12 _
     ∙ ap length (c .before .before .before .before .before .before .copy-in .ensures)
     ∙ fixed-length (now (s .args .desk)) (s .args .core) (now (s .args .numbers)) (s .pre .0) (s .pre .1)
@@ -32,10 +32,10 @@ same-length c =
 returns : tie.Need-returns
 returns c =
     let s = c .before .before .before .before .before .before .before .before .before .before in
-    c .before .before .free-places .ensures
+    c .before .before .clear-places .ensures
     ∙ ap (freed 12) (c .before .before .before .before .before .before .copy-in .ensures)
     ∙ fresh-as (now (s .args .desk)) (s .args .core) (now (s .args .numbers)) (s .pre .0) (s .pre .1)
 
 pub write-fresh-spec : {M : Type 1} → statement M
 write-fresh-spec =
-    tie.close (tie.spec slice-write-desk copy-in-requires free-places-requires same-length returns)
+    tie.close (tie.spec slice-write-desk copy-in-requires clear-places-requires same-length returns)

@@ -22,8 +22,8 @@ unfolding sectionStep withSection
 returns c = let m = c .before .before .before .before in
     rw (← m .before .before .read-table-section .ensures, m .t .given .1, lt-leb _ _ (c .if1 .taken))
 
-count-fits-requires : tie.Need-count-fits-requires
-count-fits-requires c κs = search needs
+section-fits-requires : tie.Need-section-fits-requires
+section-fits-requires c κs = search needs
 
 one-fewer-requires : tie.Need-one-fewer-requires
 one-fewer-requires c κs = search needs
@@ -35,7 +35,7 @@ returns-2 : tie.Need-returns-2
 unfolding sectionStep withSection
 returns-2 c = let f = c .before .before in
     let m = f .before .before .before .before .before in
-    rw (← m .before .before .read-table-section .ensures, m .t .given .1, le-leb _ _ (f .before .if1 .left), ← f .count-fits .ensures, c .before .if2 .taken, c .one-fewer .ensures)
+    rw (← m .before .before .read-table-section .ensures, m .t .given .1, le-leb _ _ (f .before .if1 .left), ← f .section-fits .ensures, c .before .if2 .taken, c .one-fewer .ensures)
 
 enum-known-f : tie.Need-enum-known-f
 enum-known-f c = search needs
@@ -44,7 +44,7 @@ returns-3 : tie.Need-returns-3
 unfolding sectionStep withSection
 returns-3 c = let f = c .before in
     let m = f .before .before .before .before .before in
-    rw (← m .before .before .read-table-section .ensures, m .t .given .1, le-leb _ _ (f .before .if1 .left), ← f .count-fits .ensures, c .if2 .left)
+    rw (← m .before .before .read-table-section .ensures, m .t .given .1, le-leb _ _ (f .before .if1 .left), ← f .section-fits .ensures, c .if2 .left)
 
 returns-4 : tie.Need-returns-4
 unfolding sectionStep withSection
@@ -59,7 +59,7 @@ section-head-spec =
     read-table-section-requires
     enum-known-t
     returns
-    count-fits-requires
+    section-fits-requires
     add-past
     one-fewer-requires
     returns-2

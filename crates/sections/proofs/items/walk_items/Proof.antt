@@ -6,19 +6,19 @@ use lib.ListN.{length}
 use borrow.Author.Needs.{needs}
 use Rattle.stage.specs.declared.Stage.the-variants.{Program}
 use Rattle.lists.specs.Load.{loadOf}
-use Rattle.sections.specs.Load.{Waits}
+use Rattle.sections.specs.Waits.{Waits}
 use Rattle.sections.specs.Program.{programFrom, programStep}
 use Rattle.sections.proofs.Turns.{turn-zero, turn-end, turn-on, turn-stop, turn-waits, turn-length}
 use Rattle.sections.proofs.items.walk_items.Statement.{statement}
 use Rattle.sections.proofs.items.walk_items.Tie as tie
 
 abbrev Inv-loop : tie.InvT-loop
-Inv-loop g lists block core₀ course₀ next₀ i₀ core course next i =
-    (i ≤ 255) × (length core ≡ length core₀) × (Waits (loadOf g lists) (Program course next) block core)
-    × (programStep (loadOf g lists) course₀ next₀ block core₀ ≡ programFrom (255 - i) (loadOf g lists) course next block i core)
+Inv-loop g lists block core₀ counts₀ next₀ i₀ core counts next i =
+    (i ≤ 255) × (length core ≡ length core₀) × (Waits (loadOf g lists) (Program counts next) block core)
+    × (programStep (loadOf g lists) counts₀ next₀ block core₀ ≡ programFrom (255 - i) (loadOf g lists) counts next block i core)
 
 abbrev μ-loop : tie.MeasureT-loop
-μ-loop g lists block core₀ course₀ next₀ i₀ core course next i = 255 - i
+μ-loop g lists block core₀ counts₀ next₀ i₀ core counts next i = 255 - i
 
 loop-holds : tie.Need-loop-holds Inv-loop μ-loop
 unfolding programStep
@@ -35,7 +35,7 @@ same-length c = c .before .before .before .loop .inv .1
 
 returns : tie.Need-returns Inv-loop μ-loop
 returns c = let l = c .before .before .before .loop in
-    turn-zero _ _ (l .course) (l .next) (l .i) (l .core) _ (c .before .before .loop-test .taken) (c .if1 .taken) (l .inv .3)
+    turn-zero _ _ (l .counts) (l .next) (l .i) (l .core) _ (c .before .before .loop-test .taken) (c .if1 .taken) (l .inv .3)
 
 item-step-requires : tie.Need-item-step-requires Inv-loop μ-loop
 item-step-requires c κs = let l = c .before .before .before .before .loop in
@@ -49,16 +49,16 @@ loop-less : tie.Need-loop-less Inv-loop μ-loop
 loop-less c = let s = c .before .before .before .before .before in
     let b = s .before .before in
     let l = b .before .before .before .loop in
-    let o = turn-on _ _ (l .course) (l .next) (l .i) (l .core) _ (b .before .before .loop-test .taken) (b .if1 .left) (l .inv .3) _ _ (s .item-step .ensures) _ _ _ (c .before .d .given .1) in
+    let o = turn-on _ _ (l .counts) (l .next) (l .i) (l .core) _ (b .before .before .loop-test .taken) (b .if1 .left) (l .inv .3) _ _ (s .item-step .ensures) _ _ _ (c .before .d .given .1) in
     omega (arith, o .0, o .1)
 
 loop-again : tie.Need-loop-again Inv-loop μ-loop
 loop-again c = let s = c .before .before .before .before .before in
     let b = s .before .before in
     let l = b .before .before .before .loop in
-    let o = turn-on _ _ (l .course) (l .next) (l .i) (l .core) _ (b .before .before .loop-test .taken) (b .if1 .left) (l .inv .3) _ _ (s .item-step .ensures) _ _ _ (c .before .d .given .1) in
-    let w = turn-waits _ _ (l .course) (l .next) (l .i) (l .core) _ (b .before .before .loop-test .taken) (b .if1 .left) (l .inv .3) _ _ (s .item-step .ensures) _ _ _ (c .before .d .given .1) (l .inv .2) in
-    let n = turn-length _ _ (l .course) (l .next) (l .i) (l .core) _ (b .before .before .loop-test .taken) (b .if1 .left) (l .inv .3) _ _ (s .item-step .ensures) (l .inv .2) in
+    let o = turn-on _ _ (l .counts) (l .next) (l .i) (l .core) _ (b .before .before .loop-test .taken) (b .if1 .left) (l .inv .3) _ _ (s .item-step .ensures) _ _ _ (c .before .d .given .1) in
+    let w = turn-waits _ _ (l .counts) (l .next) (l .i) (l .core) _ (b .before .before .loop-test .taken) (b .if1 .left) (l .inv .3) _ _ (s .item-step .ensures) _ _ _ (c .before .d .given .1) (l .inv .2) in
+    let n = turn-length _ _ (l .counts) (l .next) (l .i) (l .core) _ (b .before .before .loop-test .taken) (b .if1 .left) (l .inv .3) _ _ (s .item-step .ensures) (l .inv .2) in
     (o .1, n ∙ l .inv .1, w, o .2)
 
 enum-known-r : tie.Need-enum-known-r Inv-loop μ-loop
@@ -68,19 +68,19 @@ same-length-2 : tie.Need-same-length-2 Inv-loop μ-loop
 same-length-2 c = let s = c .before .before .before .before .before in
     let b = s .before .before in
     let l = b .before .before .before .loop in
-    turn-length _ _ (l .course) (l .next) (l .i) (l .core) _ (b .before .before .loop-test .taken) (b .if1 .left) (l .inv .3) _ _ (s .item-step .ensures) (l .inv .2) ∙ l .inv .1
+    turn-length _ _ (l .counts) (l .next) (l .i) (l .core) _ (b .before .before .loop-test .taken) (b .if1 .left) (l .inv .3) _ _ (s .item-step .ensures) (l .inv .2) ∙ l .inv .1
 
 returns-2 : tie.Need-returns-2 Inv-loop μ-loop
 returns-2 c = let s = c .before .before .before .before .before in
     let b = s .before .before in
     let l = b .before .before .before .loop in
-    turn-stop _ _ (l .course) (l .next) (l .i) (l .core) _ (b .before .before .loop-test .taken) (b .if1 .left) (l .inv .3) _ _ (s .item-step .ensures) _ (c .before .r .given .1)
+    turn-stop _ _ (l .counts) (l .next) (l .i) (l .core) _ (b .before .before .loop-test .taken) (b .if1 .left) (l .inv .3) _ _ (s .item-step .ensures) _ (c .before .r .given .1)
 
 same-length-3 : tie.Need-same-length-3 Inv-loop μ-loop
 same-length-3 c = c .before .loop .inv .1
 
 returns-3 : tie.Need-returns-3 Inv-loop μ-loop
-returns-3 c = let l = c .before .loop in turn-end _ _ (l .course) (l .next) (l .i) (l .core) _ (c .loop-test .left) (l .inv .3)
+returns-3 c = let l = c .before .loop in turn-end _ _ (l .counts) (l .next) (l .i) (l .core) _ (c .loop-test .left) (l .inv .3)
 
 pub walk-items-spec : {M : Type 1} → statement M
 walk-items-spec =
