@@ -7,6 +7,42 @@
 /* "Identifiers in octal Fieldata" */
 static const uint64_t MODRC = 0502224112710, PRORC = 0502527242710, TRMRC = 0503127222710;
 
+/* Words of a block. The label's are: the name in words 0 and 1, and */
+enum { TYPE_FLAG = 2, COUNTS = 3, FIRST_TABLE = 4, SEGMENTS_AND_SECTIONS = 253, LABEL_CHECKSUM = 254, NAME_AGAIN = 255 };
+
+/* of the others, where "the end at word 254 closes the block" */
+enum { IDENTIFIER = 0, FIRST = 1, LAST = 254, CHECKSUM = 255 };
+
+/* "12 Fieldata characters: A to Z are octal 06 to 37, 0 to 9 are 60 to 71, hyphen 41, space 05." */
+enum {
+  NAME_LENGTH = 12,
+  IN_WORD = 6,
+  CHARACTER_BITS = 6,
+  LETTER_A = 006,
+  LETTER_Z = 037,
+  DIGIT_0 = 060,
+  DIGIT_9 = 071,
+  HYPHEN = 041,
+  SPACE = 005
+};
+
+/* "table types carried are 0 (jump switch), 2 (channel), 3 (unit) and 12 (core)" */
+enum { JUMP_SWITCH = 0, CHANNEL = 2, UNIT = 3, CORE = 12, TYPES = 16, TYPES_CARRIED = 4 };
+
+/* "two words for types 0, 2 and 3, three for type 12"; "Segment section, first and once, four words" */
+enum { IO_ENTRY = 2, CORE_ENTRY = 3, SEGMENT = 4 };
+
+/* Bits 35-34 of what heads a table section or a group. */
+enum { TABLE_SECTION = 1, GROUP = 2 };
+
+/* The three-bit types of modification that are carried. */
+enum { BY_AREA = 0, BY_PAIR = 1, BY_TABLE = 2, BY_CHANNEL = 4, BY_UNIT = 7 };
+
+/* "1 bit for no change, 13 for type 010 with the field's bit 15 set, 4 for any other type" */
+enum { NO_CHANGE = 1, CHANGE = 4, LONG_CHANGE = 13 };
+
+enum { LONG_CONSTANT_LEAST = 64 };
+
 /* ---- words and runs */
 
 /* Bits high to low of a word: part(word, 33, 18) is 01's "bits 33-18". */
@@ -51,13 +87,9 @@ static bool any_shares_with(struct run one, const struct run *runs, uint64_t cou
   return false;
 }
 
-static uint64_t answer(uint64_t code, uint64_t value) {
-  return code << 32 | value;
-}
-
 /* "A refusal returns its number and the value 0." */
 static uint64_t refused(uint64_t number) {
-  return answer(number, 0);
+  return told(number, 0);
 }
 
 /* ---- make */
@@ -65,7 +97,7 @@ static uint64_t refused(uint64_t number) {
 /* Refusal 3: "map not eight pairs, or breaking its rule": "The stretches lie inside the core and share no word." */
 static bool read_map(struct run *stretches, uint64_t core_length, const uint64_t *map, uint64_t map_length) {
   struct run core = {0, core_length};
-  if (map_length != 2 * ROOMS)
+  if (map_length != MAP_LENGTH)
     return false;
   for (unsigned room = 0; room < ROOMS; room++) {
     stretches[room] = (struct run){map[2 * room], map[2 * room + 1]};
@@ -78,13 +110,13 @@ static bool read_map(struct run *stretches, uint64_t core_length, const uint64_t
 uint64_t reader_make(struct reader *desk, uint64_t core_length, const uint64_t *map, uint64_t map_length) {
   struct run stretches[ROOMS];
   if (core_length == 0 || core_length > CORE_MOST)
-    return refused(2);
+    return refused(REFUSED_CORE_LENGTH);
   if (!read_map(stretches, core_length, map, map_length))
-    return refused(3);
+    return refused(REFUSED_MAP);
   memset(desk, 0, sizeof *desk);
   desk->core_length = core_length;
   memcpy(desk->map, stretches, sizeof stretches);
-  return answer(MADE, 0);
+  return told(MADE, 0);
 }
 
 /* ---- open */
@@ -125,13 +157,13 @@ static bool area_fits(const struct reader *desk, uint64_t room, struct run area)
 /* Refusal 8: "over 128 entries, half a pair, an I/O number over 65,535, a table not inside the area, or two tables sharing a
    word". The lists are copied into the load. */
 static bool read_lists(struct load *load, const uint64_t *io, uint64_t io_length, const uint64_t *tables, uint64_t tables_length) {
-  if (io_length > ENTRIES_MOST || tables_length > 2 * ENTRIES_MOST || tables_length % 2 != 0)
+  if (io_length > ENTRIES_MOST || tables_length > PAIRS_MOST || tables_length % 2 != 0)
     return false;
   load->io_count = io_length;
   load->table_count = tables_length / 2;
   for (uint64_t i = 0; i < load->io_count; i++) {
     load->io[i] = io[i];
-    if (io[i] > 65535)
+    if (io[i] > VALUE_MOST)
       return false;
   }
   for (uint64_t i = 0; i < load->table_count; i++) {
@@ -152,39 +184,38 @@ uint64_t reader_open(struct reader *desk, uint64_t *core, uint64_t core_length, 
   struct load load = {.stage = LABEL_DUE, .room = room, .area = {area, size}};
   unsigned place = 0;
   if (core_length != desk->core_length)
-    return refused(2);
+    return refused(REFUSED_CORE_LENGTH);
   if (room >= ROOMS)
-    return refused(4);
-  if (places_held(desk, room) == 2)
-    return refused(5);
+    return refused(REFUSED_ROOM);
+  if (places_held(desk, room) == HELD_MOST)
+    return refused(REFUSED_HOLDS_TWO);
   if (places_held(desk, room) == 1 && places_free(desk) <= rooms_without(desk)) /* "F is not greater than H" */
-    return refused(6);
+    return refused(REFUSED_HOLDS_ONE);
   if (!area_fits(desk, room, load.area))
-    return refused(7);
+    return refused(REFUSED_AREA);
   if (!read_lists(&load, io, io_length, tables, tables_length))
-    return refused(8);
+    return refused(REFUSED_LISTS);
   while (desk->places[place].stage != FREE) /* "It gives the lowest free place": one is free, for F is at least H */
     place++;
   desk->places[place] = load;
   clear_area(&load, core);
-  return answer(OPENED, place);
+  return told(OPENED, place);
 }
 
 /* ---- the label */
 
-/* "A to Z are octal 06 to 37, 0 to 9 are 60 to 71" */
 static bool letter_or_digit(uint64_t character) {
-  return (character >= 006 && character <= 037) || (character >= 060 && character <= 071);
+  return (character >= LETTER_A && character <= LETTER_Z) || (character >= DIGIT_0 && character <= DIGIT_9);
 }
 
-/* "The first is a letter or digit; spaces only at the end." Hyphen 41, space 05. */
+/* "The first is a letter or digit; spaces only at the end." */
 static bool name_is_right(const uint64_t *block) {
   bool ended = false;
-  for (unsigned i = 0; i < 12; i++) {
-    unsigned low = 30 - 6 * (i % 6);
-    uint64_t character = part(block[i / 6], low + 5, low);
-    bool named = letter_or_digit(character) || (i > 0 && character == 041);
-    if (i > 0 && character == 005)
+  for (unsigned i = 0; i < NAME_LENGTH; i++) {
+    unsigned low = BITS_IN_WORD - CHARACTER_BITS * (i % IN_WORD + 1);
+    uint64_t character = part(block[i / IN_WORD], low + CHARACTER_BITS - 1, low);
+    bool named = letter_or_digit(character) || (i > 0 && character == HYPHEN);
+    if (i > 0 && character == SPACE)
       ended = true;
     else if (ended || !named)
       return false;
@@ -195,13 +226,13 @@ static bool name_is_right(const uint64_t *block) {
 /* "table types carried are 0 (jump switch), 2 (channel), 3 (unit) and 12 (core), in rising order, none twice, none with 0 entries."
    Word 3 counts tables in bits 28-18 and entries in bits 10-0; a table's word has its type in bits 35-32, its entries in bits 8-0.
    Gives the entries of each type. */
-static bool read_label_tables(const uint64_t *block, uint64_t entries[16]) {
-  uint64_t tables = part(block[3], 28, 18), total = 0, type_least = 0;
-  if (tables > 4) /* four types, none twice */
+static bool read_label_tables(const uint64_t *block, uint64_t entries[TYPES]) {
+  uint64_t tables = part(block[COUNTS], 28, 18), total = 0, type_least = 0;
+  if (tables > TYPES_CARRIED) /* four types, none twice */
     return false;
   for (uint64_t i = 0; i < tables; i++) {
-    uint64_t type = part(block[4 + i], 35, 32), count = part(block[4 + i], 8, 0);
-    if (type != 0 && type != 2 && type != 3 && type != 12)
+    uint64_t type = part(block[FIRST_TABLE + i], 35, 32), count = part(block[FIRST_TABLE + i], 8, 0);
+    if (type != JUMP_SWITCH && type != CHANNEL && type != UNIT && type != CORE)
       return false;
     if (type < type_least || count == 0)
       return false;
@@ -209,12 +240,13 @@ static bool read_label_tables(const uint64_t *block, uint64_t entries[16]) {
     type_least = type + 1;
     total += count;
   }
-  return total == part(block[3], 10, 0); /* "The entry total must agree" */
+  return total == part(block[COUNTS], 10, 0); /* "The entry total must agree" */
 }
 
 /* "Types 0 and 2 together have at most 16 entries, with type 3 at most 128; type 12 has at most 128." */
-static bool entries_in_bounds(const uint64_t entries[16]) {
-  return entries[0] + entries[2] <= 16 && entries[0] + entries[2] + entries[3] <= 128 && entries[12] <= 128;
+static bool entries_in_bounds(const uint64_t entries[TYPES]) {
+  uint64_t channels = entries[JUMP_SWITCH] + entries[CHANNEL];
+  return channels <= CHANNELS_MOST && channels + entries[UNIT] <= ENTRIES_MOST && entries[CORE] <= ENTRIES_MOST;
 }
 
 /* "Word 253: bits 33-18 segments, bits 15-0 table sections, rest zero"; "the segment count is 1, and table sections are no more
@@ -224,33 +256,33 @@ static bool counts_are_right(uint64_t word, uint64_t core_entries) {
 }
 
 /* "Then 16 if the lists' counts differ from the file's or a jump switch or channel number is over 15." */
-static bool lists_suit(const struct load *load, const uint64_t entries[16]) {
-  if (load->io_count != load->channels + entries[3] || load->table_count != entries[12])
+static bool lists_suit(const struct load *load, const uint64_t entries[TYPES]) {
+  if (load->io_count != load->channels + entries[UNIT] || load->table_count != entries[CORE])
     return false;
   for (uint64_t i = 0; i < load->channels; i++)
-    if (load->io[i] > 15)
+    if (load->io[i] > CHANNEL_MOST)
       return false;
   return true;
 }
 
 /* The label. Gives the fault's number, or 0. */
 static unsigned read_label(struct load *load, const uint64_t *block) {
-  uint64_t entries[16] = {0};
+  uint64_t entries[TYPES] = {0};
   if (!name_is_right(block))
-    return 15;
-  if (part(block[2], 35, 33) != 1)
-    return 14;
+    return REFUSED_LABEL;
+  if (part(block[TYPE_FLAG], 35, 33) != 1)
+    return REFUSED_TYPE_FLAG;
   if (!read_label_tables(block, entries) || !entries_in_bounds(entries))
-    return 15;
-  if (!counts_are_right(block[253], entries[12]))
-    return 15;
-  if (block[255] != block[0]) /* "Word 255 repeats word 0." */
-    return 15;
-  load->no_longer_tables = bit(block[3], 35);
-  load->channels = entries[0] + entries[2];
-  load->sections = part(block[253], 15, 0);
+    return REFUSED_LABEL;
+  if (!counts_are_right(block[SEGMENTS_AND_SECTIONS], entries[CORE]))
+    return REFUSED_LABEL;
+  if (block[NAME_AGAIN] != block[0]) /* "Word 255 repeats word 0." */
+    return REFUSED_LABEL;
+  load->no_longer_tables = bit(block[COUNTS], 35);
+  load->channels = entries[JUMP_SWITCH] + entries[CHANNEL];
+  load->sections = part(block[SEGMENTS_AND_SECTIONS], 15, 0);
   if (!lists_suit(load, entries))
-    return 16;
+    return REFUSED_ASSIGNMENTS;
   /* "With no entries there is no modification block." */
   load->stage = load->io_count + load->table_count == 0 ? SEGMENT_DUE : ENTRIES_DUE;
   return 0;
@@ -267,12 +299,12 @@ static bool length_suits(const struct load *load, uint64_t table, uint64_t minim
 /* "Words 1 to 254 hold entries, split across blocks where needed": "two words for types 0, 2 and 3, three for type 12"; "only the
    third word's bits 15-0 matter, the minimum length." */
 static unsigned read_entries(struct load *load, const uint64_t *block) {
-  uint64_t io_words = 2 * load->io_count, words = io_words + 3 * load->table_count;
-  for (unsigned at = 1; at <= 254 && load->entry_words < words; at++) {
+  uint64_t io_words = IO_ENTRY * load->io_count, words = io_words + CORE_ENTRY * load->table_count;
+  for (unsigned at = FIRST; at <= LAST && load->entry_words < words; at++) {
     uint64_t core_word = load->entry_words - io_words; /* among the words of the core entries, once those are reached */
-    bool third = load->entry_words >= io_words && core_word % 3 == 2;
-    if (third && !length_suits(load, core_word / 3, part(block[at], 15, 0)))
-      return 16;
+    bool third = load->entry_words >= io_words && core_word % CORE_ENTRY == CORE_ENTRY - 1;
+    if (third && !length_suits(load, core_word / CORE_ENTRY, part(block[at], 15, 0)))
+      return REFUSED_ASSIGNMENTS;
     load->entry_words++;
   }
   if (load->entry_words == words)
@@ -298,14 +330,14 @@ static bool bank_lies_right(const struct load *load, struct run bank) {
    so that it always heads a block: its four words are never split. */
 static unsigned read_segment(struct load *load, const uint64_t *block, unsigned *at) {
   if (!read_bank(block[*at], &load->ibank) || !read_bank(block[*at + 1], &load->dbank))
-    return 17;
+    return REFUSED_SECTION;
   if (load->ibank.length == 0) /* "IBANK count at least 1; DBANK may be 0." */
-    return 17;
+    return REFUSED_SECTION;
   if (!bank_lies_right(load, load->ibank) || !bank_lies_right(load, load->dbank) || share(load->ibank, load->dbank))
-    return 17;
+    return REFUSED_SECTION;
   load->in_table = false;
   load->stage = GROUP_DUE;
-  *at += 4;
+  *at += SEGMENT;
   return 0;
 }
 
@@ -313,12 +345,12 @@ static unsigned read_segment(struct load *load, const uint64_t *block, unsigned 
    table's number, rising from section to section. All other words, and a number with no table, are 17." */
 static unsigned read_table_section(struct load *load, const uint64_t *block, unsigned *at) {
   uint64_t word = block[*at], count = part(word, 33, 18), table = part(word, 7, 0);
-  if (part(word, 35, 34) != 1 || part(word, 17, 8) != 0)
-    return 17;
+  if (part(word, 35, 34) != TABLE_SECTION || part(word, 17, 8) != 0)
+    return REFUSED_SECTION;
   if (table < load->table_least || table >= load->table_count)
-    return 17;
+    return REFUSED_SECTION;
   if (count == 0 || count > load->tables[table].length)
-    return 17;
+    return REFUSED_SECTION;
   load->in_table = true;
   load->table = table;
   load->section_words = count;
@@ -336,9 +368,9 @@ static unsigned read_table_section(struct load *load, const uint64_t *block, uns
 static unsigned pair_value(const struct load *load, uint64_t field, int64_t *value) {
   uint64_t address = part(field, 13, 7), length = part(field, 6, 0);
   if (bit(field, 15))
-    return 19;
+    return REFUSED_FORM;
   if (address >= load->table_count || length >= load->table_count)
-    return 20;
+    return REFUSED_REFERENCE;
   int64_t added = (int64_t)load->tables[length].length;
   *value = (int64_t)load->tables[address].start + (bit(field, 14) ? -added : added);
   return 0;
@@ -353,12 +385,12 @@ static unsigned table_value(const struct load *load, uint64_t field, uint64_t ni
   bool length = is_long ? bit(nine, 8) : bit(field, 13);
   uint64_t number = is_long ? part(nine, 6, 0) : part(field, 12, 6);
   int64_t constant = (int64_t)(is_long ? part(field, 13, 0) : part(field, 5, 0));
-  if (is_long && (constant < 64 || bit(nine, 7)))
-    return 19;
+  if (is_long && (constant < LONG_CONSTANT_LEAST || bit(nine, 7)))
+    return REFUSED_FORM;
   if (minus && constant == 0)
-    return 19;
+    return REFUSED_FORM;
   if (number >= load->table_count)
-    return 20;
+    return REFUSED_REFERENCE;
   struct run table = load->tables[number];
   *value = (int64_t)(length ? table.length : table.start) + (minus ? -constant : constant);
   return 0;
@@ -368,9 +400,9 @@ static unsigned table_value(const struct load *load, uint64_t field, uint64_t ni
 static unsigned change_channel(const struct load *load, bool left, uint64_t *word) {
   uint64_t number = part(*word, 25, 22);
   if (!left)
-    return 19;
+    return REFUSED_FORM;
   if (number >= load->channels)
-    return 20;
+    return REFUSED_REFERENCE;
   *word = with(*word, 25, 22, load->io[number]);
   return 0;
 }
@@ -378,7 +410,7 @@ static unsigned change_channel(const struct load *load, bool left, uint64_t *wor
 /* Type 111: "the field, a number of a type 3 entry, becomes its assignment" */
 static unsigned unit_value(const struct load *load, uint64_t field, int64_t *value) {
   if (field < load->channels || field >= load->io_count)
-    return 20;
+    return REFUSED_REFERENCE;
   *value = (int64_t)load->io[field];
   return 0;
 }
@@ -389,27 +421,27 @@ static unsigned change_half(const struct load *load, bool left, uint64_t type, u
   uint64_t field = part(*word, low + 15, low);
   int64_t value = 0;
   switch (type) {
-  case 0: /* 000: "field plus the area's address" */
+  case BY_AREA: /* 000: "field plus the area's address" */
     value = (int64_t)(field + load->area.start);
     break;
-  case 1:
+  case BY_PAIR:
     fault = pair_value(load, field, &value);
     break;
-  case 2:
+  case BY_TABLE:
     fault = table_value(load, field, nine, &value);
     break;
-  case 4:
+  case BY_CHANNEL:
     return change_channel(load, left, word);
-  case 7:
+  case BY_UNIT:
     fault = unit_value(load, field, &value);
     break;
   default:
-    fault = 19; /* "Others are 19." */
+    fault = REFUSED_FORM; /* "Others are 19." */
   }
   if (fault != 0)
     return fault;
-  if (value < 0 || value > 65535)
-    return 21;
+  if (value < 0 || value > VALUE_MOST)
+    return REFUSED_VALUE;
   *word = with(*word, low + 15, low, (uint64_t)value);
   return 0;
 }
@@ -420,18 +452,18 @@ static unsigned change_half(const struct load *load, bool left, uint64_t type, u
 struct group {
   const uint64_t *words;
   uint64_t program_words;
-  uint64_t indicator_bits; /* 36 for each of the words after those */
+  uint64_t indicator_bits; /* of the words after those */
   const uint64_t *last;    /* its last word */
 };
 
 /* `count` of the indicator bits, from bit `at` on. "Indicators are read from the last word of the group, most significant bit
    first, and run on into the word before it." */
 static uint64_t indicator(const struct group *group, uint64_t at, unsigned count) {
-  const uint64_t *word = group->last - at / 36;
-  unsigned unread = 36 - (unsigned)(at % 36); /* so many bits of this word are still to be read */
+  const uint64_t *word = group->last - at / BITS_IN_WORD;
+  unsigned unread = BITS_IN_WORD - (unsigned)(at % BITS_IN_WORD); /* so many bits of this word are still to be read */
   if (count <= unread)
     return part(*word, unread - 1, unread - count);
-  return part(*word, unread - 1, 0) << (count - unread) | *(word - 1) >> (36 - (count - unread));
+  return part(*word, unread - 1, 0) << (count - unread) | *(word - 1) >> (BITS_IN_WORD - (count - unread));
 }
 
 /* How many bits the indicator at bit `at` has: "1 bit for no change, 13 for type 010 with the field's bit 15 set, 4 for any other
@@ -442,10 +474,10 @@ static unsigned indicator_length(const struct group *group, uint64_t at, uint64_
   if (there == 0)
     return 0;
   if (indicator(group, at, 1) == 0)
-    return 1;
-  if (there < 4)
+    return NO_CHANGE;
+  if (there < CHANGE)
     return 0;
-  length = indicator(group, at + 1, 3) == 2 && bit(word, left ? 33 : 15) ? 13 : 4;
+  length = indicator(group, at + 1, 3) == BY_TABLE && bit(word, left ? 33 : 15) ? LONG_CHANGE : CHANGE;
   return length <= there ? length : 0;
 }
 
@@ -458,7 +490,7 @@ static bool indicators_fit(const struct group *group) {
       return false;
     at += length;
   }
-  return group->indicator_bits - at < 36;
+  return group->indicator_bits - at < BITS_IN_WORD;
 }
 
 /* "Each program word has a left indicator, then a right": changes the words and stores them from `to` on. Words stored before a
@@ -469,8 +501,8 @@ static unsigned store_words(const struct load *load, const struct group *group, 
     uint64_t word = group->words[i];
     for (int half = 0; half < 2; half++) {
       unsigned length = indicator_length(group, at, group->words[i], half == 0), fault = 0;
-      uint64_t nine = length == 13 ? indicator(group, at + 4, 9) : 0;
-      if (length > 1)
+      uint64_t nine = length == LONG_CHANGE ? indicator(group, at + CHANGE, LONG_CHANGE - CHANGE) : 0;
+      if (length > NO_CHANGE)
         fault = change_half(load, half == 0, indicator(group, at + 1, 3), nine, &word);
       if (fault != 0)
         return fault;
@@ -510,13 +542,13 @@ static unsigned read_group(struct load *load, uint64_t *core, const uint64_t *bl
   uint64_t word = block[*at], words = part(word, 33, 26), program_words = part(word, 25, 18), relative = part(word, 15, 0);
   struct home home;
   unsigned fault;
-  if (part(word, 35, 34) != 2 || program_words == 0 || program_words > words || *at + words > 254)
-    return 18;
+  if (part(word, 35, 34) != GROUP || program_words == 0 || program_words > words || *at + words > LAST)
+    return REFUSED_GROUP;
   if (!find_home(load, bit(word, 16), &home) || !inside((struct run){relative, program_words}, home.run))
-    return 18;
-  struct group group = {block + *at + 1, program_words, 36 * (words - program_words), block + *at + words};
+    return REFUSED_GROUP;
+  struct group group = {block + *at + 1, program_words, BITS_IN_WORD * (words - program_words), block + *at + words};
   if (!indicators_fit(&group))
-    return 18;
+    return REFUSED_GROUP;
   fault = store_words(load, &group, core + home.zero + relative);
   if (bit(word, 17))
     end_section(load);
@@ -526,8 +558,8 @@ static unsigned read_group(struct load *load, uint64_t *core, const uint64_t *bl
 
 /* "where an identifier's first word is due, a zero word or the end at word 254 closes the block." */
 static unsigned read_program(struct load *load, uint64_t *core, const uint64_t *block) {
-  unsigned at = 1, fault = 0;
-  while (fault == 0 && load->stage != TERMINATION_DUE && at <= 254 && block[at] != 0) {
+  unsigned at = FIRST, fault = 0;
+  while (fault == 0 && load->stage != TERMINATION_DUE && at <= LAST && block[at] != 0) {
     if (load->stage == SEGMENT_DUE)
       fault = read_segment(load, block, &at);
     else if (load->stage == TABLE_SECTION_DUE)
@@ -542,9 +574,9 @@ static unsigned read_program(struct load *load, uint64_t *core, const uint64_t *
 
 /* "Termination: word 1 bits 15-0 give the start, relative to the Program Name." Refusal 22: "start not in the IBANK". */
 static unsigned read_termination(struct load *load, const uint64_t *block) {
-  uint64_t start = part(block[1], 15, 0);
+  uint64_t start = part(block[FIRST], 15, 0);
   if (!inside((struct run){start, 1}, load->ibank))
-    return 22;
+    return REFUSED_START;
   load->start = load->area.start + start;
   load->stage = COMPLETE;
   return 0;
@@ -566,14 +598,14 @@ static bool is_block(const uint64_t *block, uint64_t block_length) {
   if (block_length != WORDS_IN_BLOCK)
     return false;
   for (unsigned i = 0; i < WORDS_IN_BLOCK; i++)
-    if (block[i] >> 36 != 0)
+    if (block[i] >> BITS_IN_WORD != 0)
       return false;
   return true;
 }
 
 /* "The checksum word is word 254 of the label and word 255 elsewhere." */
 static bool is_sealed(const struct load *load, const uint64_t *block) {
-  unsigned at = load->stage == LABEL_DUE ? 254 : 255;
+  unsigned at = load->stage == LABEL_DUE ? LABEL_CHECKSUM : CHECKSUM;
   return block[at] == reader_checksum(block, at);
 }
 
@@ -584,11 +616,11 @@ static unsigned read_block(struct load *load, uint64_t *core, const uint64_t *bl
   case LABEL_DUE:
     return read_label(load, block);
   case ENTRIES_DUE:
-    return block[0] == MODRC ? read_entries(load, block) : 13;
+    return block[IDENTIFIER] == MODRC ? read_entries(load, block) : REFUSED_RECORD;
   case TERMINATION_DUE:
-    return block[0] == TRMRC ? read_termination(load, block) : 13;
+    return block[IDENTIFIER] == TRMRC ? read_termination(load, block) : REFUSED_RECORD;
   default:
-    return block[0] == PRORC ? read_program(load, core, block) : 13;
+    return block[IDENTIFIER] == PRORC ? read_program(load, core, block) : REFUSED_RECORD;
   }
 }
 
@@ -600,10 +632,10 @@ static bool holds(const struct reader *desk, uint64_t room, uint64_t place) {
 /* Refusals 2, 4 and 9, which feed and release share; 0 where none is due. */
 static unsigned not_theirs(const struct reader *desk, uint64_t core_length, uint64_t room, uint64_t place) {
   if (core_length != desk->core_length)
-    return 2;
+    return REFUSED_CORE_LENGTH;
   if (room >= ROOMS)
-    return 4;
-  return holds(desk, room, place) ? 0 : 9;
+    return REFUSED_ROOM;
+  return holds(desk, room, place) ? 0 : REFUSED_PLACE;
 }
 
 uint64_t reader_feed(struct reader *desk, uint64_t *core, uint64_t core_length, uint64_t room, uint64_t place,
@@ -614,11 +646,11 @@ uint64_t reader_feed(struct reader *desk, uint64_t *core, uint64_t core_length, 
     return refused(fault);
   load = &desk->places[place];
   if (load->stage == COMPLETE || load->stage == BROKEN)
-    return refused(10);
+    return refused(REFUSED_ENDED);
   if (!is_block(block, block_length))
-    return refused(11);
+    return refused(REFUSED_BLOCK);
   if (!is_sealed(load, block))
-    return refused(12);
+    return refused(REFUSED_CHECKSUM);
   fault = read_block(load, core, block);
   if (fault != 0) { /* "Refusals 13 to 22 set the whole area to zero and mark the load broken." */
     clear_area(load, core);
@@ -626,7 +658,7 @@ uint64_t reader_feed(struct reader *desk, uint64_t *core, uint64_t core_length, 
     return refused(fault);
   }
   /* "An accepted block answers more, and the termination block answers done with the absolute start." */
-  return load->stage == COMPLETE ? answer(DONE, load->start) : answer(MORE, 0);
+  return load->stage == COMPLETE ? told(DONE, load->start) : told(MORE, 0);
 }
 
 /* ---- release */
@@ -637,5 +669,5 @@ uint64_t reader_release(struct reader *desk, uint64_t core_length, uint64_t room
   if (fault != 0)
     return refused(fault);
   desk->places[place].stage = FREE;
-  return answer(RELEASED, 0);
+  return told(RELEASED, 0);
 }

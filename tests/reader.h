@@ -1,5 +1,6 @@
-/* reader.h: a second loader, in plain C, to hold the proved one against. It is written from document 01 ("01") and the reference
-   of 1962 that 01 calls 001, and shares nothing with the proved loader.
+/* reader.h: a second loader, in plain C, to compare the proved one with. It is written from document 01 ("01") and the reference
+   of 1962 that 01 calls 001, and shares nothing with the proved loader. Of the other headers it takes rules.h alone: 01's limits,
+   answers and refusals by name.
 
    Each call takes what the call of that name in clamp.h takes, and gives the same answer. Only the desk is another: a struct,
    which cannot be of a wrong length or unsound, so that refusal 1 is never given here. */
@@ -10,10 +11,7 @@
 #include <stdbool.h>
 #include <stdint.h>
 
-enum { ROOMS = 8, PLACES = 12, ENTRIES_MOST = 128, WORDS_IN_BLOCK = 256, CORE_MOST = 65536 };
-
-/* The answers; an answer is code * 2^32 + value. Codes 1 to 22 are 01's refusals. */
-enum { MADE = 64, OPENED = 65, MORE = 66, DONE = 67, RELEASED = 68 };
+#include "rules.h"
 
 /* A run of words: a stretch, an area or a table by its absolute address; a bank by its address relative to the Program Name. */
 struct run {

@@ -9,8 +9,9 @@
 #include <stdio.h>
 #include <stdlib.h>
 #include <string.h>
-#include <sys/mman.h>
 #include <unistd.h>
+
+#include "guarded.h"
 
 enum { FENCE = 8 };
 
@@ -27,13 +28,7 @@ uint64_t *desk_before, desk_words, core_length;
 
 /* For up to so many numbers. */
 static struct lent lent_make(uint64_t most) {
-  size_t page = (size_t)sysconf(_SC_PAGESIZE), bytes = ((most + FENCE) * sizeof(uint64_t) + page - 1) / page * page;
-  char *all = mmap(NULL, bytes + page, PROT_READ | PROT_WRITE, MAP_PRIVATE | MAP_ANONYMOUS, -1, 0);
-  if (all == MAP_FAILED || mprotect(all + bytes, page, PROT_NONE) != 0) {
-    printf("differ: no memory\n0 passed, 1 failed\n");
-    exit(1);
-  }
-  return (struct lent){(uint64_t *)(all + bytes), NULL};
+  return (struct lent){guarded_end(most + FENCE), NULL};
 }
 
 uint64_t *lend(struct lent *lent, uint64_t length) {
@@ -90,10 +85,6 @@ void begin_core(uint64_t length) {
 
 /* ---- comparing */
 
-uint64_t told(uint64_t code, uint64_t value) {
-  return code << 32 | value;
-}
-
 static void print_answer(const char *who, uint64_t answer) {
   printf(", %s %" PRIu64 " %" PRIu64, who, CLAMP_CODE(answer), CLAMP_VALUE(answer));
 }
@@ -131,7 +122,7 @@ static void compare(const char *call, uint64_t proved, uint64_t plain, uint64_t 
     fail(call, "another answer was foretold", proved, plain, answer);
   if (!cores_agree())
     fail(call, "the cores differ", proved, plain, answer);
-  if (CLAMP_CODE(proved) <= 12 && !desk_is_as_before())
+  if (changes_nothing(CLAMP_CODE(proved)) && !desk_is_as_before())
     fail(call, "refused, and the desk changed", proved, plain, answer);
   if (!fence_stands(lent_desk.start))
     fail(call, "written before the desk", proved, plain, answer);
@@ -193,7 +184,7 @@ uint64_t both_release(uint64_t length, uint64_t room, uint64_t place, uint64_t a
 }
 
 struct numbers map_of(const struct run *stretches) {
-  struct numbers map = {.count = 2 * ROOMS};
+  struct numbers map = {.count = MAP_LENGTH};
   for (unsigned room = 0; room < ROOMS; room++) {
     map.at[2 * room] = stretches[room].start;
     map.at[2 * room + 1] = stretches[room].length;

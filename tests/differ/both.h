@@ -40,8 +40,6 @@ void set_up(void);
 /* Both cores of this length, with the same words by chance. */
 void begin_core(uint64_t length);
 
-uint64_t told(uint64_t code, uint64_t value); /* an answer */
-
 /* The four calls. `answer` is the one that is foretold, or 0. The length of a core may be another than the desk's. */
 uint64_t both_make(uint64_t length, const struct numbers *map, uint64_t answer);
 uint64_t both_open(uint64_t length, uint64_t room, struct run area, const struct numbers *io, const struct numbers *tables,
