@@ -66,7 +66,7 @@ static inline uint64_t entry_blocks(uint64_t io, uint64_t tables) {
 /* ---- indicators and fields */
 
 /* Modification types. */
-enum { CHANGE_AREA = 0, CHANGE_PAIR = 1, CHANGE_TABLE = 2, CHANGE_CHANNEL = 4, CHANGE_UNIT = 7 };
+enum { CHANGE_AREA = 0, CHANGE_PAIR = 1, CHANGE_TABLE = 2, CHANGE_CHANNEL = 4, CHANGE_UNIT = 7, MODIFICATION_TYPES = 8 };
 
 /* How many bits an indicator has: for no change; with its type; and with nine more in the long form of type 010. */
 enum { PLAIN_BITS = 1, CHANGE_BITS = 4, LONG_MORE_BITS = 9, LONG_BITS = CHANGE_BITS + LONG_MORE_BITS };

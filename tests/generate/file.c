@@ -11,20 +11,20 @@
 /* What the third word of a core entry tells as the least length. */
 static uint64_t least_length(struct writer *writer, uint64_t length) {
   struct chance *chance = writer->chance;
-  if (length < 65535 && fires_sometime(writer, LENGTH_SHORT))
-    return one_in(chance, 2) ? length + 1 : between(chance, length + 1, 65535);
+  if (length < VALUE_MOST && fires_sometime(writer, LENGTH_SHORT))
+    return one_in(chance, 2) ? length + 1 : between(chance, length + 1, VALUE_MOST);
   if (length > 0 && fires_sometime(writer, LENGTH_STRICT))
     return one_in(chance, 2) ? length - 1 : below(chance, length);
   if (writer->file->no_longer_tables || one_in(chance, 3))
-    return smaller(length, 65535);
-  return below(chance, smaller(length, 65535) + 1);
+    return smaller(length, VALUE_MOST);
+  return below(chance, smaller(length, VALUE_MOST) + 1);
 }
 
 /* One word of an entry, in this block or the next. */
 static void write_entry_word(struct writer *writer, uint64_t word) {
-  if (writer->at > 254) {
+  if (writer->at > LAST_WORD) {
     end_block(writer);
-    begin_block(writer, "*MODRC");
+    begin_block(writer, MODRC);
   }
   write_word(writer, word);
 }
@@ -33,14 +33,13 @@ void write_entries(struct writer *writer) {
   const struct file *file = writer->file;
   if (file->io_count + file->table_count == 0)
     return;
-  begin_block(writer, "*MODRC");
-  for (uint64_t i = 0; i < 2 * file->io_count; i++)
+  begin_block(writer, MODRC);
+  for (uint64_t i = 0; i < IO_ENTRY_WORDS * file->io_count; i++)
     write_entry_word(writer, any_word(writer->chance));
   for (uint64_t table = 0; table < file->table_count; table++) {
-    write_entry_word(writer, any_word(writer->chance));
-    write_entry_word(writer, any_word(writer->chance));
-    write_entry_word(writer, any_word(writer->chance)); /* the third word; a fault is marked in the block that it stands in */
-    uint64_t *third = &block_of(writer)[writer->at - 1];
+    for (int i = 0; i < CORE_ENTRY_WORDS; i++)
+      write_entry_word(writer, any_word(writer->chance));
+    uint64_t *third = &block_of(writer)[writer->at - 1]; /* a fault is marked in the block that it stands in */
     *third = put(*third, 15, 0, least_length(writer, file->tables[table].length));
   }
   end_block(writer);
@@ -53,11 +52,11 @@ void write_termination(struct writer *writer) {
   struct file *file = writer->file;
   uint64_t start = file->ibank.start + (one_in(chance, 3) ? file->ibank.length - 1 : below(chance, file->ibank.length));
   uint64_t past = file->ibank.start + file->ibank.length;
-  begin_block(writer, "*TRMRC");
+  begin_block(writer, TRMRC);
   file->termination = file->count - 1;
   file->start = file->area.start + start;
-  if (past <= 65535 && one_in(chance, 2) && fires(writer, START_AWAY))
-    start = one_in(chance, 2) ? past : between(chance, past, 65535);
+  if (past <= VALUE_MOST && one_in(chance, 2) && fires(writer, START_AWAY))
+    start = one_in(chance, 2) ? past : between(chance, past, VALUE_MOST);
   else if (file->ibank.start > 0 && fires(writer, START_AWAY))
     start = one_in(chance, 2) ? file->ibank.start - 1 : below(chance, file->ibank.start);
   write_word(writer, put(any_word(chance), 15, 0, start));
@@ -67,28 +66,26 @@ void write_termination(struct writer *writer) {
 /* ---- faults of whole blocks, once a file is written */
 
 static uint64_t other_identifier(struct chance *chance, uint64_t identifier) {
-  static const char *const records[3] = {"*MODRC", "*PRORC", "*TRMRC"};
+  static const uint64_t records[3] = {MODRC, PRORC, TRMRC};
   uint64_t other;
   do
-    other = one_in(chance, 2)   ? fieldata(records[below(chance, 3)])
-            : one_in(chance, 4) ? 0
-                                : identifier ^ (uint64_t)1 << below(chance, 36);
+    other = one_in(chance, 2) ? records[below(chance, 3)] : one_in(chance, 4) ? 0 : identifier ^ any_bit(chance, BITS_IN_WORD);
   while (other == identifier);
   return other;
 }
 
 static void turn_bits(struct chance *chance, uint64_t *block) {
-  uint64_t most = one_in(chance, 2) ? 8 : 256;
+  uint64_t most = one_in(chance, 2) ? 8 : WORDS_IN_BLOCK;
   for (uint64_t times = between(chance, 1, 3); times > 0; times--) {
     uint64_t *word = &block[below(chance, most)];
-    *word ^= (uint64_t)1 << below(chance, 36);
+    *word ^= any_bit(chance, BITS_IN_WORD);
   }
 }
 
 static void block_faults(struct chance *chance, struct file *file) {
   unsigned later = (unsigned)between(chance, 1, file->count - 1), one = (unsigned)below(chance, file->count);
   if (file->wanted == RECORD) {
-    file->blocks[later][0] = other_identifier(chance, file->blocks[later][0]);
+    file->blocks[later][IDENTIFIER_WORD] = other_identifier(chance, file->blocks[later][IDENTIFIER_WORD]);
     seal(file->blocks[later], false);
     mark(file, later);
   } else if (file->wanted == WILD_BITS) {

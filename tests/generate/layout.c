@@ -2,19 +2,21 @@
 
 #include "writer.h"
 
+enum { BANKS = 2 }; /* IBANK and DBANK */
+
 static void lay_out_io(struct chance *chance, struct file *file) {
-  file->channels = few(chance, 16);
-  file->entries[0] = below(chance, file->channels + 1);
-  file->entries[2] = file->channels - file->entries[0];
-  file->entries[3] = few(chance, ENTRIES_MOST - file->channels);
-  file->io_count = file->channels + file->entries[3];
+  file->channels = few(chance, CHANNELS_MOST);
+  file->entries[TYPE_JUMP_SWITCH] = below(chance, file->channels + 1);
+  file->entries[TYPE_CHANNEL] = file->channels - file->entries[TYPE_JUMP_SWITCH];
+  file->entries[TYPE_UNIT] = few(chance, ENTRIES_MOST - file->channels);
+  file->io_count = file->channels + file->entries[TYPE_UNIT];
   for (uint64_t i = 0; i < file->io_count; i++) {
-    uint64_t most = i < file->channels ? 15 : 65535;
+    uint64_t most = i < file->channels ? CHANNEL_MOST : VALUE_MOST;
     file->io[i] = one_in(chance, 6) ? most : below(chance, most + 1);
   }
   if (file->wanted == CHANNEL_OVER_15 && file->channels > 0) {
     uint64_t which = below(chance, file->channels);
-    file->io[which] = one_in(chance, 2) ? 16 : between(chance, 16, 65535);
+    file->io[which] = one_in(chance, 2) ? CHANNEL_MOST + 1 : between(chance, CHANNEL_MOST + 1, VALUE_MOST);
   }
 }
 
@@ -43,7 +45,7 @@ static uint64_t take(struct chance *chance, uint64_t left) {
 /* The pieces of an area, in an order by chance and with gaps by chance: the tables, then IBANK and DBANK. Gives each more length,
    and a start relative to the area; an empty one may start anywhere. */
 static void lay_out_pieces(struct chance *chance, struct run *pieces, unsigned count, uint64_t size) {
-  unsigned order[ENTRIES_MOST + 2], ibank = count - 2;
+  unsigned order[ENTRIES_MOST + BANKS], ibank = count - BANKS;
   uint64_t left = size - 1 - pieces[0].length, at = 0;
   shuffle(chance, order, count);
   for (unsigned i = 0; i < count; i++) {
@@ -67,7 +69,7 @@ static void lay_out_pieces(struct chance *chance, struct run *pieces, unsigned c
 }
 
 struct run as_bank(struct run run) {
-  return (struct run){smaller(run.start, 65535), smaller(run.length, 65535)};
+  return (struct run){smaller(run.start, VALUE_MOST), smaller(run.length, VALUE_MOST)};
 }
 
 static bool is_section_fault(enum fault fault) {
@@ -78,24 +80,24 @@ static bool is_section_fault(enum fault fault) {
 static void choose_sections(struct chance *chance, struct file *file) {
   uint64_t often = is_section_fault(file->wanted) ? 1 : between(chance, 1, 3);
   for (unsigned i = 0; i < file->table_count; i++)
-    if (file->tables[i].length > 0 && file->tables[i].length <= 65535 && one_in(chance, often))
+    if (file->tables[i].length > 0 && file->tables[i].length <= VALUE_MOST && one_in(chance, often))
       file->section_tables[file->sections++] = i;
 }
 
 void lay_out(struct chance *chance, struct file *file) {
-  struct run pieces[ENTRIES_MOST + 2] = {{0, 0}};
+  struct run pieces[ENTRIES_MOST + BANKS] = {{0, 0}};
   unsigned tables = (unsigned)few(chance, ENTRIES_MOST);
   lay_out_io(chance, file);
   if (tables < 3 && (file->wanted == WHOLE_TABLE || file->wanted == PAIR_OVER || is_section_fault(file->wanted)))
     tables += 3;
   if (file->wanted == PAIR_OVER) /* a long table, so that it can be taken from an address to give less than 0 */
     pieces[0].length = file->area.length / 2;
-  lay_out_pieces(chance, pieces, tables + 2, file->area.length);
+  lay_out_pieces(chance, pieces, tables + BANKS, file->area.length);
   file->ibank = as_bank(pieces[tables]);
   file->dbank = as_bank(pieces[tables + 1]);
   if (file->wanted == GROUP_EMPTY_DBANK)
     file->dbank.length = 0;
-  file->table_count = file->entries[12] = tables;
+  file->table_count = file->entries[TYPE_CORE] = tables;
   for (unsigned i = 0; i < tables; i++)
     file->tables[i] = (struct run){file->area.start + pieces[i].start, pieces[i].length};
   if (file->wanted == WHOLE_TABLE) {

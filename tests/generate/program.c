@@ -7,18 +7,18 @@
 
 /* Where an identifier is due: closes the block early by chance, and always where so many words do not fit. */
 static void make_room(struct writer *writer, unsigned words) {
-  while (writer->at + words > 255 || (writer->early != 0 && one_in(writer->chance, writer->early))) {
-    if (writer->at <= 254)
+  while (writer->at + words > LAST_WORD + 1 || (writer->early != 0 && one_in(writer->chance, writer->early))) {
+    if (writer->at <= LAST_WORD)
       write_word(writer, 0);
     end_block(writer);
-    begin_block(writer, "*PRORC");
+    begin_block(writer, PRORC);
     if (writer->file->count > BLOCKS_MOST / 2)
       writer->early = 0;
   }
 }
 
 static uint64_t bank_word(struct run bank) {
-  return bank.length << 18 | bank.start;
+  return put(0, 33, 18, bank.length) | put(0, 15, 0, bank.start);
 }
 
 /* A run of at least one word in this one. */
@@ -34,11 +34,11 @@ static void bank_faults(struct writer *writer, struct run *ibank, struct run *db
   uint64_t size = file->area.length, table = file->table_count == 0 ? 0 : below(chance, file->table_count);
   struct run *bank = one_in(chance, 2) ? ibank : dbank;
   if (fires(writer, IBANK_EMPTY))
-    *ibank = (struct run){between(chance, 1, smaller(size, 65535)), 0};
-  if (size - bank->start < 65535 && fires(writer, BANK_LONG))
+    *ibank = (struct run){between(chance, 1, smaller(size, VALUE_MOST)), 0};
+  if (size - bank->start < VALUE_MOST && fires(writer, BANK_LONG))
     bank->length = size - bank->start + 1;
-  if (size < 65535 && fires(writer, BANK_AWAY))
-    bank->start = one_in(chance, 2) ? size + (bank == dbank && bank->length == 0) : between(chance, size + 1, 65535);
+  if (size < VALUE_MOST && fires(writer, BANK_AWAY))
+    bank->start = one_in(chance, 2) ? size + (bank == dbank && bank->length == 0) : between(chance, size + 1, VALUE_MOST);
   if (fires(writer, BANKS_SHARE))
     *dbank = some_of(chance, *ibank);
   if (file->table_count != 0 && file->tables[table].length != 0 && fires(writer, BANK_ON_TABLE)) {
@@ -51,20 +51,21 @@ static void bank_faults(struct writer *writer, struct run *ibank, struct run *db
 }
 
 static void write_segment(struct writer *writer) {
-  static const unsigned zero_bits[4] = {35, 34, 17, 16};
   struct chance *chance = writer->chance;
   struct run ibank = writer->file->ibank, dbank = writer->file->dbank;
-  make_room(writer, 4);
+  make_room(writer, SEGMENT_WORDS);
   bank_faults(writer, &ibank, &dbank);
   write_word(writer, bank_word(ibank));
   write_word(writer, bank_word(dbank));
   if (fires(writer, BANK_BITS)) {
     uint64_t which = between(chance, writer->at - 2, writer->at - 1);
-    block_of(writer)[which] |= (uint64_t)1 << zero_bits[below(chance, 4)];
+    block_of(writer)[which] |= any_zero_bit(chance);
   }
   write_word(writer, one_in(chance, 3) ? 0 : any_word(chance));
   write_word(writer, one_in(chance, 3) ? 0 : any_word(chance));
 }
+
+enum { TABLES_TOLD = 255 }; /* the highest number that bits 7-0 can tell */
 
 /* A wrong count or number of a table section; `before` is the table of the section before it, or -1. */
 static void section_faults(struct writer *writer, int before, uint64_t *count, uint64_t *table) {
@@ -74,12 +75,14 @@ static void section_faults(struct writer *writer, int before, uint64_t *count, u
   uint64_t past = file->tables[next].length + 1;
   if (fires_sometime(writer, SECTION_EMPTY))
     *count = 0;
-  if (past <= 65535 && fires_sometime(writer, SECTION_LONG)) {
+  if (past <= VALUE_MOST && fires_sometime(writer, SECTION_LONG)) {
     *table = next;
-    *count = one_in(chance, 2) ? past : between(chance, past, 65535);
+    *count = one_in(chance, 2) ? past : between(chance, past, VALUE_MOST);
   }
   if (fires_sometime(writer, SECTION_NUMBER))
-    *table = one_in(chance, 3) ? file->table_count : one_in(chance, 2) ? *table | 128 : between(chance, file->table_count, 255);
+    *table = one_in(chance, 3)   ? file->table_count
+             : one_in(chance, 2) ? put(*table, 7, 7, 1)
+                                 : between(chance, file->table_count, TABLES_TOLD);
   if (before >= 0 && fires_sometime(writer, SECTION_ORDER)) {
     do
       *table = below(chance, (uint64_t)before + 1);
@@ -89,16 +92,16 @@ static void section_faults(struct writer *writer, int before, uint64_t *count, u
 }
 
 static void write_table_section(struct writer *writer, int before, uint64_t table, uint64_t count) {
-  static const uint64_t others[3] = {0, 2, 3};
+  static const uint64_t others[3] = {0, KIND_GROUP, 3};
   struct chance *chance = writer->chance;
-  uint64_t kind = 1, bits = 0;
+  uint64_t kind = KIND_TABLE_SECTION, bits = 0;
   make_room(writer, 1);
   section_faults(writer, before, &count, &table);
   if (fires_sometime(writer, SECTION_KIND))
     kind = others[below(chance, 3)];
   if (fires_sometime(writer, SECTION_BITS))
-    bits = (uint64_t)1 << between(chance, 8, 17);
-  write_word(writer, kind << 34 | count << 18 | bits | table);
+    bits = bit_at((unsigned)between(chance, 8, 17));
+  write_word(writer, put(0, 35, 34, kind) | put(0, 33, 18, count) | bits | put(0, 7, 0, table));
 }
 
 /* ---- program blocks: groups */
@@ -111,10 +114,12 @@ struct home {
   uint64_t zero;
 };
 
+enum { LEAST_GROUP = 3, GROUP_WORDS_TOLD = 255 }; /* an identifier, a program word and its indicators; what bits 33-26 can tell */
+
 /* A group while it is put together. */
 struct group {
-  uint64_t program[254], becomes[254];
-  uint64_t indicators[254]; /* the first is to be the group's last word */
+  uint64_t program[WORDS_BETWEEN], becomes[WORDS_BETWEEN];
+  uint64_t indicators[WORDS_BETWEEN]; /* the first is to be the group's last word */
   unsigned words, bits;
   unsigned density; /* a half is changed so many times in four */
   bool wild;
@@ -122,11 +127,11 @@ struct group {
 
 static void add_bits(struct writer *writer, struct group *group, uint64_t value, unsigned count) {
   while (count-- > 0) {
-    unsigned low = 35 - group->bits % 36;
-    uint64_t *word = &group->indicators[group->bits / 36];
-    if (low == 35)
+    unsigned at = BITS_IN_WORD - 1 - group->bits % BITS_IN_WORD;
+    uint64_t *word = &group->indicators[group->bits / BITS_IN_WORD];
+    if (at == BITS_IN_WORD - 1)
       *word = any_word(writer->chance); /* its spare bits by chance */
-    *word = put(*word, low, low, value >> count);
+    *word = put(*word, at, at, value >> count);
     group->bits++;
   }
 }
@@ -155,19 +160,19 @@ static void add_half(struct writer *writer, struct group *group, bool left) {
   struct change change;
   unsigned low = left ? 18 : 0, at = group->words;
   bool changed = choose_change(writer, group, left, &change);
-  add_bits(writer, group, changed, 1);
+  add_bits(writer, group, changed, PLAIN_BITS);
   if (!changed)
     return;
-  add_bits(writer, group, change.type, 3);
-  if (change_length(&change) == 13)
-    add_bits(writer, group, change.nine, 9);
+  add_bits(writer, group, change.type, CHANGE_BITS - PLAIN_BITS);
+  if (change_length(&change) == LONG_BITS)
+    add_bits(writer, group, change.nine, LONG_MORE_BITS);
   group->program[at] = put(group->program[at], low + 15, low, change.field);
   group->becomes[at] = put(group->becomes[at], low + 15, low, change.becomes);
 }
 
 /* Adds program words while another one, with two of the longest indicators, is sure to fit. */
 static void fill_group(struct writer *writer, struct group *group, unsigned most, unsigned space) {
-  while (group->words < most && group->words + 1 + (group->bits + 26 + 35) / 36 <= space) {
+  while (group->words < most && group->words + 1 + indicator_words(group->bits + 2 * LONG_BITS) <= space) {
     group->program[group->words] = group->becomes[group->words] = one_in(writer->chance, 10) ? 0 : any_word(writer->chance);
     add_half(writer, group, true);
     add_half(writer, group, false);
@@ -183,8 +188,8 @@ static void home_faults(struct writer *writer, const struct home *home, uint64_t
   bool before = home->run.start > 0 && one_in(chance, 2);
   if (before && fires_sometime(writer, GROUP_AWAY))
     *relative = one_in(chance, 2) ? home->run.start - 1 : below(chance, home->run.start);
-  else if (past <= 65535 && fires_sometime(writer, GROUP_AWAY))
-    *relative = one_in(chance, 2) ? past : between(chance, past, 65535);
+  else if (past <= VALUE_MOST && fires_sometime(writer, GROUP_AWAY))
+    *relative = one_in(chance, 2) ? past : between(chance, past, VALUE_MOST);
   if (fires_sometime(writer, GROUP_BIT_16))
     *bit_16 = !*bit_16;
   if (!home->in_table && file->dbank.length == 0 && fires_sometime(writer, GROUP_EMPTY_DBANK)) {
@@ -193,25 +198,30 @@ static void home_faults(struct writer *writer, const struct home *home, uint64_t
   }
 }
 
+static uint64_t group_identifier(uint64_t kind, uint64_t words, uint64_t program_words, bool last, bool bit_16, uint64_t relative) {
+  return put(0, 35, 34, kind) | put(0, 33, 26, words) | put(0, 25, 18, program_words) | put(0, 17, 17, last) |
+         put(0, 16, 16, bit_16) | put(0, 15, 0, relative);
+}
+
 /* The identifier of a group, wrong in one place if that is wanted. `words` follow it, and `space` could in this block. */
 static uint64_t group_word(struct writer *writer, const struct home *home, uint64_t words, uint64_t program_words,
                            uint64_t relative, bool last, uint64_t space) {
-  static const uint64_t others[3] = {0, 1, 3};
+  static const uint64_t others[3] = {0, KIND_TABLE_SECTION, 3};
   struct chance *chance = writer->chance;
   bool bit_16 = home->bit_16;
-  uint64_t kind = 2;
+  uint64_t kind = KIND_GROUP;
   home_faults(writer, home, program_words, &bit_16, &relative);
   if (fires_sometime(writer, GROUP_KIND))
     kind = others[below(chance, 3)];
   if (fires_sometime(writer, GROUP_PAST_254))
-    words = one_in(chance, 2) ? space + 1 : between(chance, space + 1, 255);
+    words = one_in(chance, 2) ? space + 1 : between(chance, space + 1, GROUP_WORDS_TOLD);
   if (fires_sometime(writer, GROUP_FEW_WORDS))
     words = one_in(chance, 2) ? program_words - 1 : below(chance, program_words);
   if (fires_sometime(writer, GROUP_NO_WORDS)) {
     program_words = 0;
     words = one_in(chance, 2) ? 0 : words;
   }
-  return kind << 34 | words << 26 | program_words << 18 | (uint64_t)last << 17 | (uint64_t)bit_16 << 16 | relative;
+  return group_identifier(kind, words, program_words, last, bit_16, relative);
 }
 
 /* Writes the group: identifier, program words, so many words more than are needed, indicator words from the last but `fewer` to the
@@ -222,7 +232,7 @@ static void lay_down(struct writer *writer, const struct group *group, uint64_t 
     write_word(writer, group->program[i]);
   for (unsigned i = 0; i < more; i++)
     write_word(writer, one_in(writer->chance, 2) ? 0 : any_word(writer->chance));
-  for (unsigned i = (group->bits + 35) / 36 - fewer; i > 0; i--)
+  for (unsigned i = indicator_words(group->bits) - fewer; i > 0; i--)
     write_word(writer, group->indicators[i - 1]);
 }
 
@@ -231,29 +241,29 @@ static unsigned group_most(const struct writer *writer, uint64_t length) {
   struct chance *chance = writer->chance;
   if (writer->file->count > BLOCKS_MOST / 2)
     return 1;
-  return (unsigned)smaller(length, one_in(chance, 4) ? 254 : between(chance, 1, one_in(chance, 3) ? 60 : 5));
+  return (unsigned)smaller(length, one_in(chance, 4) ? WORDS_BETWEEN : between(chance, 1, one_in(chance, 3) ? 60 : 5));
 }
 
 /* The identifier of a group at the start of its home with one indicator word. */
 static void write_plain_group(struct writer *writer, const struct home *home, uint64_t program_words) {
-  write_word(writer,
-             (uint64_t)2 << 34 | (program_words + 1) << 26 | program_words << 18 | (uint64_t)home->bit_16 << 16 | home->run.start);
+  write_word(writer, group_identifier(KIND_GROUP, program_words + 1, program_words, false, home->bit_16, home->run.start));
 }
 
 /* A group that would be right, did its only indicator word not stand in word 255: the upper bits of a checksum word are zeros, and
    say "no change" for up to 8 words. Groups of one word lead up to it. */
 static bool write_past_254(struct writer *writer, const struct home *home) {
-  if (home->run.length < 8 || !wants(writer, GROUP_PAST_254) || one_in(writer->chance, 2))
+  enum { WORDS_MOST = 8 };
+  if (home->run.length < WORDS_MOST || !wants(writer, GROUP_PAST_254) || one_in(writer->chance, 2))
     return false;
-  make_room(writer, 3);
+  make_room(writer, LEAST_GROUP);
   fires(writer, GROUP_PAST_254);
-  while (writer->at < 246) {
+  while (writer->at < LAST_WORD - WORDS_MOST) {
     write_plain_group(writer, home, 1);
     write_word(writer, any_word(writer->chance));
     write_word(writer, any_word(writer->chance) >> 2);
   }
-  write_plain_group(writer, home, 254 - writer->at);
-  writer->at = 255;
+  write_plain_group(writer, home, LAST_WORD - writer->at);
+  writer->at = CHECKSUM_WORD;
   return true;
 }
 
@@ -263,8 +273,8 @@ static void write_group(struct writer *writer, const struct home *home, bool las
   unsigned more, fewer, most, space;
   if (write_past_254(writer, home))
     return;
-  make_room(writer, wants(writer, INDICATORS_MORE) ? 4 : 3);
-  space = 254 - writer->at;
+  make_room(writer, wants(writer, INDICATORS_MORE) ? LEAST_GROUP + 1 : LEAST_GROUP);
+  space = LAST_WORD - writer->at;
   more = fires_sometime(writer, INDICATORS_MORE);
   fewer = fires_sometime(writer, INDICATORS_FEWER);
   most = group_most(writer, home->run.length);
@@ -274,14 +284,14 @@ static void write_group(struct writer *writer, const struct home *home, bool las
     most = (unsigned)smaller(home->run.length, 40);
     group.density = 4;
   }
-  if (more && home->run.length >= 18 && one_in(chance, 2)) { /* just 36 bits: so that the words end where they do */
-    most = 18;
+  if (more && home->run.length >= BITS_IN_WORD / 2 && one_in(chance, 2)) { /* just 36 bits: so that the words end where they do */
+    most = BITS_IN_WORD / 2;
     group.density = 0;
   }
   uint64_t relative = home->run.start + below(chance, home->run.length - most + 1);
   group.wild = fires_sometime(writer, WILD_FIELDS) || (more + fewer > 0 && group.density != 0 && one_in(chance, 2)); /* 18 first */
   fill_group(writer, &group, most, space - more);
-  uint64_t words = group.words + (group.bits + 35) / 36 + more - fewer;
+  uint64_t words = group.words + indicator_words(group.bits) + more - fewer;
   lay_down(writer, &group, group_word(writer, home, words, group.words, relative, last, space), more, fewer);
   for (unsigned i = 0; i < group.words; i++)
     writer->file->image[home->zero + relative + i] = group.becomes[i];
@@ -303,7 +313,7 @@ void write_program(struct writer *writer) {
   const unsigned *chosen = writer->file->section_tables;
   struct file *file = writer->file;
   const struct home ibank = {file->ibank, false, false, 0}, dbank = {file->dbank, false, true, 0}, none = {{0, 0}, true, true, 0};
-  begin_block(writer, "*PRORC");
+  begin_block(writer, PRORC);
   write_segment(writer);
   write_groups(writer, &ibank, &dbank);
   for (unsigned i = 0; i < file->sections; i++) {

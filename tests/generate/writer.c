@@ -32,7 +32,11 @@ bool one_in(struct chance *chance, uint64_t count) {
 }
 
 uint64_t any_word(struct chance *chance) {
-  return any(chance) >> 28;
+  return any(chance) >> (64 - BITS_IN_WORD);
+}
+
+uint64_t any_bit(struct chance *chance, uint64_t bits) {
+  return bit_at((unsigned)below(chance, bits));
 }
 
 uint64_t smaller(uint64_t one, uint64_t other) {
@@ -46,32 +50,43 @@ uint64_t few(struct chance *chance, uint64_t most) {
 
 /* ---- words */
 
-uint64_t put(uint64_t word, unsigned high, unsigned low, uint64_t value) {
-  uint64_t bits = (uint64_t)2 << (high - low), mask = (bits - 1) << low;
-  return (word & ~mask) | (value << low & mask);
+uint64_t any_zero_bit(struct chance *chance) {
+  static const unsigned zero_bits[4] = {35, 34, 17, 16};
+  return bit_at(zero_bits[below(chance, 4)]);
+}
+
+static uint64_t fieldata_character(char character) {
+  switch (character) {
+  case '*':
+    return ASTERISK;
+  case '-':
+    return HYPHEN;
+  case ' ':
+    return SPACE;
+  default:
+    return (uint64_t)(character <= '9' ? FIRST_DIGIT + (character - '0') : FIRST_LETTER + (character - 'A'));
+  }
 }
 
 uint64_t fieldata(const char *characters) {
   uint64_t word = 0;
-  for (int i = 0; i < 6; i++) {
-    char c = characters[i];
-    word = word << 6 | (c == '*' ? 050 : c == '-' ? 041 : c == ' ' ? 005 : c <= '9' ? 060 + (c - '0') : 006 + (c - 'A'));
-  }
+  for (int i = 0; i < CHARACTERS_IN_WORD; i++)
+    word = word << CHARACTER_BITS | fieldata_character(characters[i]);
   return word;
 }
 
 void seal(uint64_t *block, bool label) {
-  unsigned at = label ? 254 : 255;
+  unsigned at = label ? LABEL_CHECKSUM_WORD : CHECKSUM_WORD;
   uint64_t sum = 0;
   block[at] = 0;
   for (int i = 0; i < WORDS_IN_BLOCK; i++)
-    sum = (sum + block[i]) % ((uint64_t)1 << 36);
-  block[at] = (sum >> 18) + sum % (1 << 18);
+    sum += block[i];
+  block[at] = part(sum, 35, 18) + part(sum, 17, 0);
 }
 
 /* ---- the writer */
 
-static const unsigned fault_answers[] = {0,
+static const unsigned fault_answers[] = {NOT_FORETOLD,
 #define FAULT_ANSWER(name, answer, text) answer,
                                          FAULTS(FAULT_ANSWER)
 #undef FAULT_ANSWER
@@ -111,7 +126,7 @@ uint64_t *block_of(const struct writer *writer) {
   return writer->file->blocks[writer->file->count - 1];
 }
 
-void begin_block(struct writer *writer, const char *identifier) {
+void begin_block(struct writer *writer, uint64_t identifier) {
   if (writer->file->count == BLOCKS_MOST) {
     fprintf(stderr, "generate: over %d blocks\n", BLOCKS_MOST);
     abort();
@@ -119,8 +134,8 @@ void begin_block(struct writer *writer, const char *identifier) {
   writer->file->count++;
   for (int i = 0; i < WORDS_IN_BLOCK; i++)
     block_of(writer)[i] = any_word(writer->chance);
-  block_of(writer)[0] = fieldata(identifier);
-  writer->at = 1;
+  block_of(writer)[IDENTIFIER_WORD] = identifier;
+  writer->at = FIRST_WORD;
 }
 
 void end_block(struct writer *writer) {

@@ -3,6 +3,7 @@
 #ifndef WRITER_H
 #define WRITER_H
 
+#include "bits.h"
 #include "generate.h"
 
 struct writer {
@@ -16,9 +17,6 @@ struct writer {
 /* A count up to most: mostly a few, now and then none, one, all but one or all. */
 uint64_t few(struct chance *chance, uint64_t most);
 uint64_t smaller(uint64_t one, uint64_t other);
-
-/* The word with bits high to low replaced by the value. */
-uint64_t put(uint64_t word, unsigned high, unsigned low, uint64_t value);
 
 /* ---- faults */
 
@@ -35,13 +33,16 @@ bool fires_sometime(struct writer *writer, enum fault fault);
 
 /* ---- blocks */
 
-void begin_block(struct writer *writer, const char *identifier); /* all its other words by chance */
+void begin_block(struct writer *writer, uint64_t identifier); /* all its other words by chance */
 void end_block(struct writer *writer);
 uint64_t *block_of(const struct writer *writer); /* the block that is written */
 void write_word(struct writer *writer, uint64_t word);
 
 /* A bank word has 16 bits for the start and 16 for the length: the run, but neither over 65,535. */
 struct run as_bank(struct run run);
+
+/* One of the bits 35, 34, 17 and 16, which beside two numbers of 16 bits must be zero. */
+uint64_t any_zero_bit(struct chance *chance);
 
 /* ---- the parts of a file, in this order */
 
