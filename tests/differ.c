@@ -72,8 +72,8 @@ static void play_round(uint64_t round_seed) {
 static bool print_table(void) {
   static const char *const names[] = {"made", "opened", "more", "done", "released"};
   bool all = changed_desks_refused > 0;
-  for (unsigned code = 1; code <= RELEASED; code = code == 22 ? MADE : code + 1) {
-    if (code <= 22)
+  for (unsigned code = REFUSED_DESK; code <= RELEASED; code = code == REFUSED_START ? MADE : code + 1) {
+    if (code <= REFUSED_START)
       printf("refused %2u %12" PRIu64 "\n", code, seen[code]);
     else
       printf("%-10s %12" PRIu64 "\n", names[code - MADE], seen[code]);

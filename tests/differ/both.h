@@ -14,6 +14,9 @@ uint64_t clamp_feed(uint64_t *desk, uint64_t desk_len, uint64_t *core, uint64_t 
 
 enum { NUMBERS_MOST = 700, CODES = 128 };
 
+/* The calls. */
+enum { MAKE, OPEN, FEED, RELEASE };
+
 /* A map, a list or a block as the calls take them, with room for too many numbers. */
 struct numbers {
   uint64_t at[NUMBERS_MOST];

@@ -28,9 +28,9 @@ static void begin(uint64_t length) {
 
 /* "the three identifiers spelt from their letters" */
 static void check_identifiers(void) {
-  check(fieldata("*MODRC") == 0502224112710, "*MODRC");
-  check(fieldata("*PRORC") == 0502527242710, "*PRORC");
-  check(fieldata("*TRMRC") == 0503127222710, "*TRMRC");
+  check(fieldata("*MODRC") == MODRC, "*MODRC");
+  check(fieldata("*PRORC") == PRORC, "*PRORC");
+  check(fieldata("*TRMRC") == TRMRC, "*TRMRC");
 }
 
 /* "word sum 0 gives checksum 0; one word 2^36-1 gives 524,286; two give 524,285." */
@@ -39,15 +39,16 @@ static void check_checksums(void) {
   uint64_t block[WORDS_IN_BLOCK] = {0};
   for (unsigned words = 0; words < 3; words++) {
     for (unsigned i = 0; i < words; i++)
-      block[10 + i] = ((uint64_t)1 << 36) - 1;
-    check(reader_checksum(block, 255) == sums[words], "checksum of the reader");
+      block[FIRST_WORD + i] = bit_at(BITS_IN_WORD) - 1;
+    check(reader_checksum(block, CHECKSUM_WORD) == sums[words], "checksum of the reader");
     seal(block, false);
-    check(block[255] == sums[words], "checksum of the generator");
+    check(block[CHECKSUM_WORD] == sums[words], "checksum of the generator");
   }
 }
 
-/* The three blocks of the load printer, which prints "0 more", "1 more", "2 done 512". */
+/* The three blocks of the load printer, as 01 writes them: it prints "0 more", "1 more", "2 done 512". */
 static void check_printed_deck(void) {
+  enum { CORE = 4096, AREA = 512, SIZE = 64 };
   static const struct at label[] = {{0, 0060505050505},
                                     {1, 0050505050505},
                                     {2, 0100000000000},
@@ -64,22 +65,32 @@ static void check_printed_deck(void) {
                                       {0, 0}};
   static const struct at termination[] = {{0, 0503127222710}, {255, 0000000726037}, {0, 0}};
   struct numbers none = {.count = 0}, blocks[3] = {deck_block(label), deck_block(program), deck_block(termination)};
-  begin(4096);
-  both_open(4096, 0, (struct run){512, 64}, &none, &none, told(OPENED, 0));
-  both_feed(4096, 0, 0, &blocks[0], told(MORE, 0));
-  both_feed(4096, 0, 0, &blocks[1], told(MORE, 0));
-  both_feed(4096, 0, 0, &blocks[2], told(DONE, 512));
-  check(lent_core.start[512] == 0000000001007, "7 plus the area's address");
+  begin(CORE);
+  both_open(CORE, 0, (struct run){AREA, SIZE}, &none, &none, told(OPENED, 0));
+  both_feed(CORE, 0, 0, &blocks[0], told(MORE, 0));
+  both_feed(CORE, 0, 0, &blocks[1], told(MORE, 0));
+  both_feed(CORE, 0, 0, &blocks[2], told(DONE, AREA));
+  check(lent_core.start[AREA] == 7 + AREA, "7 plus the area's address");
 }
 
-/* Feeds a file with one core table of at least 120 words, and a program of this one word, whose indicators stand in one word. */
+/* "area at 5000", "table 0 at 40,000, length 120" */
+enum { AREA_START = 5000, AREA_SIZE = 60000, TABLE_START = 40000, TABLE_LENGTH = 120 };
+
+/* Feeds a file with one core table of at least that length, and a program of this one word, whose indicators stand in one word. */
 static void feed_word(uint64_t word, uint64_t indicators, uint64_t answer) {
+  enum { IBANK = FIRST_WORD, GROUP = FIRST_WORD + SEGMENT_WORDS };
   const uint64_t name = fieldata("P     "), spaces = fieldata("      ");
-  const struct at label[] = {
-      {0, name},   {1, spaces}, {2, (uint64_t)1 << 33}, {3, 1 << 18 | 1}, {4, (uint64_t)12 << 32 | 1}, {253, 1 << 18},
-      {255, name}, {0, 0}};
-  const struct at entry[] = {{0, fieldata("*MODRC")}, {3, 120}, {0, 0}};
-  const struct at program[] = {{0, fieldata("*PRORC")}, {1, 1 << 18}, {5, 0401001400000}, {6, word}, {7, indicators}, {0, 0}};
+  const struct at label[] = {{NAME_WORD, name},
+                             {NAME_WORD + 1, spaces},
+                             {TYPE_FLAG_WORD, put(0, 35, 33, DIRECT_ROC)},
+                             {COUNTS_WORD, put(0, 28, 18, 1) | put(0, 10, 0, 1)},
+                             {TABLES_WORD, put(0, 35, 32, TYPE_CORE) | put(0, 8, 0, 1)},
+                             {SECTIONS_WORD, put(0, 33, 18, 1)},
+                             {NAME_AGAIN_WORD, name},
+                             {0, 0}};
+  const struct at entry[] = {{IDENTIFIER_WORD, MODRC}, {CORE_ENTRY_WORDS, TABLE_LENGTH}, {0, 0}};
+  const struct at program[] = {{IDENTIFIER_WORD, PRORC}, {IBANK, put(0, 33, 18, 1)}, {GROUP, 0401001400000},
+                               {GROUP + 1, word},        {GROUP + 2, indicators},    {0, 0}};
   struct numbers blocks[3] = {deck_block(label), deck_block(entry), deck_block(program)};
   for (int i = 0; i < 3; i++)
     seal(blocks[i].at, i == 0);
@@ -91,27 +102,28 @@ static void feed_word(uint64_t word, uint64_t indicators, uint64_t answer) {
 /* A field in either half, whose indicator has zeros after the type: what it becomes, or the refusal. Every bit of the word outside
    the field is set, and is to stay so. */
 static void check_field(uint64_t type, uint64_t field, unsigned refusal, uint64_t becomes) {
-  struct numbers none = {.count = 0}, tables = {.at = {40000, 120}, .count = 2};
+  struct numbers none = {.count = 0}, tables = {.at = {TABLE_START, TABLE_LENGTH}, .count = 2};
   for (unsigned half = 0; half < 2; half++) {
-    unsigned low = half == 0 ? 18 : 0, indicator_low = 36 - half - 4; /* before a right indicator stands the left one, 0 */
-    uint64_t rest = 0777777777777 & ~((uint64_t)0xffff << low);
-    both_open(CORE_MOST, 0, (struct run){5000, 60000}, &none, &tables, told(OPENED, 0));
-    feed_word(rest | field << low, (8 | type) << indicator_low, refusal != 0 ? told(refusal, 0) : told(MORE, 0));
-    check(lent_core.start[5000] == (refusal != 0 ? 0 : rest | becomes << low), "the word of a field");
+    unsigned low = half == 0 ? 18 : 0,
+             indicator_low = BITS_IN_WORD - half - CHANGE_BITS; /* before a right indicator stands the left one, 0 */
+    uint64_t all = bit_at(BITS_IN_WORD) - 1, before = put(all, low + 15, low, field), after = put(all, low + 15, low, becomes);
+    both_open(CORE_MOST, 0, (struct run){AREA_START, AREA_SIZE}, &none, &tables, told(OPENED, 0));
+    feed_word(before, (bit_at(CHANGE_BITS - 1) | type) << indicator_low, refusal != 0 ? told(refusal, 0) : told(MORE, 0));
+    check(lent_core.start[AREA_START] == (refusal != 0 ? 0 : after), "the word of a field");
     both_release(CORE_MOST, 0, 0, told(RELEASED, 0));
   }
 }
 
 static void check_fields(void) {
   begin(CORE_MOST);
-  check_field(0, 60535, 0, 65535); /* "area at 5000, type 000, field 60,535 gives 65,535; 60,536 gives 21." */
-  check_field(0, 60536, 21, 0);
-  check_field(2, 5, 0, 40005); /* "table 0 at 40,000, length 120, type 010: field 5 gives 40,005; 8197 gives 125; */
-  check_field(2, 8197, 0, 125);
-  check_field(2, 16389, 0, 39995); /* 16,389 gives 39,995; 16,384 gives 19." */
-  check_field(2, 16384, 19, 0);
-  check_field(2, 32768 + 100, 0, 40100); /* "long, constant 100 added to table 0: 40,100; constant 63 gives 19." */
-  check_field(2, 32768 + 63, 19, 0);
+  check_field(CHANGE_AREA, 60535, 0, 65535); /* "area at 5000, type 000, field 60,535 gives 65,535; 60,536 gives 21." */
+  check_field(CHANGE_AREA, 60536, REFUSED_VALUE, 0);
+  check_field(CHANGE_TABLE, 5, 0, 40005); /* "table 0 at 40,000, length 120, type 010: field 5 gives 40,005; 8197 gives 125; */
+  check_field(CHANGE_TABLE, 8197, 0, 125);
+  check_field(CHANGE_TABLE, 16389, 0, 39995); /* 16,389 gives 39,995; 16,384 gives 19." */
+  check_field(CHANGE_TABLE, 16384, REFUSED_FORM, 0);
+  check_field(CHANGE_TABLE, bit_at(15) + 100, 0, 40100); /* "long, constant 100 added to table 0: 40,100; constant 63 gives 19." */
+  check_field(CHANGE_TABLE, bit_at(15) + 63, REFUSED_FORM, 0);
 }
 
 void hand_deck(void) {

@@ -5,8 +5,6 @@
 
 #include "steps.h"
 
-enum { MAKE, OPEN, FEED, RELEASE };
-
 uint64_t changed_desks, changed_desks_refused;
 
 /* One of the four calls, on this desk, with right arguments where there is a load for them. */
@@ -38,11 +36,11 @@ static void must_refuse(const char *what, uint64_t *desk, uint64_t length, uint6
   memcpy(copy, desk, length * sizeof *copy);
   answer = call_on(length == 0 ? NULL : desk, length, which);
   calls++;
-  if (answer != told(1, 0))
-    fail(what, "the desk was to be refused", answer, told(1, 0), 0);
+  if (answer != REFUSED(DESK))
+    fail(what, "the desk was to be refused", answer, REFUSED(DESK), 0);
   if (memcmp(desk, copy, length * sizeof *copy) != 0 || !fence_stands(desk) || !desk_is_as_before() || !cores_agree())
-    fail(what, "refused, and something changed", answer, told(1, 0), 0);
-  seen[1]++;
+    fail(what, "refused, and something changed", answer, REFUSED(DESK), 0);
+  seen[REFUSED_DESK]++;
   free(copy);
 }
 
@@ -66,7 +64,7 @@ void step_any_desk(void) {
 /* Whether the call can give such an answer at all. */
 static bool is_answer_of(uint64_t which, uint64_t answer) {
   uint64_t code = CLAMP_CODE(answer), value = CLAMP_VALUE(answer);
-  if (code >= 1 && code <= (which == OPEN ? 8 : which == FEED ? 22 : 9))
+  if (code >= REFUSED_DESK && code <= (which == OPEN ? REFUSED_LISTS : which == FEED ? REFUSED_START : REFUSED_PLACE))
     return value == 0;
   if (which == OPEN)
     return code == OPENED && value < PLACES;
@@ -89,15 +87,15 @@ static uint64_t any_number_at(const uint64_t *desk) {
    whether it answers, and whether a refusal changes nothing. Then desk and core are set back. */
 void step_changed_desk(void) {
   uint64_t which = between(&chance, OPEN, RELEASE), *desk = lent_desk.start, at = any_number_at(desk), answer;
-  uint64_t changed = desk[at] ^ (one_in(&chance, 2) ? (uint64_t)1 << below(&chance, 40) : any(&chance));
+  uint64_t changed = desk[at] ^ (one_in(&chance, 2) ? any_bit(&chance, 40) : any(&chance));
   desk[at] = changed;
   answer = call_on(desk, desk_words, which);
   calls++;
   changed_desks++;
-  changed_desks_refused += answer == told(1, 0);
+  changed_desks_refused += answer == REFUSED(DESK);
   if (!is_answer_of(which, answer) || !fence_stands(desk) || !fence_stands(lent_core.start))
     fail("changed desk", "no such answer, or written before a slice", answer, answer, 0);
-  if (CLAMP_CODE(answer) <= 12) {
+  if (changes_nothing(CLAMP_CODE(answer))) {
     bool kept = desk[at] == changed && cores_agree();
     desk[at] = desk_before[at];
     if (!kept || !desk_is_as_before())

@@ -159,11 +159,11 @@ static uint64_t foretell(unsigned place) {
   const struct file *file = files[place];
   unsigned block = next_block[place];
   if (has_ended(place))
-    return told(10, 0);
+    return REFUSED(ENDED);
   if (!foretold[place])
     return 0;
   if (file->faulty && block >= file->fault_block)
-    return file->fault_answer == 0 ? 0 : told(file->fault_answer, 0);
+    return file->fault_answer == NOT_FORETOLD ? 0 : told(file->fault_answer, 0);
   return block == file->termination ? told(DONE, file->start) : told(MORE, 0);
 }
 

@@ -9,7 +9,8 @@
 
 /* Any size of number, often one beside a bound. */
 static uint64_t odd_number(void) {
-  static const uint64_t bounds[] = {0, 1, 7, 8, 11, 12, 65535, 65536, (uint64_t)1 << 32, (uint64_t)1 << 36, (uint64_t)1 << 63};
+  const uint64_t bounds[] = {
+      0, 1, ROOMS - 1, ROOMS, PLACES - 1, PLACES, CORE_MOST - 1, CORE_MOST, bit_at(32), bit_at(BITS_IN_WORD), bit_at(63)};
   uint64_t bound = bounds[below(&chance, sizeof bounds / sizeof bounds[0])];
   switch (below(&chance, 4)) {
   case 0:
@@ -48,10 +49,10 @@ static uint64_t some_index(uint64_t count) {
 
 void step_wrong_make(void) {
   struct numbers map = one_in(&chance, 3) ? any_map(core_length) : map_of(reader.map);
-  uint64_t length = one_in(&chance, 3) ? near(core_length) : core_length, which = below(&chance, 2 * ROOMS);
+  uint64_t length = one_in(&chance, 3) ? near(core_length) : core_length, which = below(&chance, MAP_LENGTH);
   switch (below(&chance, 5)) {
   case 0:
-    map.count = one_in(&chance, 2) ? 15 + 2 * below(&chance, 2) : below(&chance, 40);
+    map.count = one_in(&chance, 2) ? MAP_LENGTH - 1 + 2 * below(&chance, 2) : below(&chance, 40);
     break;
   case 1:
     map.at[which] = near(map.at[which]);
@@ -90,16 +91,16 @@ static void spoil_area(struct run *area) {
 static void spoil_io(struct numbers *io) {
   uint64_t *one = &io->at[some_index(io->count + 1)];
   if (one_in(&chance, 2))
-    io->count = one_in(&chance, 2) ? 129 : between(&chance, 120, 300);
+    io->count = one_in(&chance, 2) ? ENTRIES_MOST + 1 : between(&chance, ENTRIES_MOST - 8, 300);
   else
-    *one = one_in(&chance, 2) ? 65536 : odd_number();
+    *one = one_in(&chance, 2) ? VALUE_MOST + 1 : odd_number();
 }
 
 static void spoil_tables(struct numbers *tables) {
   uint64_t pairs = tables->count / 2, which = 2 * some_index(pairs + 1), part = below(&chance, 2);
   switch (below(&chance, 4)) {
   case 0:
-    tables->count = one_in(&chance, 2) ? 257 + below(&chance, 2) : between(&chance, 250, 600);
+    tables->count = one_in(&chance, 2) ? PAIRS_MOST + 1 + below(&chance, 2) : between(&chance, PAIRS_MOST - 6, 600);
     break;
   case 1:
     tables->count += 1;
@@ -163,17 +164,17 @@ static void spoil_feed(uint64_t *length, uint64_t *room, uint64_t *place, struct
     *place = one_in(&chance, 2) ? below(&chance, PLACES + 1) : odd_number();
     break;
   case 3:
-    block->count = one_in(&chance, 2) ? 255 + 2 * below(&chance, 2) : below(&chance, NUMBERS_MOST);
+    block->count = one_in(&chance, 2) ? WORDS_IN_BLOCK - 1 + 2 * below(&chance, 2) : below(&chance, NUMBERS_MOST);
     break;
   case 4:
-    *word |= (uint64_t)1 << (one_in(&chance, 3) ? 36 : between(&chance, 36, 63));
+    *word |= bit_at(one_in(&chance, 3) ? BITS_IN_WORD : (unsigned)between(&chance, BITS_IN_WORD, 63));
     break;
   case 5:
-    word = &block->at[between(&chance, 254, 255)];
-    *word ^= (uint64_t)1 << below(&chance, 36);
+    word = &block->at[between(&chance, LABEL_CHECKSUM_WORD, CHECKSUM_WORD)];
+    *word ^= any_bit(&chance, BITS_IN_WORD);
     break;
   case 6:
-    *word ^= (uint64_t)1 << below(&chance, 36);
+    *word ^= any_bit(&chance, BITS_IN_WORD);
     break;
   default:
     *word = odd_number();
@@ -192,7 +193,7 @@ void step_wrong_feed(void) {
   for (uint64_t times = between(&chance, 1, 2); times > 0; times--)
     spoil_feed(&length, &room, &place, &block);
   answer = both_feed(length, room, place, &block, 0);
-  if (CLAMP_CODE(answer) > 12)
+  if (!changes_nothing(CLAMP_CODE(answer)))
     foretell_no_more(place);
 }
 
