@@ -1,21 +1,20 @@
-/* same.c: holds the peer against the library. It is linked with the comparison of tests/differ.c so that each call made on the
+/* same.c: compares the peer with the library. It is linked with the comparison of tests/differ.c so that each call made on the
    library comes here first (ld --wrap): the peer gets the same call on copies of desk and core, and answer, desk and core must be
    the same afterwards. Each call is also made on desks, and with blocks, in which a few numbers are changed: many are refused, and
    some are desks that no file leads to. Run by `bench/run same`. */
-
-#define _DEFAULT_SOURCE
 
 #include <inttypes.h>
 #include <stdio.h>
 #include <stdlib.h>
 #include <string.h>
-#include <sys/mman.h>
 #include <unistd.h>
 
+#include "desk_layout.h"
 #include "differ/both.h"
+#include "guarded.h"
 #include "peer.h"
 
-enum { DESK_WORDS = 3653, CHANGED_EACH = 4, MAKE = 0, OPEN, FEED, RELEASE };
+enum { CHANGED_EACH = 4 };
 
 /* One call with its arguments but desk and core; first and second are the lists, the map or the block. */
 struct call {
@@ -58,23 +57,11 @@ static uint64_t by_peer(const struct call *c, uint64_t *desk, uint64_t *core) {
   }
 }
 
-/* ---- memory that ends where a page begins that may not be touched */
+/* ---- copies */
 
-struct memory {
-  uint64_t *end;
-};
-
-static struct memory memory_make(void) {
-  size_t page = (size_t)sysconf(_SC_PAGESIZE), bytes = ((CORE_MOST + 8) * sizeof(uint64_t) + page - 1) / page * page;
-  char *all = mmap(NULL, bytes + page, PROT_READ | PROT_WRITE, MAP_PRIVATE | MAP_ANONYMOUS, -1, 0);
-  if (all == MAP_FAILED || mprotect(all + bytes, page, PROT_NONE) != 0)
-    abort();
-  return (struct memory){(uint64_t *)(all + bytes)};
-}
-
-/* A copy of these numbers; of none, no memory at all. */
-static uint64_t *copied(struct memory memory, const uint64_t *from, uint64_t length) {
-  return length == 0 ? NULL : memcpy(memory.end - length, from, length * sizeof *from);
+/* A copy of these numbers, before this end of memory; of none, no memory at all. */
+static uint64_t *copied(uint64_t *end, const uint64_t *from, uint64_t length) {
+  return length == 0 ? NULL : memcpy(end - length, from, length * sizeof *from);
 }
 
 static bool same(const uint64_t *one, const uint64_t *other, uint64_t length) {
@@ -84,17 +71,17 @@ static bool same(const uint64_t *one, const uint64_t *other, uint64_t length) {
 /* ---- comparing */
 
 static uint64_t compared, changed_desks, changed_codes[CODES];
-static struct memory desks[2], cores[2];
-static struct chance turn; /* begins again with each round, so that a round can be done again alone */
+static uint64_t *desks[2], *cores[2]; /* the ends of their memory: the library's on changed desks, and the peer's */
+static struct chance turn;            /* begins again with each round, so that a round can be done again alone */
 static uint64_t turn_of = UINT64_MAX;
 
 static void print_counts(void) {
   uint64_t accepted = 0;
-  for (unsigned i = 13; i < CODES; i++)
-    accepted += changed_codes[i];
+  for (unsigned code = 0; code < CODES; code++)
+    accepted += changes_nothing(code) ? 0 : changed_codes[code];
   printf("peer: %" PRIu64 " calls the same, %" PRIu64 " more on changed desks (%" PRIu64 " refused with 1, %" PRIu64
          " went past refusal 12)\n",
-         compared, changed_desks, changed_codes[1], accepted);
+         compared, changed_desks, changed_codes[REFUSED_DESK], accepted);
 }
 
 static void differs(const char *what, const struct call *c, uint64_t proved, uint64_t peer) {
@@ -129,102 +116,124 @@ static uint64_t changed_number(const uint64_t *desk, uint64_t number) {
   case 1:
     return number - 1;
   case 2:
-    return number ^ (uint64_t)1 << below(&turn, 64);
+    return number ^ any_bit(&turn, 64);
   case 3:
-    return below(&turn, 10);
+    return below(&turn, LOAD_BROKEN + 2); /* what is due, or a holder */
   case 4:
     return below(&turn, 200);
   case 5:
     return desk[below(&turn, DESK_WORDS)];
   case 6:
-    return number + ((uint64_t)below(&turn, 5) << 20) - ((uint64_t)2 << 20);
+    return number + kept_table(0, below(&turn, 5), 0) - kept_table(0, 2, 0);
   default:
     return any_size(&turn);
   }
 }
 
+enum { SIZE_SOME = 70000 }; /* sizes up to somewhat over what a core has */
+
 /* The stage of a place as another, with numbers that are often in range. */
 static void change_stage(uint64_t *place) {
-  place[6] = below(&turn, 9);
-  for (unsigned i = 7; i < 15; i++)
+  place[DUE_AT] = below(&turn, LOAD_BROKEN + 1);
+  for (unsigned i = DUE_AT + 1; i < STAGE_AT + STAGE_WORDS; i++) {
+    uint64_t most = i == CHANNELS_AT ? place[IO_COUNT_AT] : i <= NUMBER_AT ? place[TABLE_COUNT_AT] : place[SIZE_AT];
     if (one_in(&turn, 2))
-      place[i] = one_in(&turn, 4) ? any_size(&turn) : below(&turn, (i == 7 ? place[3] : i < 10 ? place[4] : place[2]) % 70000 + 1);
+      place[i] = one_in(&turn, 4) ? any_size(&turn) : below(&turn, most % SIZE_SOME + 1);
+  }
 }
 
 /* Two kept tables change their numbers, two ranks change places, or an area moves by its tables. */
 static void change_tables(uint64_t *place) {
-  uint64_t *one = place + 47 + below(&turn, place[5] % 128 + 1), *other = place + 47 + below(&turn, place[5] % 128 + 1), kept;
+  uint64_t most = place[KEPT_COUNT_AT] % ENTRIES_MOST + 1, number;
+  uint64_t *one = place + KEPT_AT + below(&turn, most), *other = place + KEPT_AT + below(&turn, most);
   switch (below(&turn, 4)) {
   case 0:
-    kept = (*one ^ *other) & (uint64_t)0xfffff << 20;
-    *one ^= kept;
-    *other ^= kept;
+    number = kept_number(*one);
+    *one = put(*one, 39, 20, kept_number(*other));
+    *other = put(*other, 39, 20, number);
     break;
   case 1:
-    one += 128;
-    other += 128;
-    kept = *one;
+    one += RANKS_AT - KEPT_AT;
+    other += RANKS_AT - KEPT_AT;
+    number = *one;
     *one = *other;
-    *other = kept;
+    *other = number;
     break;
   case 2:
-    *one &= ~(uint64_t)0xfffff;
+    *one = put(*one, 19, 0, 0);
     break;
   default:
-    *one = (*one & ~(uint64_t)0xfffff) | below(&turn, 30);
+    *one = put(*one, 19, 0, below(&turn, 30));
   }
 }
 
 /* The place as a load of any room, in a few words of its stretch, without lists. */
 static void change_holder(const uint64_t *desk, uint64_t *place) {
-  uint64_t room = below(&turn, ROOMS), start = desk[1 + 2 * room], length = desk[2 + 2 * room];
+  uint64_t room = below(&turn, ROOMS), start = desk[stretch_at(room)], length = desk[stretch_at(room) + 1];
   if (length == 0 || length > CORE_MOST)
     return;
-  memset(place, 0, 15 * sizeof *place);
-  place[0] = room + 1;
-  place[1] = start + below(&turn, length);
-  place[2] = between(&turn, 1, 3);
+  memset(place, 0, (OWN_WORDS + STAGE_WORDS) * sizeof *place);
+  place[HOLDER_AT] = room + 1;
+  place[AREA_AT] = start + below(&turn, length);
+  place[SIZE_AT] = between(&turn, 1, 3);
 }
 
 /* One kept table somewhere in the area, of any number. */
 static void change_kept(uint64_t *place) {
-  uint64_t size = place[2] % CORE_MOST + 1;
-  place[5] = 1;
-  place[47] = (place[1] + below(&turn, size)) << 40 | below(&turn, 4) << 20 | between(&turn, 1, (size + 7) / 8);
-  place[175 + below(&turn, 4)] = 0;
+  uint64_t size = place[SIZE_AT] % CORE_MOST + 1, at = place[AREA_AT] + below(&turn, size), number = below(&turn, 4);
+  place[KEPT_COUNT_AT] = 1;
+  place[KEPT_AT] = kept_table(at, number, between(&turn, 1, (size + 7) / 8));
+  place[RANKS_AT + below(&turn, 4)] = 0;
 }
 
 static void change_desk(uint64_t *desk, uint64_t p) {
+  enum { FIRSTS = 8 }; /* the first few of a list */
   static const struct {
     unsigned from, count;
-  } parts[] = {{0, 6}, {0, 15}, {6, 9}, {15, 32}, {47, 128}, {47, 8}, {175, 128}, {175, 8}};
-  uint64_t which = below(&turn, 14), *place = desk + 17 + 303 * p, *number;
-  if (which == 0)
-    number = desk + below(&turn, 17);
-  else if (which <= 8)
+  } parts[] = {{0, OWN_WORDS},    {0, OWN_WORDS + STAGE_WORDS}, {STAGE_AT, STAGE_WORDS}, {IO_AT, IO_WORDS}, {KEPT_AT, KEPT_WORDS},
+               {KEPT_AT, FIRSTS}, {RANKS_AT, RANK_WORDS},       {RANKS_AT, FIRSTS}};
+  uint64_t which = below(&turn, 14), *place = desk + place_at(p), *number;
+  switch (which) {
+  case 0:
+    number = desk + below(&turn, PLACES_AT);
+    *number = changed_number(desk, *number);
+    break;
+  case 9:
+    change_tables(place);
+    break;
+  case 10:
+    change_holder(desk, desk + place_at(below(&turn, PLACES)));
+    break;
+  case 11:
+    change_kept(place);
+    break;
+  case 12:
+  case 13:
+    change_stage(place);
+    break;
+  default: /* 1 to 8 */
     number = place + parts[which - 1].from + below(&turn, parts[which - 1].count);
-  else {
-    if (which == 9)
-      change_tables(place);
-    else if (which == 10)
-      change_holder(desk, desk + 17 + 303 * below(&turn, PLACES));
-    else if (which == 11)
-      change_kept(place);
-    else
-      change_stage(place);
-    return;
+    *number = changed_number(desk, *number);
   }
-  *number = changed_number(desk, *number);
+}
+
+/* What heads a section: a table's number, or a bank's address, and its count. */
+static uint64_t section_word(uint64_t kind, uint64_t count, uint64_t number) {
+  return put(0, 35, 34, kind) | put(0, 33, 18, count) | put(0, 15, 0, number);
 }
 
 /* A program block that begins with a section, for a place that waits for one. */
 static void change_section(uint64_t *block, uint64_t *place) {
-  const uint64_t stage[9] = {one_in(&turn, 2) ? 4 : 2, 0, below(&turn, 3), below(&turn, 3), 0, 0, 1, 0, 0};
-  memcpy(place + 6, stage, sizeof stage);
-  block[0] = fieldata("*PRORC");
-  block[1] = (uint64_t)1 << 34 | between(&turn, 1, 6) << 18 | below(&turn, 6);
-  for (unsigned i = 1; i < 3 && stage[0] == 2; i++)
-    block[i] = below(&turn, 40) << 18 | below(&turn, 60);
+  uint64_t *bank = block + FIRST_WORD;
+  memset(place + STAGE_AT, 0, STAGE_WORDS * sizeof *place);
+  place[DUE_AT] = one_in(&turn, 2) ? DUE_TABLE_SECTION : DUE_SEGMENT;
+  place[SECTIONS_AT] = below(&turn, 3);
+  place[NUMBER_AT] = below(&turn, 3);
+  place[IBANK_AT + 1] = 1;
+  block[IDENTIFIER_WORD] = PRORC;
+  block[FIRST_WORD] = section_word(KIND_TABLE_SECTION, between(&turn, 1, 6), below(&turn, 6));
+  for (; bank < block + FIRST_WORD + 2 && place[DUE_AT] == DUE_SEGMENT; bank++)
+    *bank = section_word(0, below(&turn, 40), below(&turn, 60));
 }
 
 /* The block with a few bits turned over, or with such a section. */
@@ -232,8 +241,8 @@ static void change_block(uint64_t *block, uint64_t *place) {
   if (one_in(&turn, 4))
     change_section(block, place);
   for (uint64_t times = below(&turn, 3); times > 0; times--)
-    block[one_in(&turn, 2) ? below(&turn, 12) : below(&turn, WORDS_IN_BLOCK)] ^= (uint64_t)1 << below(&turn, 36);
-  seal(block, place[6] == 0);
+    block[one_in(&turn, 2) ? below(&turn, 12) : below(&turn, WORDS_IN_BLOCK)] ^= any_bit(&turn, BITS_IN_WORD);
+  seal(block, place[DUE_AT] == DUE_LABEL);
 }
 
 /* The call on a desk, and with a block, in which a few numbers are changed. */
@@ -244,7 +253,7 @@ static void compare_changed(struct call c, const uint64_t *desk, const uint64_t 
     change_desk(other, p);
   if (c.which == FEED && c.first_len == WORDS_IN_BLOCK && one_in(&turn, 2)) {
     memcpy(block, c.first, sizeof block);
-    change_block(block, other + 17 + 303 * p);
+    change_block(block, other + place_at(p));
     c.first = block;
   }
   changed_codes[CLAMP_CODE(compare_on(&c, other, other_core, core_words))]++;
@@ -258,8 +267,8 @@ static uint64_t wrapped(const struct call *c, uint64_t *desk, uint64_t *core, ui
   uint64_t result;
   if (!begun) {
     for (unsigned i = 0; i < 2; i++) {
-      desks[i] = memory_make();
-      cores[i] = memory_make();
+      desks[i] = guarded_end(DESK_WORDS + 1);
+      cores[i] = guarded_end(CORE_MOST + 1);
     }
     atexit(print_counts);
     begun = true;
