@@ -1,10 +1,11 @@
 /* file.h: a program file to measure with. Its program block fills words 1 to 254 with groups, none of them its section's last, so
-   that the load waits for the same after the block as before it: the block can be fed again and again, and is accepted each time. */
+   that the load waits for the same after the block as before it: the block can be fed again and again, and is accepted each time.
+ */
 
 #ifndef FILE_H
 #define FILE_H
 
-#include <stdint.h>
+#include "loads.h"
 
 /* No half changed; each right half of type 000; each half changed, by all the types that are carried in turn; and of eight words
    three of the first kind, four of the second and one of the third, mixed. */
@@ -15,20 +16,23 @@ struct entries {
   uint64_t channels, units, tables;
 };
 
-enum { AREA_WORDS = 4096, TABLES_FROM = 3072, HEADS_MOST = 5 };
+extern const struct entries full; /* as many as there can be */
+
+/* The IBANK is the area's first three quarters; in the last there is room for 128 tables of 8 words. */
+enum { TABLES_FROM = AREA_WORDS / 4 * 3, TABLE_WORDS = AREA_WORDS / 4 / ENTRIES_MOST };
 
 void write_label_block(uint64_t *block, struct entries entries);
 void write_entries_block(uint64_t *block);
 unsigned entries_blocks(struct entries entries);
-void write_segment_block(uint64_t *block); /* the IBANK is words 0 to TABLES_FROM - 1 of the area */
+void write_segment_block(uint64_t *block);
 
 /* So many groups, as long as have room; gives how many program words they have. */
 unsigned write_group_block(uint64_t *block, enum shape shape, struct entries entries, unsigned groups);
 
-void write_last_block(uint64_t *block);    /* the section's last group, of one word */
+void write_last_block(uint64_t *block); /* the section's last group, of one word */
 void write_termination_block(uint64_t *block);
 
-/* The lists for open: every I/O number is 3, and the tables are of 8 words each. */
+/* The lists for open: every I/O number is 3. */
 void write_lists(uint64_t *io, uint64_t *tables, struct entries entries, uint64_t area, int falling);
 
 #endif

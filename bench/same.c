@@ -29,31 +29,29 @@ uint64_t __real_clamp_open(uint64_t *, uint64_t, uint64_t *, uint64_t, uint64_t,
 uint64_t __real_clamp_feed(uint64_t *, uint64_t, uint64_t *, uint64_t, uint64_t, uint64_t, const uint64_t *, uint64_t);
 uint64_t __real_clamp_release(uint64_t *, uint64_t, uint64_t, uint64_t, uint64_t);
 
-static uint64_t by_library(const struct call *c, uint64_t *desk, uint64_t *core) {
-  switch (c->which) {
-  case MAKE:
-    return __real_clamp_make(desk, c->desk_len, c->core_len, c->first, c->first_len);
-  case OPEN:
-    return __real_clamp_open(desk, c->desk_len, core, c->core_len, c->room, c->area, c->size, c->first, c->first_len, c->second,
-                             c->second_len);
-  case FEED:
-    return __real_clamp_feed(desk, c->desk_len, core, c->core_len, c->room, c->place, c->first, c->first_len);
-  default:
-    return __real_clamp_release(desk, c->desk_len, c->core_len, c->room, c->place);
-  }
-}
+/* A loader: the library, or the peer. */
+struct loader {
+  uint64_t (*make)(uint64_t *, uint64_t, uint64_t, const uint64_t *, uint64_t);
+  uint64_t (*open)(uint64_t *, uint64_t, uint64_t *, uint64_t, uint64_t, uint64_t, uint64_t, const uint64_t *, uint64_t,
+                   const uint64_t *, uint64_t);
+  uint64_t (*feed)(uint64_t *, uint64_t, uint64_t *, uint64_t, uint64_t, uint64_t, const uint64_t *, uint64_t);
+  uint64_t (*release)(uint64_t *, uint64_t, uint64_t, uint64_t, uint64_t);
+};
 
-static uint64_t by_peer(const struct call *c, uint64_t *desk, uint64_t *core) {
+static const struct loader the_library = {__real_clamp_make, __real_clamp_open, __real_clamp_feed, __real_clamp_release};
+static const struct loader the_peer = {peer_make, peer_open, peer_feed, peer_release};
+
+static uint64_t call_by(const struct loader *by, const struct call *c, uint64_t *desk, uint64_t *core) {
   switch (c->which) {
   case MAKE:
-    return peer_make(desk, c->desk_len, c->core_len, c->first, c->first_len);
+    return by->make(desk, c->desk_len, c->core_len, c->first, c->first_len);
   case OPEN:
-    return peer_open(desk, c->desk_len, core, c->core_len, c->room, c->area, c->size, c->first, c->first_len, c->second,
-                     c->second_len);
+    return by->open(desk, c->desk_len, core, c->core_len, c->room, c->area, c->size, c->first, c->first_len, c->second,
+                    c->second_len);
   case FEED:
-    return peer_feed(desk, c->desk_len, core, c->core_len, c->room, c->place, c->first, c->first_len);
+    return by->feed(desk, c->desk_len, core, c->core_len, c->room, c->place, c->first, c->first_len);
   default:
-    return peer_release(desk, c->desk_len, c->core_len, c->room, c->place);
+    return by->release(desk, c->desk_len, c->core_len, c->room, c->place);
   }
 }
 
@@ -96,7 +94,7 @@ static void differs(const char *what, const struct call *c, uint64_t proved, uin
 /* The peer's desk and core are the copies 1; the library's are given. */
 static uint64_t compare_on(const struct call *c, uint64_t *desk, uint64_t *core, uint64_t core_words) {
   uint64_t *peer_desk = copied(desks[1], desk, c->desk_len), *peer_core = copied(cores[1], core, core_words);
-  uint64_t peer = by_peer(c, peer_desk, peer_core), proved = by_library(c, desk, core);
+  uint64_t peer = call_by(&the_peer, c, peer_desk, peer_core), proved = call_by(&the_library, c, desk, core);
   if (proved != peer)
     differs("answers", c, proved, peer);
   if (!same(desk, peer_desk, c->desk_len))
