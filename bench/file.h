@@ -1,6 +1,5 @@
-/* file.h: a program file to measure with. Its program block fills words 1 to 254 with groups, none of them its section's last, so
-   that the load waits for the same after the block as before it: the block can be fed again and again, and is accepted each time.
- */
+/* file.h: a program file to measure with. Its program block fills words 1 to 254 with groups, none of them its section's last. So
+   the load waits for the same after the block as before it: the block can be fed again and again, and is accepted each time. */
 
 #ifndef FILE_H
 #define FILE_H
