@@ -13,7 +13,7 @@ use word::Fault;
 use word::limits::ROOMS;
 
 // 2^32: an answer's code is counted in these, its value is below.
-const CODE: u64 = 4294967296;
+const CODE: u64 = 1 << 32;
 
 // What a call answers: a refusal; made; opened, with the place; more; done, with the absolute start; released.
 pub enum Answer {

@@ -1,6 +1,6 @@
 -- What a field becomes and what becomes of its word, proved once for either half. Assumes nothing.
 use mathlib.Core.Path.{_≡_, refl, sym, ap, _∙_}
-use mathlib.Core.Bool.{Bool, false}
+use mathlib.Core.Bool.{Bool, true, false}
 use mathlib.Core.List.{List}
 use mathlib.Core.Logic.{_⊎_, _≢_}
 use Prim.Native.Nat.{ℕ, _+_, _-_, _<_, _≤_, _^_}
@@ -105,13 +105,13 @@ module _ (a : Assignments) (h : Half) (w x : ℕ) {t f : ℕ} {b : Becomes} {r :
   unfolding fieldStep becomes
   pair-arm e q = back ∙ rw (q, read, e)
 
-  pub long-arm : t ≡ 2 → bit 15 f ≡ 1 → b ≡ long (a .tables) f x → r ≡ fieldStep a h t w x
+  pub long-arm : t ≡ 2 → isSet 15 f ≡ true → b ≡ long (a .tables) f x → r ≡ fieldStep a h t w x
   unfolding fieldStep becomes constant
   long-arm e i q = back ∙ rw (q, e, ← read, i)
 
-  pub short-arm : t ≡ 2 → bit 15 f ≢ 1 → b ≡ short (a .tables) f → r ≡ fieldStep a h t w x
+  pub short-arm : t ≡ 2 → isSet 15 f ≡ false → b ≡ short (a .tables) f → r ≡ fieldStep a h t w x
   unfolding fieldStep becomes constant
-  short-arm e i q = back ∙ rw (q, e, ← read, ne-eqb (bit 15 f) 1 i)
+  short-arm e i q = back ∙ rw (q, e, ← read, i)
 
   pub unit-arm : t ≡ 7 → b ≡ unit (a .ios) (a .channels) (reference f) → r ≡ fieldStep a h t w x
   unfolding fieldStep becomes

@@ -12,7 +12,7 @@ use Rattle.word.specs.declared.Reference.{Reference}
 use Rattle.word.specs.declared.Relative.{Relative}
 use Rattle.word.specs.Fault.{fault}
 use Rattle.word.specs.Sorts.{absoluteOf}
-use Rattle.word.specs.Word.{part, put, isSet, lowest, fieldOf, aField}
+use Rattle.word.specs.Word.{bits, put, isSet, lowest, fieldOf, aField}
 use Rattle.lists.specs.declared.Table.{Table}
 use Rattle.lists.specs.Load.{coreTables, ioNumbers}
 use Rattle.lists.specs.Obey.{noTable}
@@ -38,8 +38,11 @@ abbrev pub reference : ℕ → Reference
 reference n = record { 0 = n }
 
 -- refusal 21: "value outside 0 to 65,535"
+abbrev pub valueLimit : ℕ
+valueLimit = 65536
+
 unfoldable pub valued : ℕ → Becomes
-valued v = cond (ltb v 65536) (Value v) (Bad (fault 21))
+valued v = cond (ltb v valueLimit) (Value v) (Bad (fault 21))
 
 -- "plus or minus": neither the sum nor the difference wraps
 unfoldable pub plusOrMinus : Bool → ℕ → ℕ → Becomes
@@ -70,8 +73,8 @@ referred ts sized k minus amount =
 unfoldable pub pair : List Table → ℕ → Becomes
 pair ts f =
     cond (isSet 15 f) (Bad (fault 19))
-    (cond (ltb (part 0 7 f) (length ts))
-    (referred ts false (reference (part 7 7 f)) (isSet 14 f) (addressOrLength true (table ts (reference (part 0 7 f)))))
+    (cond (ltb (bits 6 0 f) (length ts))
+    (referred ts false (reference (bits 13 7 f)) (isSet 14 f) (addressOrLength true (table ts (reference (bits 6 0 f)))))
     (Bad (fault 20)))
 
 -- "minus with constant 0"
@@ -81,16 +84,20 @@ minusZero minus amount = minus && eqb amount 0
 -- type 010 short: "bit 15 zero, bit 14 set for minus, bit 13 set for a length, bits 12-6 the number, bits 5-0 the constant"
 unfoldable pub short : List Table → ℕ → Becomes
 short ts f =
-    cond (minusZero (isSet 14 f) (part 0 6 f)) (Bad (fault 19))
-    (referred ts (isSet 13 f) (reference (part 6 7 f)) (isSet 14 f) (part 0 6 f))
+    cond (minusZero (isSet 14 f) (bits 5 0 f)) (Bad (fault 19))
+    (referred ts (isSet 13 f) (reference (bits 12 6 f)) (isSet 14 f) (bits 5 0 f))
+
+-- "a constant of 64 or more"
+abbrev pub longLeast : ℕ
+longLeast = 64
 
 -- type 010 long: "bit 15 set, bit 14 set for minus, bits 13-0 a constant of 64 or more, and nine more indicator bits: set for a
 -- length, a zero, and seven bits of number"; x is these nine
 unfoldable pub long : List Table → ℕ → ℕ → Becomes
 long ts f x =
-    cond (ltb (part 0 14 f) 64) (Bad (fault 19))
+    cond (ltb (bits 13 0 f) longLeast) (Bad (fault 19))
     (cond (isSet 7 x) (Bad (fault 19))
-    (referred ts (isSet 8 x) (reference (part 0 7 x)) (isSet 14 f) (part 0 14 f)))
+    (referred ts (isSet 8 x) (reference (bits 6 0 x)) (isSet 14 f) (bits 13 0 f)))
 
 -- type 010
 unfoldable pub constant : List Table → ℕ → ℕ → Becomes
@@ -99,7 +106,7 @@ constant ts f x = cond (isSet 15 f) (long ts f x) (short ts f)
 -- type 100: "left only: bits 25-22, a number below the type 0 and 2 count, become its assignment". By refusal 16 that is at most
 -- 15; its low four bits are taken so that the definition is total.
 unfoldable pub switch : List ℕ → ℕ → Half → Reference → Becomes
-switch ios channels Left k = cond (leb channels (k .0)) (Bad (fault 20)) (Value (part 0 4 (getD ios (k .0) 0)))
+switch ios channels Left k = cond (leb channels (k .0)) (Bad (fault 20)) (Value (bits 3 0 (getD ios (k .0) 0)))
 switch ios channels Right k = Bad (fault 19)
 
 -- type 111: "the field, a number of a type 3 entry, becomes its assignment". By refusal 8 that is at most 65,535, so that 21

@@ -12,6 +12,11 @@ use word::Half;
 use word::Reference;
 use word::Relative;
 
+// A value outside 0 to 65,535 is refused (21); a long constant is 64 or more.
+pub const VALUE_LIMIT: u64 = 1 << 16;
+
+const LONG_LEAST: u64 = 64;
+
 // What a field becomes.
 pub enum Becomes {
     Value(u64),
@@ -45,7 +50,7 @@ pub fn left_step(s: Assigned, lists: &[u64], t: u64, w: u64, x: u64) -> Changed
         0 => put_back(Half::Left, w, moved_field(area, Relative(f))),
         1 => put_back(Half::Left, w, pair_of(g, lists, f)),
         2 => {
-            if f / 32768 % 2 == 1 {
+            if word::is_set(f, 15) {
                 return put_back(Half::Left, w, long_of(g, lists, f, x));
             }
             put_back(Half::Left, w, short_of(g, lists, f))
@@ -71,7 +76,7 @@ pub fn right_step(s: Assigned, lists: &[u64], t: u64, w: u64, x: u64) -> Changed
         0 => put_back(Half::Right, w, moved_field(area, Relative(f))),
         1 => put_back(Half::Right, w, pair_of(g, lists, f)),
         2 => {
-            if f / 32768 % 2 == 1 {
+            if word::is_set(f, 15) {
                 return put_back(Half::Right, w, long_of(g, lists, f, x));
             }
             put_back(Half::Right, w, short_of(g, lists, f))
@@ -95,14 +100,14 @@ fn pair_of(g: Given, lists: &[u64], f: u64) -> Becomes
     requires { ⌜ Readable g (now lists) ⌝ }
     ensures { λ b. ⌜ b ≡ pair (coreTables g (now (lists .entry))) f ⌝ }
 {
-    if f / 32768 % 2 == 1 {
+    if word::is_set(f, 15) {
         return Becomes::Bad(Fault { number: 19 });
     }
-    let k = Reference(f / 128 % 128);
-    let l = Reference(f % 128);
+    let k = Reference(word::bits(f, 13, 7));
+    let l = Reference(word::bits(f, 6, 0));
     if l.0 < g.tables {
         let amount = address_or_length(g, lists, true, l);
-        return refer(g, lists, false, k, f / 16384 % 2 == 1, amount);
+        return refer(g, lists, false, k, word::is_set(f, 14), amount);
     }
     Becomes::Bad(Fault { number: 20 })
 }
@@ -112,13 +117,13 @@ fn short_of(g: Given, lists: &[u64], f: u64) -> Becomes
     requires { ⌜ Readable g (now lists) ⌝ }
     ensures { λ b. ⌜ b ≡ short (coreTables g (now (lists .entry))) f ⌝ }
 {
-    let minus = f / 16384 % 2 == 1;
-    let amount = f % 64;
+    let minus = word::is_set(f, 14);
+    let amount = word::bits(f, 5, 0);
     if minus_zero(minus, amount) {
         return Becomes::Bad(Fault { number: 19 });
     }
-    let k = Reference(f / 64 % 128);
-    refer(g, lists, f / 8192 % 2 == 1, k, minus, amount)
+    let k = Reference(word::bits(f, 12, 6));
+    refer(g, lists, word::is_set(f, 13), k, minus, amount)
 }
 
 // Type 010, long, with bit 15 set: the number, and whether its length is meant, are in the nine more bits.
@@ -126,15 +131,15 @@ fn long_of(g: Given, lists: &[u64], f: u64, x: u64) -> Becomes
     requires { ⌜ Readable g (now lists) ⌝ }
     ensures { λ b. ⌜ b ≡ long (coreTables g (now (lists .entry))) f x ⌝ }
 {
-    let amount = f % 16384;
-    if amount < 64 {
+    let amount = word::bits(f, 13, 0);
+    if amount < LONG_LEAST {
         return Becomes::Bad(Fault { number: 19 });
     }
-    if x / 128 % 2 == 1 {
+    if word::is_set(x, 7) {
         return Becomes::Bad(Fault { number: 19 });
     }
-    let k = Reference(x % 128);
-    refer(g, lists, x / 256 % 2 == 1, k, f / 16384 % 2 == 1, amount)
+    let k = Reference(word::bits(x, 6, 0));
+    refer(g, lists, word::is_set(x, 8), k, word::is_set(f, 14), amount)
 }
 
 // Type 100: only a left half has it.
@@ -145,7 +150,7 @@ fn switch_of(g: Given, lists: &[u64], channels: u64, k: Reference) -> Becomes
     if channels <= k.0 {
         return Becomes::Bad(Fault { number: 20 });
     }
-    Becomes::Value(lists::load::io_assigned(g, lists, k) % 16)
+    Becomes::Value(word::bits(lists::load::io_assigned(g, lists, k), 3, 0))
 }
 
 // Type 111: the numbers of the type 3 entries come after those of types 0 and 2.
@@ -210,7 +215,7 @@ fn plus_or_minus(minus: bool, base: u64, amount: u64) -> Becomes
 fn valued_of(v: u64) -> Becomes
     ensures { λ b. ⌜ b ≡ valued v ⌝ }
 {
-    if v < 65536 {
+    if v < VALUE_LIMIT {
         return Becomes::Value(v);
     }
     Becomes::Bad(Fault { number: 21 })

@@ -12,11 +12,20 @@ ghost use Rattle.group.specs.HowWords.{isZero, ChangeReady, Changes, Nex
 use crate::halves;
 use crate::halves::WordChange;
 use field::Assigned;
+use field::VALUE_LIMIT;
 use indicator::Cursor;
 use word::Area;
 use word::Fault;
 use word::Half;
 use word::Relative;
+
+// Of the 64 bits ahead: the next five, where 01000 is no change and then type 000, the commonest change; and what is below if the next two
+// are 0, a word without change.
+const FIVE_BITS: u64 = 1 << 59;
+
+const MOVED: u64 = 8;
+
+const NO_CHANGE: u64 = 1 << 62;
 
 // The indicator words of a group: so many before a place of its block.
 pub struct IndicatorWords {
@@ -115,10 +124,10 @@ fn change_next(
 {
     let w = given[k];
     let area = s.given.area;
-    if c.ahead / 576460752303423488 == 8 {
+    if c.ahead / FIVE_BITS == MOVED {
         return store_word(out, k, moved_word(area, c, w));
     }
-    if c.ahead < 4611686018427387904 {
+    if c.ahead < NO_CHANGE {
         return pass_unchanged(c, k, given.len());
     }
     store_word(out, k, halves::change_word(s, lists, c, w))
@@ -162,7 +171,7 @@ fn moved_word(area: Area, c: Cursor, w: u64) -> WordChange
     ensures { λ r. ⌜ r ≡ movedWord area w c ⌝ }
 {
     let a = word::placed(area, Relative(word::field(w, Half::Right)));
-    if a.0 < 65536 {
+    if a.0 < VALUE_LIMIT {
         return WordChange::Next(
             word::move_right(area, w),
             Cursor {

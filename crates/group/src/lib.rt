@@ -18,6 +18,7 @@ use lists::Table;
 use program::Bank;
 use program::Group;
 use program::GroupRead;
+use program::LAST_WORD;
 use program::Segment;
 use word::Absolute;
 use word::Area;
@@ -133,7 +134,7 @@ fn fill_group(
     requires { ⌜ FillReady (s .given) (now lists) (now block) i g (now out) ⌝ }
     ensures { λ r. ⌜ Fills (fillOf (assignedBy s (now (lists .entry))) (now (block .entry)) i g) r (now (out .exit)) ⌝ }
 {
-    if 254 < i + g.words as usize {
+    if LAST_WORD < i + g.words as usize {
         return refuse(out, Fault { number: 18 });
     }
     if g.words < g.program {

@@ -10,6 +10,13 @@ use word::Absolute;
 use word::Area;
 use word::limits::MAP_WORDS;
 
+// "core 4,096 words, .. area 512 of size 64"
+const CORE: usize = 4096;
+
+const AREA: u64 = 512;
+
+const AREA_WORDS: u64 = 64;
+
 // What comes next on standard input.
 pub enum Input {
     End,
@@ -84,13 +91,13 @@ fn feed_all(desk: &mut [u64], core: &mut [u64], place: u64) {
 // "core 4,096 words, room 0's stretch all of them, other stretches empty, area 512 of size 64, no lists"
 fn main() {
     let mut desk = [0u64; DESK_WORDS];
-    let mut core = [0u64; 4096];
+    let mut core = [0u64; CORE];
     let mut map = [0u64; MAP_WORDS];
-    map[1] = 4096;
-    calls::make::make_desk(&mut desk, 4096, &map);
+    map[1] = CORE as u64;
+    calls::make::make_desk(&mut desk, CORE as u64, &map);
     let area = Area {
-        at: Absolute(512),
-        size: 64,
+        at: Absolute(AREA),
+        size: AREA_WORDS,
     };
     let none = &map[..0];
     match calls::open::open_load(&mut desk, &mut core, 0, area, none, none) {

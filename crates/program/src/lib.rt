@@ -8,6 +8,9 @@ use word::Fault;
 use word::Reference;
 use word::Relative;
 
+// The last word of a program block that sections and groups may use; the checksum stands behind it.
+pub const LAST_WORD: usize = 254;
+
 // IBANK or DBANK: where it starts, and how many words it has.
 pub struct Bank {
     pub at: Relative,

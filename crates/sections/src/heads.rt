@@ -8,6 +8,7 @@ ghost use Rattle.sections.specs.Heads.{besideTable, banksFit, segmentSte
 use crate::Item;
 use lists::Given;
 use program::Bank;
+use program::LAST_WORD;
 use program::Segment;
 use program::SegmentRead;
 use program::TableSectionRead;
@@ -22,7 +23,7 @@ pub fn segment_head(g: Given, lists: &[u64], c: LabelCounts, block: &[u64], i: u
     requires { ⌜ (Readable g (now lists)) × (length (now block) ≡ 256) × (i ≤ 254) ⌝ }
     ensures { λ r. ⌜ r ≡ segmentStep (g .area) (coreTables g (now (lists .entry))) c (now (block .entry)) i ⌝ }
 {
-    if 254 < i + 3 {
+    if LAST_WORD < i + 3 {
         return Item::Stop(Step::Refused(Fault { number: 17 }));
     }
     match program::read_segment(block[i], block[i + 1]) {

@@ -7,16 +7,21 @@ ghost use Rattle.sections.specs.HowItems.{Numbered, readingOf};
 ghost use Rattle.sections.specs.Program.{afterLast, afterGroup, itemStep, programStep, ItemMeets, StepMeets};
 use crate::Item;
 use crate::heads;
+use block::BLOCK_WORDS;
 use field::Assigned;
 use group::GroupStep;
 use group::Section;
 use lists::Given;
 use program::Bank;
+use program::LAST_WORD;
 use stage::Due;
 use stage::LabelCounts;
 use stage::Stage;
 use stage::Step;
 use word::Reference;
+
+// Where no identifier can stand any more.
+const PAST_ITEMS: usize = LAST_WORD + 1;
 
 // How the word at a place is read: as a section's head, or as the identifier of a group, with its section, the least number of a
 // table section after it and the IBANK.
@@ -39,7 +44,7 @@ pub fn program_step(
     requires { ⌜ KeptWaits g (now lists) (Stage.Program c due) (now block) (now core) ⌝ }
     ensures { λ r. ⌜ StepMeets (programStep (loadOf g (now (lists .entry))) c due (now (block .entry)) (now (core .entry))) r (now (core .exit)) ⌝ }
 {
-    let mut b = [0u64; 256];
+    let mut b = [0u64; BLOCK_WORDS];
     word::slices::copy_in(&mut b, 0, block);
     walk_items(g, lists, c, due, &b, core)
 }
@@ -59,7 +64,7 @@ fn walk_items(
     let mut counts = c;
     let mut next = due;
     let mut i: usize = 1;
-    while i < 255 {
+    while i < PAST_ITEMS {
         if block[i] == 0 {
             return Step::More(Stage::Program(counts, next));
         }

@@ -13,7 +13,7 @@ use Rattle.stage.specs.declared.Due.the-variants.{Segment as segment-due
 use Rattle.stage.specs.declared.Stage.{Stage}
 use Rattle.stage.specs.declared.Stage.the-variants.{Label, Entry, Program, Termination, Complete, Broken}
 
--- the numbers are: what is due; the course's two; a table's number, a block's, or whether longer tables are forbidden; a second of
+-- the numbers are: what is due; the label counts' two; a table's number, a block's, or whether longer tables are forbidden; a second of
 -- these; the IBANK's address and count; the DBANK's
 abbrev pub flag : Bool → ℕ
 flag exact = cond exact 1 0
@@ -31,8 +31,8 @@ numbersOf Complete = 7 ∷ 0 ∷ 0 ∷ 0 ∷ 0 ∷ 0 ∷ 0 ∷ 0 ∷ 0 ∷ []
 numbersOf Broken = 8 ∷ 0 ∷ 0 ∷ 0 ∷ 0 ∷ 0 ∷ 0 ∷ 0 ∷ 0 ∷ []
 
 -- the parts of a stage, from its numbers
-abbrev pub courseIn : List ℕ → LabelCounts
-courseIn l = record { channels = getD l 1 0; sections = getD l 2 0 }
+abbrev pub labelCountsIn : List ℕ → LabelCounts
+labelCountsIn l = record { channels = getD l 1 0; sections = getD l 2 0 }
 
 abbrev pub ibankIn : List ℕ → Bank
 ibankIn l = record { at = record { 0 = getD l 5 0 }; count = getD l 6 0 }
@@ -46,11 +46,11 @@ tableSectionIn l = record { number = record { 0 = getD l 3 0 }; count = getD l 4
 unfoldable pub stageOf : List ℕ → Stage
 stageOf l =
     cond (eqb (getD l 0 0) 0) Label
-    (cond (eqb (getD l 0 0) 1) (Entry (courseIn l) (eqb (getD l 4 0) 1) (getD l 3 0))
-    (cond (eqb (getD l 0 0) 2) (Program (courseIn l) segment-due)
-    (cond (eqb (getD l 0 0) 3) (Program (courseIn l) (SegmentGroup (segmentIn l)))
-    (cond (eqb (getD l 0 0) 4) (Program (courseIn l) (Section (record { 0 = getD l 3 0 }) (ibankIn l)))
-    (cond (eqb (getD l 0 0) 5) (Program (courseIn l) (SectionGroup (tableSectionIn l) (ibankIn l)))
+    (cond (eqb (getD l 0 0) 1) (Entry (labelCountsIn l) (eqb (getD l 4 0) 1) (getD l 3 0))
+    (cond (eqb (getD l 0 0) 2) (Program (labelCountsIn l) segment-due)
+    (cond (eqb (getD l 0 0) 3) (Program (labelCountsIn l) (SegmentGroup (segmentIn l)))
+    (cond (eqb (getD l 0 0) 4) (Program (labelCountsIn l) (Section (record { 0 = getD l 3 0 }) (ibankIn l)))
+    (cond (eqb (getD l 0 0) 5) (Program (labelCountsIn l) (SectionGroup (tableSectionIn l) (ibankIn l)))
     (cond (eqb (getD l 0 0) 6) (Termination (ibankIn l))
     (cond (eqb (getD l 0 0) 7) Complete
     Broken)))))))

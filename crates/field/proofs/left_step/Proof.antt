@@ -2,6 +2,7 @@
 use Rattle.word.specs.declared.Half.the-variants.{Left}
 use Rattle.field.specs.Field.{becomes, putBack, fieldStep, assignedBy}
 use Rattle.field.proofs.Field.{moved-fits, pair-fits, long-fits, short-fits, switch-fits, unit-fits, moved-arm, pair-arm, long-arm, short-arm, unit-arm}
+use mathlib.Core.Path.{sym, _∙_}
 use Rattle.word.proofs.Tests.{tests}
 use borrow.Author.Needs.{needs}
 use Rattle.field.proofs.left_step.Statement.{statement}
@@ -22,6 +23,9 @@ pair-of-requires c κs = search needs
 put-back-requires-2 : tie.Need-put-back-requires-2
 put-back-requires-2 c κs = (search needs, rw (c .pair-of .ensures) (pair-fits _ _))
 
+is-set-requires : tie.Need-is-set-requires
+is-set-requires c κs = search needs
+
 long-of-requires : tie.Need-long-of-requires
 long-of-requires c κs = search needs
 
@@ -30,8 +34,8 @@ put-back-requires-3 c κs = (search needs, rw (c .long-of .ensures) (long-fits _
 
 returns : tie.Need-returns
 unfolding assignedBy
-returns c = let m = c .before .before .before in
-    long-arm _ Left _ _ (m .before .field .ensures) (c .put-back3 .ensures) (m .match .keys3) (c .before .before .if1 .taken) (c .before .long-of .ensures)
+returns c = let m = c .before .before .before .before in
+    long-arm _ Left _ _ (m .before .field .ensures) (c .put-back3 .ensures) (m .match .keys3) (sym (c .before .before .before .is-set .ensures) ∙ c .before .before .if1 .taken) (c .before .long-of .ensures)
 
 short-of-requires : tie.Need-short-of-requires
 short-of-requires c κs = search needs
@@ -66,8 +70,8 @@ returns-3 c = let m = c .before .before in
 
 returns-4 : tie.Need-returns-4
 unfolding assignedBy
-returns-4 c = let m = c .before .before .before in
-    short-arm _ Left _ _ (m .before .field .ensures) (c .put-back4 .ensures) (m .match .keys3) (c .before .before .if1 .left) (c .before .short-of .ensures)
+returns-4 c = let m = c .before .before .before .before in
+    short-arm _ Left _ _ (m .before .field .ensures) (c .put-back4 .ensures) (m .match .keys3) (sym (c .before .before .before .is-set .ensures) ∙ c .before .before .if1 .left) (c .before .short-of .ensures)
 
 returns-5 : tie.Need-returns-5
 unfolding fieldStep becomes assignedBy
@@ -92,6 +96,7 @@ left-step-spec =
     put-back-requires
     pair-of-requires
     put-back-requires-2
+    is-set-requires
     long-of-requires
     put-back-requires-3
     returns
