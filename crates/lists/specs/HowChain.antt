@@ -1,5 +1,5 @@
--- The test of the words that are kept for a load's tables: one pass along them. That what passes obeys refusal 8 is proved, so
--- a sound desk is known without looking at every two tables.
+-- How the code goes, not a rule of 01: the test of the words that are kept for a load's tables, one pass along them. That what
+-- passes obeys refusal 8 is proved, so a sound desk is known without looking at every two tables.
 use Prim.Native.Nat.{ℕ, _+_}
 use mathlib.Core.Bool.{Bool, _&&_}
 use mathlib.Core.List.{List, [], _∷_}

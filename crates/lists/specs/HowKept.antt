@@ -1,5 +1,5 @@
--- How the desk keeps a load's two lists, and what is read of them. The kept words are numbers of 64 bits; whatever stands in
--- them, every reading is defined.
+-- How the code goes, not a rule of 01: how a load's two lists are read from the numbers that the desk keeps of them. These have 64
+-- bits each; whatever stands in them, every reading is defined.
 use Prim.Native.Nat.{ℕ, _*_, _/_, _%_}
 use mathlib.Core.Bool.{cond}
 use mathlib.Core.List.{List}
