@@ -1,4 +1,5 @@
--- How the code goes, not a rule of 01: what the desk keeps of the two lists that are lent to open. `HowKept.antt` says how it is read.
+-- How the code goes, not a rule of 01: what the desk keeps of the two lists that are lent to open. `HowKept.antt` says how it is
+-- read.
 use Prim.Native.Nat.{ℕ, suc, _+_, _*_, _-_, _/_, _%_, _^_, _≤_}
 use mathlib.Core.Path.{_≡_}
 use mathlib.Core.Bool.{Bool, true, cond, _&&_}
