@@ -5,30 +5,35 @@
      feed                     a line for each call, parted by tabs: its name, and the nanoseconds of library, peer, reader and copy
      feed once LOADER-CALL N  one call between begin_call and end_call, for bench/run to count its instructions; N is few or full,
                               or falling for open, or how many groups the block of a call of that name has */
-#include <stdio.h>
-#include <stdlib.h>
+#include <math.h>
 #include <string.h>
-#include <time.h>
 
-#include "clamp.h"
+#include "block_layout.h"
 #include "file.h"
 #include "peer.h"
 #include "reader.h"
 
-enum { CORE = 65536, BATCHES = 300 };
+/* How many batches, and how many calls a batch of each kind has. */
+enum { BATCHES = 300, FEEDS = 20, RELEASES = 100, OPENS = 5, MAKES = 50 };
 
-static const struct entries few = {1, 1, 2}, full = {16, 112, 128};
+/* The load that is fed, the first; and where one more is opened, in the last words of the core, which no load has. */
+enum { ROOM = 0, PLACE = 0, LAST_ROOM = ROOMS - 1, LAST_AREA = CORE_MOST - AREA_WORDS };
 
-static uint64_t desk[3653], core[CORE], peer_desk[3653], peer_core[CORE], second_core[CORE];
-static uint64_t io[128], tables[256], block[256], map[16];
+static const struct entries few = {.channels = 1, .units = 1, .tables = 2};
+
+static uint64_t desk[CLAMP_DESK_WORDS], core[CORE_MOST], peer_desk[CLAMP_DESK_WORDS], peer_core[CORE_MOST], second_core[CORE_MOST];
+static uint64_t io[ENTRIES_MOST], tables[PAIRS_MOST], block[WORDS_IN_BLOCK], map[MAP_LENGTH];
 static struct reader second;
 static uint64_t place;
 static volatile uint64_t sink, last;
 
-static void expect(uint64_t answer, uint64_t peer, uint64_t reader, uint64_t code) {
-  if (answer != peer || answer != reader || CLAMP_CODE(answer) != code) {
-    fprintf(stderr, "feed: answers %llu, %llu and %llu where %llu is due\n", (unsigned long long)CLAMP_CODE(answer),
-            (unsigned long long)CLAMP_CODE(peer), (unsigned long long)CLAMP_CODE(reader), (unsigned long long)code);
+/* The same answer from all, and of this code. */
+static void all_answer(uint64_t answer, uint64_t peer, uint64_t reader, uint64_t code) {
+  expect("feed: the library", answer, code);
+  expect("feed: the peer", peer, code);
+  expect("feed: the reader", reader, code);
+  if (answer != peer || answer != reader) {
+    fprintf(stderr, "feed: the values of the answers differ\n");
     exit(1);
   }
 }
@@ -36,51 +41,50 @@ static void expect(uint64_t answer, uint64_t peer, uint64_t reader, uint64_t cod
 /* ---- a desk with loads, on all loaders */
 
 static void all_feed(uint64_t code) {
-  expect(clamp_feed(desk, 3653, core, CORE, 0, 0, block, 256), peer_feed(peer_desk, 3653, peer_core, CORE, 0, 0, block, 256),
-         reader_feed(&second, second_core, CORE, 0, 0, block, 256), code);
+  all_answer(clamp_feed(desk, CLAMP_DESK_WORDS, core, CORE_MOST, ROOM, PLACE, block, WORDS_IN_BLOCK),
+             peer_feed(peer_desk, CLAMP_DESK_WORDS, peer_core, CORE_MOST, ROOM, PLACE, block, WORDS_IN_BLOCK),
+             reader_feed(&second, second_core, CORE_MOST, ROOM, PLACE, block, WORDS_IN_BLOCK), code);
 }
 
-static void all_open(unsigned room, uint64_t area, struct entries entries) {
+static void all_open(unsigned load, struct entries entries) {
+  uint64_t room = room_of(load), area = area_of(load);
   uint64_t n = entries.channels + entries.units, m = 2 * entries.tables;
-  write_lists(io, tables, entries, area, 0);
-  expect(clamp_open(desk, 3653, core, CORE, room, area, AREA_WORDS, io, n, tables, m),
-         peer_open(peer_desk, 3653, peer_core, CORE, room, area, AREA_WORDS, io, n, tables, m),
-         reader_open(&second, second_core, CORE, room, area, AREA_WORDS, io, n, tables, m), 65);
+  write_lists(io, tables, entries, area, false);
+  all_answer(clamp_open(desk, CLAMP_DESK_WORDS, core, CORE_MOST, room, area, AREA_WORDS, io, n, tables, m),
+             peer_open(peer_desk, CLAMP_DESK_WORDS, peer_core, CORE_MOST, room, area, AREA_WORDS, io, n, tables, m),
+             reader_open(&second, second_core, CORE_MOST, room, area, AREA_WORDS, io, n, tables, m), CLAMP_OPENED);
 }
 
 static void all_make(void) {
-  for (unsigned k = 0; k < 8; k++) {
-    map[2 * k] = 8192 * k;
-    map[2 * k + 1] = 8192;
-  }
-  expect(clamp_make(desk, 3653, CORE, map, 16), peer_make(peer_desk, 3653, CORE, map, 16), reader_make(&second, CORE, map, 16), 64);
+  even_map(map);
+  all_answer(clamp_make(desk, CLAMP_DESK_WORDS, CORE_MOST, map, MAP_LENGTH),
+             peer_make(peer_desk, CLAMP_DESK_WORDS, CORE_MOST, map, MAP_LENGTH), reader_make(&second, CORE_MOST, map, MAP_LENGTH),
+             CLAMP_MADE);
 }
 
-/* A desk with this many loads (at most twelve: rooms 0 to 3 hold two each, rooms 4 to 7 one), the first of them with its segment section read. */
+/* A desk with this many loads, the first of them with its segment section read. */
 static void make_desk(unsigned loads, struct entries entries) {
   all_make();
-  for (unsigned k = 0; k < loads; k++) {
-    unsigned room = k < 8 ? k : k - 8;
-    all_open(room, 8192 * room + (k < 8 ? 0 : 4096), entries);
-  }
+  for (unsigned load = 0; load < loads; load++)
+    all_open(load, entries);
   write_label_block(block, entries);
-  all_feed(66);
+  all_feed(CLAMP_MORE);
   for (unsigned i = entries_blocks(entries); i > 0; i--) {
     write_entries_block(block);
-    all_feed(66);
+    all_feed(CLAMP_MORE);
   }
   write_segment_block(block);
-  all_feed(66);
+  all_feed(CLAMP_MORE);
 }
 
 /* ---- what is timed */
 
 /* As fast as the compiler makes it. */
 __attribute__((optimize("O3"))) static void floor_copy(void) {
-  static uint64_t to[256];
+  static uint64_t to[WORDS_IN_BLOCK];
   uint64_t sum = 0;
   memcpy(to, block, sizeof to);
-  for (unsigned i = 0; i < 256; i++)
+  for (unsigned i = 0; i < WORDS_IN_BLOCK; i++)
     sum += to[i];
   sink = sum;
 }
@@ -89,49 +93,48 @@ __attribute__((optimize("O3"))) static void floor_copy(void) {
 enum { CLAMP, PEER, READER, LOADERS };
 typedef void (*const by_each[LOADERS])(void);
 
-static void clamp_fed(void) { last = clamp_feed(desk, 3653, core, CORE, 0, 0, block, 256); }
-static void peer_fed(void) { last = peer_feed(peer_desk, 3653, peer_core, CORE, 0, 0, block, 256); }
-static void reader_fed(void) { last = reader_feed(&second, second_core, CORE, 0, 0, block, 256); }
-static void clamp_tested(void) { last = clamp_release(desk, 3653, CORE, 0, 12); }
-static void peer_tested(void) { last = peer_release(peer_desk, 3653, CORE, 0, 12); }
-static void reader_tested(void) { last = reader_release(&second, CORE, 0, 12); }
-static void clamp_made(void) { last = clamp_make(desk, 3653, CORE, map, 16); }
-static void peer_made(void) { last = peer_make(peer_desk, 3653, CORE, map, 16); }
-static void reader_made(void) { last = reader_make(&second, CORE, map, 16); }
+static void clamp_fed(void) {
+  last = clamp_feed(desk, CLAMP_DESK_WORDS, core, CORE_MOST, ROOM, PLACE, block, WORDS_IN_BLOCK);
+}
+
+static void peer_fed(void) {
+  last = peer_feed(peer_desk, CLAMP_DESK_WORDS, peer_core, CORE_MOST, ROOM, PLACE, block, WORDS_IN_BLOCK);
+}
+
+static void reader_fed(void) {
+  last = reader_feed(&second, second_core, CORE_MOST, ROOM, PLACE, block, WORDS_IN_BLOCK);
+}
+
+static void clamp_tested(void) { last = clamp_release(desk, CLAMP_DESK_WORDS, CORE_MOST, ROOM, PLACES); }
+static void peer_tested(void) { last = peer_release(peer_desk, CLAMP_DESK_WORDS, CORE_MOST, ROOM, PLACES); }
+static void reader_tested(void) { last = reader_release(&second, CORE_MOST, ROOM, PLACES); }
+static void clamp_made(void) { last = clamp_make(desk, CLAMP_DESK_WORDS, CORE_MOST, map, MAP_LENGTH); }
+static void peer_made(void) { last = peer_make(peer_desk, CLAMP_DESK_WORDS, CORE_MOST, map, MAP_LENGTH); }
+static void reader_made(void) { last = reader_make(&second, CORE_MOST, map, MAP_LENGTH); }
 
 static void clamp_opened(void) {
-  place = CLAMP_VALUE(clamp_open(desk, 3653, core, CORE, 7, 7 * 8192 + 4096, AREA_WORDS, io, 128, tables, 256));
-  last = clamp_release(desk, 3653, CORE, 7, place);
+  place = CLAMP_VALUE(
+      clamp_open(desk, CLAMP_DESK_WORDS, core, CORE_MOST, LAST_ROOM, LAST_AREA, AREA_WORDS, io, ENTRIES_MOST, tables, PAIRS_MOST));
+  last = clamp_release(desk, CLAMP_DESK_WORDS, CORE_MOST, LAST_ROOM, place);
 }
 
 static void peer_opened(void) {
-  place = CLAMP_VALUE(peer_open(peer_desk, 3653, peer_core, CORE, 7, 7 * 8192 + 4096, AREA_WORDS, io, 128, tables, 256));
-  last = peer_release(peer_desk, 3653, CORE, 7, place);
+  place = CLAMP_VALUE(peer_open(peer_desk, CLAMP_DESK_WORDS, peer_core, CORE_MOST, LAST_ROOM, LAST_AREA, AREA_WORDS, io,
+                                ENTRIES_MOST, tables, PAIRS_MOST));
+  last = peer_release(peer_desk, CLAMP_DESK_WORDS, CORE_MOST, LAST_ROOM, place);
 }
 
 static void reader_opened(void) {
-  place = CLAMP_VALUE(reader_open(&second, second_core, CORE, 7, 7 * 8192 + 4096, AREA_WORDS, io, 128, tables, 256));
-  last = reader_release(&second, CORE, 7, place);
+  place = CLAMP_VALUE(
+      reader_open(&second, second_core, CORE_MOST, LAST_ROOM, LAST_AREA, AREA_WORDS, io, ENTRIES_MOST, tables, PAIRS_MOST));
+  last = reader_release(&second, CORE_MOST, LAST_ROOM, place);
 }
 
 static by_each fed = {clamp_fed, peer_fed, reader_fed}, tested = {clamp_tested, peer_tested, reader_tested},
                opened = {clamp_opened, peer_opened, reader_opened}, made = {clamp_made, peer_made, reader_made};
 
-static double now(void) {
-  struct timespec t;
-  clock_gettime(CLOCK_PROCESS_CPUTIME_ID, &t); /* not the other programs of a busy machine */
-  return t.tv_sec * 1e9 + t.tv_nsec;
-}
-
-static double batch(void (*call)(void), unsigned calls) {
-  double t = now();
-  for (unsigned i = 0; i < calls; i++)
-    call();
-  return (now() - t) / calls;
-}
-
 static void row(const char *name, by_each call, unsigned calls) {
-  double best[LOADERS + 1] = {1e18, 1e18, 1e18, 1e18};
+  double best[LOADERS + 1] = {INFINITY, INFINITY, INFINITY, INFINITY}; /* of each loader, and of the copy */
   for (unsigned i = 0; i < BATCHES; i++)
     for (unsigned k = 0; k <= LOADERS; k++) {
       double t = batch(k < LOADERS ? call[k] : floor_copy, calls);
@@ -150,72 +153,68 @@ static void row(const char *name, by_each call, unsigned calls) {
 static const char *const shapes[SHAPES] = {"no half changed", "right halves 000", "every half changed", "mixed"};
 static const char *const calls[SHAPES] = {"plain", "right", "dense", "mixed"};
 
+enum { NAME_MOST = 80 };
+
 static void fed_rows(const char *where, struct entries entries) {
-  char name[80];
+  char name[NAME_MOST];
   for (enum shape shape = PLAIN; shape < SHAPES; shape++) {
     unsigned words = write_group_block(block, shape, entries, 1);
-    all_feed(66);
+    all_feed(CLAMP_MORE);
     snprintf(name, sizeof name, "feed, %s: %u words, %s", where, words, shapes[shape]);
-    row(name, fed, 20);
-    all_feed(66); /* each one timed was accepted: this is not broken */
+    row(name, fed, FEEDS);
+    all_feed(CLAMP_MORE); /* each one timed was accepted: this is not broken */
   }
   if (memcmp(core, peer_core, sizeof core) != 0 || memcmp(core, second_core, sizeof core) != 0 ||
       memcmp(desk, peer_desk, sizeof desk) != 0) {
     fprintf(stderr, "feed: the cores or desks differ\n");
     exit(1);
   }
-  block[255] ^= 1;
+  block[CHECKSUM_WORD] ^= 1;
   snprintf(name, sizeof name, "feed, %s: checksum wrong (12)", where);
-  row(name, fed, 20);
-  all_feed(12);
+  row(name, fed, FEEDS);
+  all_feed(CLAMP_REFUSED_CHECKSUM);
   snprintf(name, sizeof name, "release, %s: no such place (9)", where);
-  row(name, tested, 100);
+  row(name, tested, RELEASES);
 }
 
-static void opened_row(const char *name, unsigned loads, int falling) {
+static void opened_row(const char *name, unsigned loads, bool falling) {
   make_desk(loads, full);
-  write_lists(io, tables, full, 7 * 8192 + 4096, falling);
-  row(name, opened, 5);
-  expect(last, last, last, 68);
+  write_lists(io, tables, full, LAST_AREA, falling);
+  row(name, opened, OPENS);
+  expect("feed", last, CLAMP_RELEASED);
 }
 
 static int table(void) {
   make_desk(1, few);
   fed_rows("one load", few);
-  make_desk(12, full);
+  make_desk(PLACES, full);
   fed_rows("full desk", full);
-  opened_row("open and release, one load, tables rising", 1, 0);
-  opened_row("open and release, one load, tables falling", 1, 1);
-  opened_row("open and release, eleven loads, tables rising", 11, 0);
-  opened_row("open and release, eleven loads, tables falling", 11, 1);
-  row("make", made, 50);
+  opened_row("open and release, one load, tables rising", 1, false);
+  opened_row("open and release, one load, tables falling", 1, true);
+  opened_row("open and release, eleven loads, tables rising", PLACES - 1, false);
+  opened_row("open and release, eleven loads, tables falling", PLACES - 1, true);
+  row("make", made, MAKES);
   return 0;
 }
 
 /* ---- one call, to be counted */
 
-__attribute__((noinline)) void begin_call(void) { __asm__ volatile(""); }
-__attribute__((noinline)) void end_call(void) { __asm__ volatile(""); }
-
-static void once(void (*call)(void)) {
-  call();
-  begin_call();
-  call();
-  end_call();
+static bool begins(const char *text, const char *with) {
+  return strncmp(text, with, strlen(with)) == 0;
 }
 
 static int counted(const char *call, const char *where) {
   struct entries entries = strcmp(where, "full") == 0 ? full : few;
-  unsigned by = strncmp(call, "reader-", 7) == 0 ? READER : strncmp(call, "peer-", 5) == 0 ? PEER : CLAMP;
+  unsigned by = begins(call, "reader-") ? READER : begins(call, "peer-") ? PEER : CLAMP;
   call += strcspn(call, "-") + 1;
-  make_desk(entries.tables == 128 ? 12 : 1, entries);
+  make_desk(entries.tables == full.tables ? PLACES : 1, entries);
   write_group_block(block, MIXED, entries, strcmp(call, "groups") == 0 ? (unsigned)atoi(where) : 1);
   for (enum shape shape = PLAIN; shape < MIXED; shape++)
     if (strcmp(call, calls[shape]) == 0)
       write_group_block(block, shape, entries, 1);
   if (strcmp(call, "open") == 0) {
-    make_desk(11, full);
-    write_lists(io, tables, full, 7 * 8192 + 4096, strcmp(where, "falling") == 0);
+    make_desk(PLACES - 1, full);
+    write_lists(io, tables, full, LAST_AREA, strcmp(where, "falling") == 0);
     once(opened[by]);
   } else if (strcmp(call, "make") == 0)
     once(made[by]);
@@ -225,13 +224,13 @@ static int counted(const char *call, const char *where) {
     once(floor_copy);
   else {
     if (strcmp(call, "checksum") == 0)
-      block[255] ^= 1;
+      block[CHECKSUM_WORD] ^= 1;
     once(fed[by]);
   }
-  printf("%llu\n", (unsigned long long)CLAMP_CODE(last));
+  printf("%" PRIu64 "\n", CLAMP_CODE(last));
   return 0;
 }
 
 int main(int count, char **arguments) {
-  return count == 4 ? counted(arguments[2], arguments[3]) : table();
+  return count == ONCE_ARGUMENTS ? counted(arguments[FIRST_AT], arguments[SECOND_AT]) : table();
 }

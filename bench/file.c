@@ -3,45 +3,51 @@
 
 #include <string.h>
 
+#include "block_layout.h"
 #include "reader.h"
+
+const struct entries full = {.channels = CHANNELS_MOST, .units = ENTRIES_MOST - CHANNELS_MOST, .tables = ENTRIES_MOST};
 
 static void seal(uint64_t *block, unsigned at) {
   block[at] = reader_checksum(block, at);
 }
 
 static void begin(uint64_t *block, uint64_t identifier) {
-  memset(block, 0, 256 * sizeof *block);
-  block[0] = identifier;
+  memset(block, 0, WORDS_IN_BLOCK * sizeof *block);
+  block[IDENTIFIER_WORD] = identifier;
 }
 
 void write_label_block(uint64_t *block, struct entries entries) {
-  const uint64_t types[3] = {2, 3, 12}, counts[3] = {entries.channels, entries.units, entries.tables};
+  const struct {
+    uint64_t type, count;
+  } lists[] = {{TYPE_CHANNEL, entries.channels}, {TYPE_UNIT, entries.units}, {TYPE_CORE, entries.tables}};
+  const uint64_t spaces = UINT64_C(0050505050505);
   unsigned words = 0;
-  begin(block, 0060505050505);
-  block[1] = 0050505050505;
-  block[2] = 0100000000000;
-  for (unsigned i = 0; i < 3; i++)
-    if (counts[i] != 0)
-      block[4 + words++] = types[i] << 32 | counts[i];
-  block[3] = (uint64_t)words << 18 | (entries.channels + entries.units + entries.tables);
-  block[253] = 1 << 18;
-  block[255] = block[0];
-  seal(block, 254);
+  begin(block, put(spaces, 35, 30, FIRST_LETTER)); /* the name is A */
+  block[NAME_WORD + 1] = spaces;
+  block[TYPE_FLAG_WORD] = put(0, 35, 33, DIRECT_ROC);
+  for (unsigned i = 0; i < sizeof lists / sizeof lists[0]; i++)
+    if (lists[i].count != 0)
+      block[TABLES_WORD + words++] = put(0, 35, 32, lists[i].type) | put(0, 8, 0, lists[i].count);
+  block[COUNTS_WORD] = put(0, 28, 18, words) | put(0, 10, 0, entries.channels + entries.units + entries.tables);
+  block[SECTIONS_WORD] = put(0, 33, 18, 1);
+  block[NAME_AGAIN_WORD] = block[NAME_WORD];
+  seal(block, LABEL_CHECKSUM_WORD);
 }
 
 void write_entries_block(uint64_t *block) {
-  begin(block, 0502224112710);
-  seal(block, 255);
+  begin(block, MODRC);
+  seal(block, CHECKSUM_WORD);
 }
 
 unsigned entries_blocks(struct entries entries) {
-  return (unsigned)((2 * (entries.channels + entries.units) + 3 * entries.tables + 253) / 254);
+  return (unsigned)entry_blocks(entries.channels + entries.units, entries.tables);
 }
 
 void write_segment_block(uint64_t *block) {
-  begin(block, 0502527242710);
-  block[1] = (uint64_t)TABLES_FROM << 18;
-  seal(block, 255);
+  begin(block, PRORC);
+  block[FIRST_WORD] = put(0, 33, 18, TABLES_FROM);
+  seal(block, CHECKSUM_WORD);
 }
 
 /* ---- a group */
@@ -49,7 +55,7 @@ void write_segment_block(uint64_t *block) {
 /* The indicator bits of a group, the first one first. */
 struct bits {
   unsigned count;
-  unsigned char bit[254 * 26];
+  unsigned char bit[WORDS_BETWEEN * 2 * LONG_BITS];
 };
 
 static void add(struct bits *bits, uint64_t value, unsigned count) {
@@ -57,95 +63,116 @@ static void add(struct bits *bits, uint64_t value, unsigned count) {
     bits->bit[bits->count++] = value >> count & 1;
 }
 
+/* No change; and a change of this type. */
+static void add_plain(struct bits *bits) {
+  add(bits, 0, PLAIN_BITS);
+}
+
+static void add_change(struct bits *bits, uint64_t type) {
+  add(bits, bit_at(CHANGE_BITS - 1) | type, CHANGE_BITS);
+}
+
+/* What the halves of a dense block add to an address: by type 000 and the short form of type 010, and by its long form. */
+enum { PLUS_SHORT = 5, PLUS_LONG = 100 };
+
 /* The changes that a dense block has, in turn. Types 001 and 010 speak of table 0, or of the last one. */
 static uint64_t dense_half(struct bits *bits, unsigned half, struct entries entries) {
+  enum { CHANNEL, AREA, PAIR, TABLE_SHORT, TABLE_LONG, UNIT, CHANGES };
   uint64_t last = entries.tables - 1;
-  switch (half % 6) {
-  case 0: /* left: 100, the last channel, in bits 25-22 of the word, which are the field's bits 7-4 */
-    add(bits, 014, 4);
-    return (entries.channels - 1) << 4;
-  case 1: /* 000 */
-    add(bits, 010, 4);
-    return 5;
-  case 2: /* 001: the last table's address plus table 0's length */
-    add(bits, 011, 4);
-    return last << 7;
-  case 3: /* 010 short: table 0's address plus 5 */
-    add(bits, 012, 4);
-    return 5;
-  case 4: /* 010 long: the last table's address plus 100 */
-    add(bits, 012, 4);
-    add(bits, last, 9);
-    return 0100000 | 100;
-  default: /* right: 111, the last unit */
-    add(bits, 017, 4);
+  switch (half % CHANGES) {
+  case CHANNEL: /* left: 100, the last channel, in bits 25-22 of the word, which are the field's bits 7-4 */
+    add_change(bits, CHANGE_CHANNEL);
+    return put(0, 7, 4, entries.channels - 1);
+  case AREA: /* 000 */
+    add_change(bits, CHANGE_AREA);
+    return PLUS_SHORT;
+  case PAIR: /* 001: the last table's address plus table 0's length */
+    add_change(bits, CHANGE_PAIR);
+    return put(0, 13, 7, last);
+  case TABLE_SHORT: /* 010 short: table 0's address plus 5 */
+    add_change(bits, CHANGE_TABLE);
+    return put(0, 5, 0, PLUS_SHORT);
+  case TABLE_LONG: /* 010 long: the last table's address plus 100 */
+    add_change(bits, CHANGE_TABLE);
+    add(bits, put(0, 6, 0, last), LONG_MORE_BITS);
+    return bit_at(15) | put(0, 13, 0, PLUS_LONG);
+  default: /* UNIT, right: 111, the last unit */
+    add_change(bits, CHANGE_UNIT);
     return entries.channels + entries.units - 1;
   }
 }
 
 static uint64_t next_word(struct bits *bits, unsigned i, enum shape shape, struct entries entries) {
-  static const enum shape mixed[8] = {RIGHT, PLAIN, RIGHT, RIGHT, PLAIN, PLAIN, RIGHT, DENSE};
+  enum { ANY_WORD = 0123456701 };
+  static const enum shape mixed[] = {RIGHT, PLAIN, RIGHT, RIGHT, PLAIN, PLAIN, RIGHT, DENSE};
   uint64_t left;
-  switch (shape == MIXED ? mixed[i % 8] : shape) {
+  switch (shape == MIXED ? mixed[i % (sizeof mixed / sizeof mixed[0])] : shape) {
   case PLAIN:
-    add(bits, 0, 2);
-    return (uint64_t)(i + 1) * 0123456701 & 0777777777777;
+    add_plain(bits);
+    add_plain(bits);
+    return part((uint64_t)(i + 1) * ANY_WORD, 35, 0);
   case RIGHT:
-    add(bits, 010, 5);
-    return (uint64_t)i << 20 | i;
+    add_plain(bits);
+    add_change(bits, CHANGE_AREA);
+    return put(0, 35, 20, i) | put(0, 15, 0, i);
   default:
     left = dense_half(bits, 2 * i, entries);
-    return left << 18 | dense_half(bits, 2 * i + 1, entries);
+    return put(0, 33, 18, left) | put(0, 15, 0, dense_half(bits, 2 * i + 1, entries));
   }
 }
 
-/* A group at word `at` whose identifier, program words and indicators are at most this many words. A last indicator word that no bit
-   needs is none: such a group is one word shorter. Gives how many program words it has; its first is word `from` of the file. */
+/* The identifier of a group for the IBANK. */
+static uint64_t group_word(uint64_t words, uint64_t program_words, bool last, uint64_t relative) {
+  return put(0, 35, 34, KIND_GROUP) | put(0, 33, 26, words) | put(0, 25, 18, program_words) | put(0, 17, 17, last) |
+         put(0, 15, 0, relative);
+}
+
+/* A group at word `at` whose identifier, program words and indicators are at most this many words. A last indicator word that no
+   bit needs is none: such a group is one word shorter. Gives how many program words it has, the first of them word `from` of the
+   file. */
 static unsigned write_group(uint64_t *block, unsigned at, unsigned most, unsigned from, enum shape shape, struct entries entries) {
   static struct bits bits;
   unsigned words = 0, before = 0, marks;
   bits.count = 0;
   for (;;) {
     uint64_t word = next_word(&bits, from + words, shape, entries);
-    if (words + 1 + (bits.count + 35) / 36 > most - 1)
+    if (words + 1 + indicator_words(bits.count) > most - 1)
       break;
     before = bits.count;
     block[at + 1 + words++] = word;
   }
-  marks = (before + 35) / 36;
+  marks = indicator_words(before);
   for (unsigned i = 0; i < before; i++)
-    block[at + words + marks - i / 36] |= (uint64_t)bits.bit[i] << (35 - i % 36);
-  block[at] = (uint64_t)2 << 34 | (uint64_t)(words + marks) << 26 | (uint64_t)words << 18 | from;
+    block[at + words + marks - i / BITS_IN_WORD] |= (uint64_t)bits.bit[i] << (BITS_IN_WORD - 1 - i % BITS_IN_WORD);
+  block[at] = group_word(words + marks, words, false, from);
   return words;
 }
 
 unsigned write_group_block(uint64_t *block, enum shape shape, struct entries entries, unsigned groups) {
-  unsigned words = 0, at = 1;
-  begin(block, 0502527242710);
+  unsigned words = 0, at = FIRST_WORD;
+  begin(block, PRORC);
   for (unsigned k = 0; k < groups; k++) {
-    words += write_group(block, at, 254 / groups, words, shape, entries);
-    at += 1 + (unsigned)(block[at] >> 26 & 255);
+    words += write_group(block, at, WORDS_BETWEEN / groups, words, shape, entries);
+    at += 1 + (unsigned)part(block[at], 33, 26);
   }
-  seal(block, 255);
+  seal(block, CHECKSUM_WORD);
   return words;
 }
 
 void write_last_block(uint64_t *block) {
-  begin(block, 0502527242710);
-  block[1] = (uint64_t)2 << 34 | 2 << 26 | 1 << 18 | 1 << 17;
-  seal(block, 255);
+  begin(block, PRORC);
+  block[FIRST_WORD] = group_word(2, 1, true, 0);
+  seal(block, CHECKSUM_WORD);
 }
 
 void write_termination_block(uint64_t *block) {
-  begin(block, 0503127222710);
-  seal(block, 255);
+  begin(block, TRMRC);
+  seal(block, CHECKSUM_WORD);
 }
 
-void write_lists(uint64_t *io, uint64_t *tables, struct entries entries, uint64_t area, int falling) {
+void write_lists(uint64_t *io, uint64_t *tables, struct entries entries, uint64_t area, bool falling) {
+  enum { EACH_NUMBER = 3 };
   for (uint64_t i = 0; i < entries.channels + entries.units; i++)
-    io[i] = 3;
-  for (uint64_t i = 0; i < entries.tables; i++) {
-    tables[2 * i] = area + TABLES_FROM + 8 * (falling ? entries.tables - 1 - i : i);
-    tables[2 * i + 1] = 8;
-  }
+    io[i] = EACH_NUMBER;
+  write_tables(tables, entries.tables, area + TABLES_FROM, falling);
 }

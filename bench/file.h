@@ -17,8 +17,8 @@ struct entries {
 
 extern const struct entries full; /* as many as there can be */
 
-/* The IBANK is the area's first three quarters; in the last there is room for 128 tables of 8 words. */
-enum { TABLES_FROM = AREA_WORDS / 4 * 3, TABLE_WORDS = AREA_WORDS / 4 / ENTRIES_MOST };
+/* The tables are at the area's end, where as many as there can be have room; the words before them are the IBANK. */
+enum { TABLES_FROM = AREA_WORDS - ENTRIES_MOST * TABLE_WORDS };
 
 void write_label_block(uint64_t *block, struct entries entries);
 void write_entries_block(uint64_t *block);
@@ -32,6 +32,6 @@ void write_last_block(uint64_t *block); /* the section's last group, of one word
 void write_termination_block(uint64_t *block);
 
 /* The lists for open: every I/O number is 3. */
-void write_lists(uint64_t *io, uint64_t *tables, struct entries entries, uint64_t area, int falling);
+void write_lists(uint64_t *io, uint64_t *tables, struct entries entries, uint64_t area, bool falling);
 
 #endif

@@ -1,30 +1,32 @@
 /* How much stack each call takes. The call runs on a stack that was filled with a pattern; what is no longer pattern was used.
-   Prints for each call its name, a tab, and the most of many, in bytes below the caller's own frame (with the return address). Run by
-   bench/run. */
-#include <stdio.h>
-#include <stdlib.h>
+   Prints for each call its name, a tab, and the most of many, in bytes below the caller's own frame (with the return address). Run
+   by bench/run. */
 #include <string.h>
 #include <ucontext.h>
 
-#include "clamp.h"
+#include "block_layout.h"
 #include "file.h"
+#include "reader.h"
 
-enum { CORE = 65536, STACK = 65536 };
+enum { STACK_BYTES = 65536, STACK_ALIGNMENT = 64, PATTERN = 0xa5 };
 
-static const struct entries full = {16, 112, 128};
-
-static uint64_t desk[4096], core[CORE], io[128], tables[256], block[256], map[16], answer;
-static _Alignas(64) unsigned char stack[STACK];
+static uint64_t desk[CLAMP_DESK_WORDS], core[CORE_MOST], io[ENTRIES_MOST], tables[PAIRS_MOST], block[WORDS_IN_BLOCK];
+static uint64_t map[MAP_LENGTH], answer;
+static _Alignas(STACK_ALIGNMENT) unsigned char stack[STACK_BYTES];
 static unsigned char *from;
 static ucontext_t here, there;
 static void (*called)(void);
 
 static uint64_t room, place, area;
 
-static void make(void) { answer = clamp_make(desk, 3653, CORE, map, 16); }
-static void open(void) { answer = clamp_open(desk, 3653, core, CORE, room, area, AREA_WORDS, io, 128, tables, 256); }
-static void feed(void) { answer = clamp_feed(desk, 3653, core, CORE, room, place, block, 256); }
-static void release(void) { answer = clamp_release(desk, 3653, CORE, room, place); }
+static void make(void) { answer = clamp_make(desk, CLAMP_DESK_WORDS, CORE_MOST, map, MAP_LENGTH); }
+
+static void open(void) {
+  answer = clamp_open(desk, CLAMP_DESK_WORDS, core, CORE_MOST, room, area, AREA_WORDS, io, ENTRIES_MOST, tables, PAIRS_MOST);
+}
+
+static void feed(void) { answer = clamp_feed(desk, CLAMP_DESK_WORDS, core, CORE_MOST, room, place, block, WORDS_IN_BLOCK); }
+static void release(void) { answer = clamp_release(desk, CLAMP_DESK_WORDS, CORE_MOST, room, place); }
 static void words(void) { answer = clamp_desk_words(); }
 
 static void run(void) {
@@ -34,7 +36,7 @@ static void run(void) {
 
 static unsigned depth(void (*call)(void)) {
   unsigned untouched = 0;
-  memset(stack, 0xa5, sizeof stack);
+  memset(stack, PATTERN, sizeof stack);
   called = call;
   getcontext(&there);
   there.uc_stack.ss_sp = stack;
@@ -42,74 +44,67 @@ static unsigned depth(void (*call)(void)) {
   there.uc_link = &here;
   makecontext(&there, run, 0);
   swapcontext(&here, &there);
-  while (stack[untouched] == 0xa5)
+  while (stack[untouched] == PATTERN)
     untouched++;
   return (unsigned)(from - (stack + untouched));
 }
 
-static unsigned most[5];
+enum { MAKE, OPEN, FEED, RELEASE, WORDS, CALLS };
+
+static unsigned most[CALLS];
 
 static void note(unsigned which, void (*call)(void), uint64_t code) {
   unsigned d = depth(call);
-  if (CLAMP_CODE(answer) != code) {
-    fprintf(stderr, "stack: answer %llu where %llu is due\n", (unsigned long long)CLAMP_CODE(answer), (unsigned long long)code);
-    exit(1);
-  }
+  expect("stack", answer, code);
   if (d > most[which])
     most[which] = d;
 }
 
-enum { MAKE, OPEN, FEED, RELEASE, WORDS };
-
 /* The load at place 0, to its end, with each block refused once before (12) and every shape of program block; a broken load too. */
 static void feed_file(void) {
   write_label_block(block, full);
-  note(FEED, feed, 66);
+  note(FEED, feed, CLAMP_MORE);
   for (unsigned i = entries_blocks(full); i > 0; i--) {
     write_entries_block(block);
-    note(FEED, feed, 66);
+    note(FEED, feed, CLAMP_MORE);
   }
   write_segment_block(block);
-  note(FEED, feed, 66);
+  note(FEED, feed, CLAMP_MORE);
   for (enum shape shape = PLAIN; shape < SHAPES; shape++) {
     write_group_block(block, shape, full, 1);
-    note(FEED, feed, 66);
-    block[255] ^= 1;
-    note(FEED, feed, 12);
+    note(FEED, feed, CLAMP_MORE);
+    block[CHECKSUM_WORD] ^= 1;
+    note(FEED, feed, CLAMP_REFUSED_CHECKSUM);
   }
   write_last_block(block);
-  note(FEED, feed, 66);
+  note(FEED, feed, CLAMP_MORE);
   write_termination_block(block);
-  note(FEED, feed, 67);
-  note(FEED, feed, 10);
+  note(FEED, feed, CLAMP_DONE);
+  note(FEED, feed, CLAMP_REFUSED_ENDED);
 }
 
 int main(void) {
-  static const char *const names[5] = {"make", "open", "feed", "release", "desk_words"};
-  for (unsigned k = 0; k < 8; k++) {
-    map[2 * k] = 8192 * k;
-    map[2 * k + 1] = 8192;
+  static const char *const names[CALLS] = {"make", "open", "feed", "release", "desk_words"};
+  even_map(map);
+  note(MAKE, make, CLAMP_MADE);
+  for (unsigned load = 0; load < PLACES; load++) {
+    room = room_of(load);
+    area = area_of(load);
+    write_lists(io, tables, full, area, load % 2 == 1);
+    note(OPEN, open, CLAMP_OPENED);
   }
-  note(MAKE, make, 64);
-  for (unsigned k = 0; k < 12; k++) {
-    room = k < 8 ? k : k - 8;
-    area = 8192 * room + (k < 8 ? 0 : 4096);
-    write_lists(io, tables, full, area, k % 2);
-    note(OPEN, open, 65);
-  }
-  note(OPEN, open, 5);
+  note(OPEN, open, CLAMP_REFUSED_HOLDS_TWO);
   room = place = 0;
   feed_file();
   room = place = 1;
   write_label_block(block, full);
-  block[2] = 0;
-  block[254] -= 0100000;
-  note(FEED, feed, 14);
-  note(RELEASE, release, 68);
-  note(RELEASE, release, 9);
-  answer = (uint64_t)1 << 32;
-  note(WORDS, words, 0);
-  for (unsigned i = 0; i < 5; i++)
+  block[TYPE_FLAG_WORD] = 0;
+  block[LABEL_CHECKSUM_WORD] = reader_checksum(block, LABEL_CHECKSUM_WORD);
+  note(FEED, feed, CLAMP_REFUSED_TYPE_FLAG);
+  note(RELEASE, release, CLAMP_RELEASED);
+  note(RELEASE, release, CLAMP_REFUSED_PLACE);
+  note(WORDS, words, CLAMP_CODE(CLAMP_DESK_WORDS));
+  for (unsigned i = 0; i < CALLS; i++)
     printf("%s\t%u\n", names[i], most[i]);
   return 0;
 }
