@@ -195,7 +195,8 @@ fn section_of(number: u64, count: u64) -> TableSection
     }
 }
 
-// Whether a stage's numbers are in their ranges, by what the load was given and its lists.
+// Whether a stage's numbers are in their ranges, by what the load was given and its lists. What is due is tested before its course,
+// so that the compiled code tells the variants apart once.
 pub fn stage_fits(g: Given, lists: &[u64], s: Stage) -> bool
     requires { ⌜ Readable g (now lists) ⌝ }
     ensures { λ r. ⌜ r ≡ stageFits (g .area) (coreTables g (now (lists .entry))) (g .io) s ⌝ }
@@ -212,10 +213,10 @@ pub fn stage_fits(g: Given, lists: &[u64], s: Stage) -> bool
             b < modification::entry_blocks(io, tables)
         }
         Stage::Program(c, due) => {
-            if !label_counts_fit(io, tables, c) {
+            if !due_fits(g, lists, due) {
                 return false;
             }
-            due_fits(g, lists, due)
+            course_fits(io, tables, c)
         }
         Stage::Termination(i) => bank_fits(area, i),
         Stage::Complete => true,

@@ -1,9 +1,11 @@
 -- `stage::stage_fits`: by the stage, and the tests of it. Assumes nothing.
 use mathlib.Core.Path.{sym, _∙_}
+use mathlib.Core.Bool.{and-false}
 use denote.Ref.{now}
 use borrow.Author.Tests.{not-true, not-false}
+use Rattle.word.proofs.Cases.{and-true}
 use Rattle.lists.proofs.Reading.{core-length}
-use Rattle.stage.specs.Ranges.{stageFits}
+use Rattle.stage.specs.Ranges.{labelCountsFit, stageFits}
 use borrow.Author.Needs.{needs}
 use Rattle.stage.proofs.stage_fits.Statement.{statement}
 use Rattle.stage.proofs.stage_fits.Tie as tie
@@ -29,17 +31,17 @@ entry-blocks-requires c κs = search needs
 enum-known-s-2 : tie.Need-enum-known-s-2
 enum-known-s-2 c = search needs
 
-label-counts-fit-requires-2 : tie.Need-label-counts-fit-requires-2
-label-counts-fit-requires-2 c κs = search needs
+due-fits-requires : tie.Need-due-fits-requires
+due-fits-requires c κs = search needs
 
 returns-2 : tie.Need-returns-2
 unfolding stageFits
 returns-2 c = let z = c .before .before .before .before .before .before .before in
     let e = core-length (z .args .g) (now (z .args .lists)) (z .pre) in
-    rw (c .before .before .before .s2 .given .1, e, sym (c .before .label-counts-fit2 .ensures) ∙ not-true _ (c .if2 .taken))
+    rw (c .before .before .before .s2 .given .1, e, sym (c .before .due-fits .ensures) ∙ not-true _ (c .if2 .taken), and-false (labelCountsFit (z .args .g .io) (z .args .g .tables) _))
 
-due-fits-requires : tie.Need-due-fits-requires
-due-fits-requires c κs = search needs
+label-counts-fit-requires-2 : tie.Need-label-counts-fit-requires-2
+label-counts-fit-requires-2 c κs = search needs
 
 enum-known-s-3 : tie.Need-enum-known-s-3
 enum-known-s-3 c = search needs
@@ -67,7 +69,7 @@ returns-5 : tie.Need-returns-5
 unfolding stageFits
 returns-5 c = let z = c .before .before .before .before .before .before .before .before in
     let e = core-length (z .args .g) (now (z .args .lists)) (z .pre) in
-    rw (c .before .before .before .before .s2 .given .1, e, sym (c .before .before .label-counts-fit2 .ensures) ∙ not-false _ (c .before .if2 .left)) (c .due-fits .ensures)
+    rw (c .before .before .before .before .s2 .given .1, e, sym (c .before .before .due-fits .ensures) ∙ not-false _ (c .before .if2 .left)) (c .label-counts-fit2 .ensures ∙ sym (and-true _))
 
 returns-6 : tie.Need-returns-6
 unfolding stageFits
@@ -91,9 +93,9 @@ stage-fits-spec =
     returns
     entry-blocks-requires
     enum-known-s-2
-    label-counts-fit-requires-2
-    returns-2
     due-fits-requires
+    returns-2
+    label-counts-fit-requires-2
     enum-known-s-3
     bank-fits-requires
     enum-told-2
