@@ -30,7 +30,7 @@ past-word-most c w =
     let d = pastField c (fieldOf Left w) in
     omega (arith, past-at-most c (fieldOf Left w), past-at-most d (fieldOf Right w))
 
-edge-some : (n m : ℕ) → m < n → edgeOf n m ≡ 36 * m
+edge-some : (n m : ℕ) → m < n → edgeOf n m ≡ 36 * m - 28
 unfolding edgeOf
 edge-some n m l = rw (lt-leb n m l)
 
@@ -104,8 +104,8 @@ module _ (block : List ℕ) (end n : ℕ) where
         rw (shl-exact 36 (c .at + 28 - 36 * c .words) 64 (mod-lt (getD block (end - 1 - c .words) 0) (pow-pos 36)) (omega arith), s .seen)
         (number-more block end (c .words) i (c .at) (36 * c .words - c .at) (c .at + 28 - 36 * c .words) (omega arith) (omega arith))
 
-    -- where the bits at hand do not reach 29 places on, there is a word more
-    pub edge-wants : (c : Cursor) → Sees block end n c 0 → c .at + 28 < never → c .edge ≤ c .at + 28 → (c .words < n) × (36 * c .words ≤ c .at + 28)
+    -- from the edge on the bits at hand do not reach 29 places on, and there is a word more
+    pub edge-wants : (c : Cursor) → Sees block end n c 0 → c .at + 28 < never → c .edge ≤ c .at → (c .words < n) × (36 * c .words ≤ c .at + 28)
     edge-wants c s h g =
         by-lt (c .words) n
         (λ l. let e = s .edge ∙ edge-some n (c .words) l in (l, omega arith))
@@ -115,13 +115,13 @@ module _ (block : List ℕ) (end n : ℕ) where
     pub refill-sees : (c : Cursor) → Sees block end n c 0 → c .at + 28 < never → Sees block end n (refilled block end n c) 26
     unfolding refilled
     refill-sees c s k =
-        when (λ (x : Cursor). Sees block end n x 26) (ltb (c .at + 28) (c .edge))
-        (λ r. record { few = s .few; seen = s .seen; near = s .near; edge = s .edge; room = λ h. let g = ltb-true (c .at + 28) (c .edge) r in let e = s .edge ∙ edge-some n (c .words) h in omega arith })
+        when (λ (x : Cursor). Sees block end n x 26) (ltb (c .at) (c .edge))
+        (λ r. record { few = s .few; seen = s .seen; near = s .near; edge = s .edge; room = λ h. let g = ltb-true (c .at) (c .edge) r in let e = s .edge ∙ edge-some n (c .words) h in omega arith })
         (λ r.
-        let g = edge-wants c s k (ltb-false (c .at + 28) (c .edge) r) in
+        let g = edge-wants c s k (ltb-false (c .at) (c .edge) r) in
         let e = s .room (g .0) in
         record { few = omega arith; seen = refill-number c s (g .0) (g .1); near = omega arith; edge = refl; room = λ h. omega arith })
 
 pub refill-at : (block : List ℕ) (end n : ℕ) (c : Cursor) → refilled block end n c .at ≡ c .at
 unfolding refilled
-refill-at block end n c = both (λ (x : Cursor). x .at ≡ c .at) (ltb (c .at + 28) (c .edge)) refl refl
+refill-at block end n c = both (λ (x : Cursor). x .at ≡ c .at) (ltb (c .at) (c .edge)) refl refl

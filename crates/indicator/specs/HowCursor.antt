@@ -19,9 +19,10 @@ use Rattle.indicator.specs.declared.Turn.{Turn}
 abbrev pub never : ℕ
 never = 2 ^ 32
 
--- how far the bits of m of n words reach; where all are taken, further than any place that is asked for
+-- from where on fewer than 29 bits of m of n words are left, so that a word more is taken: at once where none is taken yet, never
+-- where all are
 unfoldable pub edgeOf : ℕ → ℕ → ℕ
-edgeOf n m = cond (leb n m) never (36 * m)
+edgeOf n m = cond (leb n m) never (36 * m - 28)
 
 -- the cursor sees the bits of the n words before place `end`: those of the words taken so far, from its place on, and 0s past
 -- them; and unless all n words are taken, d bits at least are there
@@ -56,7 +57,7 @@ pastWord c w = pastField (pastField c (fieldOf Left w)) (fieldOf Right w)
 -- one indicator word more, behind the bits at hand, where fewer than 29 of these are left
 unfoldable pub refilled : List ℕ → ℕ → ℕ → Cursor → Cursor
 refilled block end n c =
-    cond (ltb (c .at + 28) (c .edge)) c
+    cond (ltb (c .at) (c .edge)) c
     (record {
       at = c .at;
       ahead = c .ahead + getD block (end - 1 - c .words) 0 % wordLimit * 2 ^ (c .at + 28 - 36 * c .words) % 2 ^ 64;

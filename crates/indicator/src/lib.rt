@@ -28,8 +28,8 @@ pub enum Indicator {
 }
 
 // The place of the next bit; the 64 bits from there on, the first one leftmost, as far as the indicator words taken so far have
-// them; how many words these are; and the edge up to which their bits reach, or a place past every group's bits where no word is
-// left, so that one comparison tells whether a word more is to be taken.
+// them; how many words these are; and the edge from which on a word more is to be taken, or a place past every group's bits where
+// no word is left, so that one comparison tells it.
 pub struct Cursor {
     pub at: usize,
     pub ahead: u64,
@@ -56,7 +56,7 @@ pub fn start(n: usize) -> Cursor
     }
 }
 
-// The edge where m of n words are taken.
+// The edge where m of n words are taken; where none is, a word is to be taken at once.
 fn edge_of(n: usize, m: usize) -> usize
     requires { ⌜ 36 * n < 2 ^ 64 ⌝ }
     ensures { λ r. ⌜ r ≡ edgeOf n m ⌝ }
@@ -64,7 +64,10 @@ fn edge_of(n: usize, m: usize) -> usize
     if n <= m {
         return NEVER;
     }
-    WORD_BITS * m
+    if m == 0 {
+        return 0;
+    }
+    WORD_BITS * m - BEFORE_WORD
 }
 
 // The indicator that comes next, of a field that holds f.
@@ -134,7 +137,7 @@ pub fn refill(block: &[u64], end: usize, n: usize, c: Cursor) -> Cursor
 {
     let at = c.at;
     let words = c.words;
-    if at + BEFORE_WORD < c.edge {
+    if at < c.edge {
         return c;
     }
     let w = block[end - 1 - words] % WORD_LIMIT;

@@ -195,7 +195,7 @@ fn section_of(number: u64, count: u64) -> TableSection
     }
 }
 
-// Whether a stage's numbers are in their ranges, by what the load was given and its lists. What is due is tested before its course,
+// Whether a stage's numbers are in their ranges, by what the load was given and its lists. What is due is tested before its label counts,
 // so that the compiled code tells the variants apart once.
 pub fn stage_fits(g: Given, lists: &[u64], s: Stage) -> bool
     requires { ⌜ Readable g (now lists) ⌝ }
@@ -216,7 +216,7 @@ pub fn stage_fits(g: Given, lists: &[u64], s: Stage) -> bool
             if !due_fits(g, lists, due) {
                 return false;
             }
-            course_fits(io, tables, c)
+            label_counts_fit(io, tables, c)
         }
         Stage::Termination(i) => bank_fits(area, i),
         Stage::Complete => true,

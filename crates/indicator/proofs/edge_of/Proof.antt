@@ -1,4 +1,6 @@
 -- `edge_of`: the test of the code is that of the definition. Assumes nothing.
+use native.Mathlib.Omega.{arith}
+use borrow.Author.Tests.{lt-leb}
 use Rattle.word.proofs.Tests.{tests}
 use Rattle.indicator.specs.HowCursor.{edgeOf}
 use borrow.Author.Needs.{needs}
@@ -9,12 +11,19 @@ returns : tie.Need-returns
 unfolding edgeOf
 returns c = search tests
 
+returns-2 : tie.Need-returns-2
+unfolding edgeOf
+returns-2 c = rw (lt-leb _ _ (c .before .if1 .left)) (omega (arith, c .if2 .taken))
+
 mul-result : tie.Need-mul-result
 mul-result c = search needs
 
-returns-2 : tie.Need-returns-2
+sub-result : tie.Need-sub-result
+sub-result c = search needs
+
+returns-3 : tie.Need-returns-3
 unfolding edgeOf
-returns-2 c = search tests
+returns-3 c = search tests
 
 pub edge-of-spec : {M : Type 1} → statement M
-edge-of-spec = tie.close (tie.spec returns mul-result returns-2)
+edge-of-spec = tie.close (tie.spec returns returns-2 mul-result sub-result returns-3)

@@ -11,9 +11,6 @@ use borrow.Author.Needs.{needs}
 use Rattle.indicator.proofs.refill.Statement.{statement}
 use Rattle.indicator.proofs.refill.Tie as tie
 
-add-if1 : tie.Need-add-if1
-add-if1 c = search needs
-
 returns : tie.Need-returns
 unfolding refilled
 returns c = search tests
@@ -33,8 +30,8 @@ shared-slice-read-w : tie.Need-shared-slice-read-w
 shared-slice-read-w c = let z = c .before .before .before .before in
     omega (arith, edge-wants _ _ _ (z .pre .0) (z .args .c) (z .pre .1) (z .pre .2) (c .before .if1 .left), z .pre .0 .first, z .pre .0 .last)
 
-add-t8 : tie.Need-add-t8
-add-t8 c = search needs
+add-t9 : tie.Need-add-t9
+add-t9 c = search needs
 
 mul-t10 : tie.Need-mul-t10
 mul-t10 c = search needs
@@ -75,13 +72,12 @@ pub refill-spec : {M : Type 1} → statement M
 refill-spec =
     tie.close
     (tie.spec
-    add-if1
     returns
     sub-w
     sub-w-2
     mul-w
     shared-slice-read-w
-    add-t8
+    add-t9
     mul-t10
     sub-t11
     shl-t14
