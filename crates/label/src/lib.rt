@@ -11,8 +11,8 @@ ghost use Rattle.label.specs.Tables.{entriesIf, entriesOf, countsOf};
 ghost use Rattle.label.specs.HowTables.{mayFollow, FewEntries};
 ghost use Rattle.label.specs.Label.{labelOf, finished, programWordFits};
 use word::Fault;
-use word::IO_MOST;
-use word::TABLES_MOST;
+use word::limits::IO_MOST;
+use word::limits::TABLES_MOST;
 
 // The table types carried.
 const JUMP_SWITCH: u64 = 0;
@@ -207,10 +207,10 @@ fn within_limits(c: Counts) -> bool
     if CHANNELS_MOST < c.switches + c.channels {
         return false;
     }
-    if IO_MOST < c.switches + c.channels + c.units {
+    if (IO_MOST as u64) < c.switches + c.channels + c.units {
         return false;
     }
-    c.tables <= TABLES_MOST
+    c.tables <= TABLES_MOST as u64
 }
 
 // Word 253: its other bits zero, one segment, no more table sections than core tables.

@@ -14,11 +14,6 @@ pub const WORD_BITS: usize = 36;
 
 pub const WORD_LIMIT: u64 = 1 << 36;
 
-// How many I/O references and how many core tables a load may have.
-pub const IO_MOST: u64 = 128;
-
-pub const TABLES_MOST: u64 = 128;
-
 // What a bit counts: the lowest bit of a left field, and of bits 25-22.
 const BIT_18: u64 = 1 << 18;
 
