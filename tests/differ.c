@@ -1,5 +1,5 @@
 /* differ.c: holds the proved loader, called through clamp.h as the emulator calls it, against the reader. Both get the same calls,
-   by chance from a seed: loads in many rooms by turns, right files and faulty ones, and arguments of any size. After each call the
+   by chance from a seed: loads in many rooms, interleaved, right files and faulty ones, and arguments of any size. After each call the
    answers and the whole cores must agree, and a refusal from 1 to 12 must have left the desk as it was, byte for byte.
 
      differ SEED ROUNDS          so many rounds, with the seeds SEED, SEED + 1, ..

@@ -138,7 +138,7 @@ void test_make_near_top(void) {
     }
 }
 
-/* A desk in use is made anew: its loads are forgotten. */
+/* A desk in use is made again: its loads are forgotten. */
 void test_make_again(void) {
   const uint64_t room = 3, at = even_stretch(room);
   even_desk();

@@ -1,4 +1,4 @@
-/* file.c: a whole file: its parts by turns, with the records that are short, and the faults of whole blocks. */
+/* file.c: a whole file: its parts one after another, with the records that are short, and the faults of whole blocks. */
 
 #include <stddef.h>
 #include <stdlib.h>

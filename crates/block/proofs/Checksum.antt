@@ -1,4 +1,4 @@
--- The checksum by one plain sum of all words, from which the checksum word is taken away again. Assumes nothing.
+-- The checksum by one plain sum of all words, from which the checksum word is taken away again.
 use Prim.Native.Nat.{ℕ, zero, suc, _+_, _-_, _%_, _^_, _≤_, _<_}
 use mathlib.Core.Path.{_≡_, sym, ap, _∙_}
 use mathlib.Core.Bool.{true}

@@ -1,7 +1,7 @@
--- A block's checksum word is one of its 256 words. Assumes nothing.
+-- A block's checksum word is one of its 256 words.
 use Prim.Native.Nat.{_<_}
 use native.Mathlib.Omega.{arith}
-use Rattle.block.specs.Block.{wordsInBlock}
+use Rattle.word.specs.Limits.{wordsInBlock}
 use Rattle.block.specs.Records.{checksumPlace}
 use Rattle.block.specs.declared.Record.{Record}
 use Rattle.block.specs.declared.Record.the-variants.{Label, Modification, Program, Termination}

@@ -4,6 +4,7 @@ use mathlib.Core.Bool.{cond}
 use mathlib.Core.List.{List}
 use lib.ListN.{length}
 use lib.Dec.{eqb}
+use Rattle.word.specs.Limits.{wordsInBlock}
 use Rattle.word.specs.Word.{isWord}
 use Rattle.word.specs.Lists.{every}
 use Rattle.word.specs.Fault.{fault}
@@ -12,9 +13,6 @@ use Rattle.block.specs.Checksum.{agrees}
 use Rattle.block.specs.declared.Record.{Record}
 use Rattle.block.specs.declared.Verdict.{Verdict}
 use Rattle.block.specs.declared.Verdict.the-variants.{Pass, Refused}
-
-abbrev pub wordsInBlock : ℕ
-wordsInBlock = 256
 
 -- of 256 words: 11 where one is none, 12 where the word at place p is not the checksum of the others
 unfoldable pub sealVerdict : ℕ → List ℕ → Verdict

@@ -2,9 +2,10 @@
 ghost use mathlib.Core.Path.{_≡_};
 ghost use Prim.Native.Nat.{_<_};
 ghost use lib.ListN.{length};
+ghost use Rattle.word.specs.Limits.{wordsInBlock};
 ghost use Rattle.block.specs.Records.{checksumPlace, ofRecord};
 ghost use Rattle.block.specs.Checksum.{folded};
-ghost use Rattle.block.specs.Block.{wordsInBlock, verdict, sealVerdict};
+ghost use Rattle.block.specs.Block.{verdict, sealVerdict};
 use word::Fault;
 use word::WORD_LIMIT;
 

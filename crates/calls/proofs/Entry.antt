@@ -1,4 +1,4 @@
--- Refusals 1, 2 and 4: what is known where none is due, and the cases of a call that tests them. Assumes nothing.
+-- Refusals 1, 2 and 4: what is known where none is due, and the cases of a call that tests them.
 use Prim.Native.Nat.{ℕ, _≤_}
 use mathlib.Core.Path.{_≡_, refl, sym, _∙_}
 use mathlib.Core.Bool.{true}

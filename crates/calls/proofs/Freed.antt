@@ -1,4 +1,4 @@
--- Release: the desk it leaves is sound, and its answer small. Assumes nothing.
+-- Release: the desk it leaves is sound, and its answer small.
 use Prim.Native.Nat.{ℕ, _+_, _<_}
 use mathlib.Core.Path.{_≡_, refl, sym, ap, _∙_}
 use mathlib.Core.Bool.{true}

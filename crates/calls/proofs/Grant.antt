@@ -1,4 +1,4 @@
--- Open: what its steps leave, by the tests that were passed. Assumes nothing.
+-- Open: what its steps leave, by the tests that were passed.
 use Prim.Native.Nat.{ℕ, _+_, _-_, _/_, _≤_, _<_}
 use mathlib.Core.Path.{_≡_, refl, sym, ap, _∙_}
 use mathlib.Core.Bool.{Bool, true, false}

@@ -1,4 +1,4 @@
--- Make: the loop that frees the places, and that the desk it leaves is sound and its answer small. Assumes nothing.
+-- Make: the loop that frees the places, and that the desk it leaves is sound and its answer small.
 use Prim.Native.Nat.{ℕ, zero, suc, _+_, _≤_, _<_}
 use mathlib.Core.Path.{_≡_, refl, sym, ap, _∙_}
 use mathlib.Core.Bool.{true}

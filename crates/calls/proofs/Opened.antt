@@ -1,4 +1,4 @@
--- Open keeps a desk sound, and its answer fits in one number. Assumes nothing.
+-- Open keeps a desk sound, and its answer fits in one number.
 use Prim.Native.Nat.{ℕ, _+_, _-_, _≤_, _<_}
 use mathlib.Core.Path.{_≡_, sym, ap, _∙_}
 use mathlib.Core.Bool.{true}

@@ -1,4 +1,4 @@
--- Two outcomes that meet one contract are equal. Assumes nothing.
+-- Two outcomes that meet one contract are equal.
 use Prim.Native.Nat.{ℕ}
 use mathlib.Core.Path.{_≡_, sym, _∙_}
 use mathlib.Core.List.{List}

@@ -1,4 +1,4 @@
--- C can take an answer's number apart again: its code is what stands above 2^32, its value what stands below. Assumes nothing.
+-- C can take an answer's number apart again: its code is what stands above 2^32, its value what stands below.
 use Prim.Native.Nat.{_/_, _%_, _^_}
 use mathlib.Core.Path.{_≡_}
 use native.Mathlib.Omega.{arith}

@@ -1,4 +1,4 @@
--- The hand deck by computing: its image and its start. Assumes nothing.
+-- The hand deck by computing: its image and its start.
 use Prim.Native.Nat.{ℕ, _+_}
 use mathlib.Core.Path.{_≡_, refl, _∙_}
 use native.Mathlib.Omega.{arith}

@@ -1,4 +1,4 @@
--- The demands, proved: each has the type that specs/Demands.antt states for it. Assumes nothing.
+-- The demands, proved: each has the type that specs/Demands.antt states for it.
 use Rattle.feed.proofs.Blocked.{block-laws}
 use Rattle.feed.proofs.Fed.{feed-sound, feed-long}
 use Rattle.demands.specs.Demands.{Demand1One, Demand1Number, Demand1Unchanged, Demand1Broken, Demand1Sound, Demand2, Demand2Outside, Demand3Orders, Demand3Turns, Demand3Images, Demand3Rooms}

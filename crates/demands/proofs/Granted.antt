@@ -1,5 +1,5 @@
 -- What each call does to the holders: an open that is answered `opened` adds one to what its room holds, a release that is answered `released`
--- takes one, and nothing else changes what a room holds. The desk's core length stays. Assumes nothing.
+-- takes one, and nothing else changes what a room holds. The desk's core length stays.
 use Prim.Native.Nat.{ℕ, _+_, _≤_, _<_}
 use mathlib.Core.Path.{_≡_, refl, sym, _∙_}
 use mathlib.Core.Bool.{true, cond}

@@ -1,4 +1,4 @@
--- What a program block holds where something is due, read by its head word alone: the head that the machine was waiting for. Assumes nothing.
+-- What a program block holds where something is due, read by its head word alone: the head that the machine was waiting for.
 use Prim.Native.Nat.{ℕ, zero, suc, _+_, _-_}
 use mathlib.Core.Path.{_≡_, refl, ap, _∙_}
 use mathlib.Core.Bool.{true, false, cond}

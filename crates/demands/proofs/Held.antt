@@ -1,5 +1,4 @@
 -- What a sound desk says of a place that is held: its area lies in the core, its load is fit to be fed, and it shares no word with another's.
--- Assumes nothing.
 use Prim.Native.Nat.{ℕ, _+_, _≤_, _<_}
 use mathlib.Core.Path.{_≡_, sym, _∙_}
 use mathlib.Core.Bool.{true}

@@ -1,4 +1,4 @@
--- A load that takes a file to its end: its area, zero before, holds the file's image. Assumes nothing.
+-- A load that takes a file to its end: its area, zero before, holds the file's image.
 use Prim.Native.Nat.{ℕ, suc, _+_, _-_, _≤_, _<_}
 use mathlib.Core.Path.{_≡_, refl, sym, ap, _∙_}
 use mathlib.Core.Bool.{Bool, true, false}

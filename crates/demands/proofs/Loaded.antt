@@ -1,5 +1,4 @@
 -- What open leaves: a place that holds the load as it was lent, which waits for its label; an area of zeros; and every other load as it was.
--- Assumes nothing.
 use Prim.Native.Nat.{ℕ, _+_, _≤_, _<_}
 use mathlib.Core.Path.{_≡_, refl, ap, _∙_}
 use mathlib.Core.Bool.{true}

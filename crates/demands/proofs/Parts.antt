@@ -1,4 +1,4 @@
--- Steps that touch only their own part of a state: any order that keeps each part's own order gives the same. Assumes nothing.
+-- Steps that touch only their own part of a state: any order that keeps each part's own order gives the same.
 use Prim.Native.Nat.{ℕ}
 use mathlib.Core.Path.{_≡_, refl, sym, ap, _∙_}
 use mathlib.Core.Bool.{Bool, true, false, cond}

@@ -1,4 +1,4 @@
--- Demand 1: one outcome, told by one number; what a refusal leaves; and soundness, kept by every call. Assumes nothing.
+-- Demand 1: one outcome, told by one number; what a refusal leaves; and soundness, kept by every call.
 use Prim.Native.Nat.{ℕ, _+_, _≤_, _/_, _%_, _^_}
 use mathlib.Core.Path.{_≡_, refl, sym, ap, ap₂, _∙_}
 use mathlib.Core.Bool.{true, false, cond}

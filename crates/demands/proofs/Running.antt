@@ -1,4 +1,4 @@
--- A program block that is accepted: the core is left as the stores of its pieces leave it, and what is due then decides the rest. Assumes nothing.
+-- A program block that is accepted: the core is left as the stores of its pieces leave it, and what is due then decides the rest.
 use Prim.Native.Nat.{ℕ, zero, suc, _+_, _-_, _≤_}
 use mathlib.Core.Path.{_≡_, refl}
 use mathlib.Core.Bool.{Bool, true, false, cond}

@@ -1,4 +1,4 @@
--- The start: `done` is answered to the termination block alone, with the start that it gives. Assumes nothing.
+-- The start: `done` is answered to the termination block alone, with the start that it gives.
 use Prim.Native.Nat.{ℕ, zero, suc, _+_, _-_}
 use mathlib.Core.Path.{_≡_, refl, sym, ap, _∙_}
 use mathlib.Core.List.{List, [], _∷_, _++_}

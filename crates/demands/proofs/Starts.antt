@@ -1,4 +1,4 @@
--- A block that ends a load is a termination block, and the start is its own. Assumes nothing.
+-- A block that ends a load is a termination block, and the start is its own.
 use Prim.Native.Nat.{ℕ, zero, suc, _+_}
 use mathlib.Core.Path.{_≡_, refl, sym, ap, _∙_}
 use mathlib.Core.Bool.{Bool, true, false, true≢false}

@@ -1,4 +1,4 @@
--- Stores one after another into a core: in an area that was zero each word is that of the last store that reaches it. Assumes nothing.
+-- Stores one after another into a core: in an area that was zero each word is that of the last store that reaches it.
 use Prim.Native.Nat.{ℕ, _+_, _-_, _≤_, _<_}
 use mathlib.Core.Path.{_≡_, refl, sym, ap, _∙_}
 use mathlib.Core.Bool.{Bool, true, false, cond, _||_}

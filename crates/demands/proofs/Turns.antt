@@ -1,4 +1,4 @@
--- One part after another is an order that keeps each part's own. Assumes nothing.
+-- One part after another is an order that keeps each part's own.
 use Prim.Native.Nat.{ℕ, zero, suc, _≤_, _<_}
 use mathlib.Core.Path.{_≡_, refl, sym, _∙_}
 use mathlib.Core.List.{List, [], _∷_, _++_, append-nil}

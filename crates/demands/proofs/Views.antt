@@ -1,5 +1,4 @@
 -- What of the desk and the core is a load's: its place, and its area's words. Another load's is as it was where a state differs in one load's alone.
--- Assumes nothing.
 use Prim.Native.Nat.{ℕ, _+_, _-_, _≤_, _<_}
 use mathlib.Core.Path.{_≡_, refl, sym, ap, ap₂, _∙_}
 use mathlib.Core.Bool.{true, cond}

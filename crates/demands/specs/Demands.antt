@@ -180,7 +180,7 @@ Demand3Rooms =
     (d core m : List ℕ) → makeOf d (length core) m .answer ≡ Made → (cs : List Call) (r : ℕ) → r < roomCount
     → Counted (told cs (fresh d core m)) (run call cs (fresh d core m)) r
 
--- ---- Not empty: the lives of specs/Examples.antt, computed whole (`not-empty`, crate witness). The hand deck; two rooms by turns; a broken
+-- ---- Not vacuous: the histories of specs/Examples.antt, computed whole (`not-empty`, crate witness). The hand deck; two rooms interleaved; a broken
 -- load beside a completed one.
 pub record NotEmpty : Type 0 where
   pub deck : answersIn (told deckLife (madeWith oneRoom)) ≡ Opened 0 ∷ More ∷ More ∷ Done (record { 0 = 512 }) ∷ []

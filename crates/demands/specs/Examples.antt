@@ -1,4 +1,4 @@
--- Lives of loads, call by call: the hand deck in its room as 01 has it, two rooms by turns, and a load that breaks beside one that completes.
+-- Lives of loads, call by call: the hand deck in its room as 01 has it, two rooms interleaved, and a load that breaks beside one that completes.
 use Prim.Native.Nat.{ℕ}
 use mathlib.Core.List.{List, [], _∷_}
 use lib.ListN.{replicate}
@@ -56,7 +56,7 @@ deckFeeds = fed0 deckLabel ∷ fed0 deckProgram ∷ fed0 deckTermination ∷ []
 abbrev pub deckLife : List Call
 deckLife = open0 ∷ deckFeeds
 
--- both rooms load it, by turns
+-- both rooms load it, interleaved
 abbrev pub byTurns : List Call
 byTurns =
     open0 ∷ open1

@@ -25,7 +25,7 @@ use Rattle.program.specs.declared.TableSectionRead.the-variants.{Good as sectio
 use Rattle.program.specs.declared.Group.{Group}
 use Rattle.program.specs.declared.GroupRead.{GroupRead}
 use Rattle.program.specs.declared.GroupRead.the-variants.{Good as group-read, Bad as no-group}
-use Rattle.program.specs.Sections.{segmentOf, tableSectionOf}
+use Rattle.program.specs.Sections.{segmentOf, tableSectionOf, lastWord}
 use Rattle.program.specs.Groups.{groupOf}
 use Rattle.program.specs.Start.{startOf}
 use Rattle.lists.specs.declared.Table.{Table as CoreTable}
@@ -85,14 +85,14 @@ pieceThen block i NoHead rest = []
 unfoldable pub piecesFrom : ℕ → List ℕ → ℕ → List Piece
 piecesFrom zero block i = []
 piecesFrom (suc n) block i =
-    cond (leb 255 i || eqb (getD block i 0) 0)
+    cond (leb (lastWord + 1) i || eqb (getD block i 0) 0)
     []
     (pieceThen block i (headAt block i) (piecesFrom n block (after i (headAt block i))))
 
 -- from word 1 on; each piece takes a word or more, so 254 are all there can be
 unfoldable pub pieces : List (List ℕ) → List Piece
 pieces [] = []
-pieces (block ∷ blocks) = piecesFrom 254 block 1 ++ pieces blocks
+pieces (block ∷ blocks) = piecesFrom lastWord block 1 ++ pieces blocks
 
 -- ---- the stores
 pub record Store : Type 0 where

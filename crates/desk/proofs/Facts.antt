@@ -1,4 +1,4 @@
--- Soundness as facts of each place and of each two, both ways; that a free place asks nothing; and what a held one has. Assumes nothing.
+-- Soundness as facts of each place and of each two, both ways; that a free place asks nothing; and what a held one has.
 use Prim.Native.Nat.{ℕ, _+_, _-_, _≤_, _<_}
 use mathlib.Core.Path.{_≡_, _∙_}
 use mathlib.Core.Bool.{true, _&&_}

@@ -1,5 +1,5 @@
 -- The pass over the held places: those before place p are in order, no two of their areas share a word, and of each room that holds
--- one of them the last is known. Assumes nothing.
+-- one of them the last is known.
 use Prim.Native.Nat.{ℕ, suc, _+_, _-_, _≤_, _<_}
 use mathlib.Core.Path.{_≡_, sym, _∙_}
 use mathlib.Core.Bool.{true, false, _||_, true≢false}

@@ -1,5 +1,5 @@
 -- A desk with one place written anew is sound again where the new numbers are in order beside the other places; so it is where only
--- the stage of a place is written, and the new stage is in range. Assumes nothing.
+-- the stage of a place is written, and the new stage is in range.
 use Prim.Native.Nat.{ℕ, _+_, _-_, _≤_, _<_}
 use mathlib.Core.Path.{_≡_, refl, sym, ap, _∙_}
 use mathlib.Core.Bool.{true, or-true}

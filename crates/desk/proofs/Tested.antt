@@ -1,4 +1,4 @@
--- What the tests of a desk have shown when the next one is reached. Assumes nothing.
+-- What the tests of a desk have shown when the next one is reached.
 use Prim.Native.Nat.{ℕ, _+_, _-_, _≤_, _<_}
 use mathlib.Core.Path.{_≡_}
 use mathlib.Core.Bool.{Bool, true, false, _&&_, and-false}

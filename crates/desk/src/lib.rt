@@ -58,7 +58,7 @@ fn holders_fit(desk: &[u64]) -> bool
 }
 
 // Whether each held place is in order, and no two held areas share a word. Stretches share none, so that only areas of the same
-// room can; and no room holds over two places, so that an area is held against the last one of its room.
+// room can; and no room holds over two places, so that an area is compared with the last one of its room.
 fn places_fit(desk: &[u64], held: &[usize]) -> bool
     requires { ⌜ (MapTested (now desk)) × (fair (holders (now desk)) ≡ true) × (now held ≡ heldPlaces 0 (holders (now desk))) ⌝ }
     ensures { λ r. ⌜ r ≡ placesFit (now (desk .entry)) ⌝ }

@@ -1,4 +1,4 @@
--- The laws of a block's step, from those of the four records. Assumes nothing.
+-- The laws of a block's step, from those of the four records.
 use Prim.Native.Nat.{ℕ, _≤_}
 use mathlib.Core.Path.{_≡_, refl}
 use mathlib.Core.Bool.{Bool, true, false, cond}

@@ -1,5 +1,4 @@
--- Feed: the desk that it leaves is sound, the core keeps its length, and its answer is small; for any numbers, block, desk and core. Assumes
--- nothing.
+-- Feed: the desk that it leaves is sound, the core keeps its length, and its answer is small; for any numbers, block, desk and core.
 use Prim.Native.Nat.{ℕ, _≤_, _<_, _^_}
 use mathlib.Core.Path.{_≡_, refl, ap, _∙_}
 use mathlib.Core.Bool.{true, false}

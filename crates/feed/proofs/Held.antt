@@ -1,4 +1,4 @@
--- What a sound desk says of the load at a held place: it waits for a block, in the sense that the block's step asks for. Assumes nothing.
+-- What a sound desk says of the load at a held place: it waits for a block, in the sense that the block's step asks for.
 use Prim.Native.Nat.{ℕ, _+_, _≤_, _<_}
 use mathlib.Core.Path.{_≡_}
 use mathlib.Core.Bool.{true}

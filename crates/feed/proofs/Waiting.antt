@@ -1,4 +1,4 @@
--- What a waiting load gives to the step of the record that is due. Assumes nothing.
+-- What a waiting load gives to the step of the record that is due.
 use Prim.Native.Nat.{ℕ, _+_, _≤_, _<_}
 use mathlib.Core.Path.{_≡_, refl}
 use mathlib.Core.Bool.{Bool}

@@ -1,4 +1,4 @@
--- A core whose area is set to zero is the same, whatever stood in the area. Assumes nothing.
+-- A core whose area is set to zero is the same, whatever stood in the area.
 use Prim.Native.Nat.{ℕ, _+_, _-_, _≤_, _<_}
 use mathlib.Core.Path.{_≡_, refl, sym, ap, _∙_}
 use mathlib.Core.Logic.{inl, inr}

@@ -4,6 +4,7 @@ ghost use mathlib.Core.Path.{_≡_};
 ghost use mathlib.Core.Bool.{true};
 ghost use Prim.Native.Nat.{_+_, _≤_, _<_};
 ghost use lib.ListN.{length};
+ghost use Rattle.word.specs.Limits.{placeCount};
 ghost use Rattle.layout.specs.Layout.{deskWords, coreLength, holderIn, placeIn};
 ghost use Rattle.desk.specs.Sound.{sound};
 ghost use Rattle.calls.specs.Outcome.{Meets};
@@ -45,7 +46,7 @@ pub fn feed_block(
 
 // From refusal 10 on: place p is held.
 fn feed_held(desk: &mut [u64], core: &mut [u64], p: usize, block: &[u64]) -> Answer
-    requires { ⌜ (sound (now desk) ≡ true) × (length (now core) ≡ coreLength (now desk)) × (p < 12) × (1 ≤ holderIn (now desk) p) ⌝ }
+    requires { ⌜ (sound (now desk) ≡ true) × (length (now core) ≡ coreLength (now desk)) × (p < placeCount) × (1 ≤ holderIn (now desk) p) ⌝ }
     ensures { λ a. ⌜ Meets (heldOf (now (desk .entry)) (now (core .entry)) p (now (block .entry))) a (now (desk .exit)) (now (core .exit)) ⌝ }
 {
     let s = layout::stage_of(layout::place_at(desk, p));
@@ -98,7 +99,7 @@ fn due_step(g: Given, lists: &[u64], s: Stage, block: &[u64], core: &mut [u64]) 
 
 // The answer, and what the load at place p is left with.
 fn settle(desk: &mut [u64], core: &mut [u64], p: usize, area: Area, r: Step) -> Answer
-    requires { ⌜ (length (now desk) ≡ deskWords) × (p < 12) × (area .at .0 + area .size ≤ length (now core)) ⌝ }
+    requires { ⌜ (length (now desk) ≡ deskWords) × (p < placeCount) × (area .at .0 + area .size ≤ length (now core)) ⌝ }
     ensures { λ a. ⌜ Meets (settledOf (now (desk .entry)) (now (core .entry)) p area r (now (core .entry))) a (now (desk .exit)) (now (core .exit)) ⌝ }
 {
     match r {
@@ -120,7 +121,7 @@ fn settle(desk: &mut [u64], core: &mut [u64], p: usize, area: Area, r: Step) -> 
 
 // Place p waits for s.
 fn write_stage(desk: &mut [u64], p: usize, s: Stage)
-    requires { ⌜ (length (now desk) ≡ deskWords) × (p < 12) ⌝ }
+    requires { ⌜ (length (now desk) ≡ deskWords) × (p < placeCount) ⌝ }
     ensures { λ _. ⌜ now (desk .exit) ≡ staged (now (desk .entry)) p s ⌝ }
 {
     let n = stage::stage_numbers(s);

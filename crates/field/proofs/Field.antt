@@ -1,4 +1,4 @@
--- What a field becomes and what becomes of its word, proved once for either half. Assumes nothing.
+-- What a field becomes and what becomes of its word, proved once for either half.
 use mathlib.Core.Path.{_≡_, refl, sym, ap, _∙_}
 use mathlib.Core.Bool.{Bool, true, false}
 use mathlib.Core.List.{List}

@@ -1,6 +1,7 @@
 // One field of a program word: what it becomes by its modification type, or why it is refused.
 ghost use mathlib.Core.Path.{_≡_};
 ghost use Prim.Native.Nat.{_+_, _<_, _≤_, _^_};
+ghost use Rattle.word.specs.Limits.{coreMost};
 ghost use Rattle.word.specs.declared.Half.the-variants.{Left, Right};
 ghost use Rattle.word.specs.Word.{lowest};
 ghost use Rattle.lists.specs.Load.{coreTables, ioNumbers, Readable};
@@ -88,7 +89,7 @@ pub fn right_step(s: Assigned, lists: &[u64], t: u64, w: u64, x: u64) -> Changed
 
 // Type 000.
 fn moved_field(area: Area, r: Relative) -> Becomes
-    requires { ⌜ (area .at .0 ≤ 65536) × (r .0 < 2 ^ 16) ⌝ }
+    requires { ⌜ (area .at .0 ≤ coreMost) × (r .0 < 2 ^ 16) ⌝ }
     ensures { λ b. ⌜ b ≡ movedField area r ⌝ }
 {
     let a = word::placed(area, r);

@@ -1,4 +1,4 @@
--- What a group answers and what it writes hang on its block and what the load was given, not on the core. Assumes nothing.
+-- What a group answers and what it writes hang on its block and what the load was given, not on the core.
 use Prim.Native.Nat.{ℕ, _+_, _-_, _≤_, _<_}
 use mathlib.Core.Path.{_≡_, refl, sym, _∙_}
 use mathlib.Core.Bool.{Bool, true, false, cond}

@@ -1,5 +1,4 @@
--- A word's two halves: what the code gives, half after half, is what `wordStep` says; and the commonest change at a glance. Assumes
--- nothing.
+-- A word's two halves: what the code gives, half after half, is what `wordStep` says; and the commonest change at once.
 use mathlib.Core.Path.{_≡_, refl, ap, _∙_}
 use mathlib.Core.Bool.{true, false, cond}
 use mathlib.Core.List.{List}

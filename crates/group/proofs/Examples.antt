@@ -1,4 +1,4 @@
--- Groups worked by hand, in a core of eight words with the area at word 2. The words of a block are in octal. Assumes nothing.
+-- Groups worked by hand, in a core of eight words with the area at word 2. The words of a block are in octal.
 use mathlib.Core.Path.{_≡_, refl}
 use mathlib.Core.Bool.{true}
 use mathlib.Core.List.{List, [], _∷_, _++_, map, flatMap}

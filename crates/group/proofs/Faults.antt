@@ -1,4 +1,4 @@
--- A group's refusal is 18, 19, 20 or 21. Assumes nothing.
+-- A group's refusal is 18, 19, 20 or 21.
 use Prim.Native.Nat.{ℕ, _+_, _-_, _≤_}
 use mathlib.Core.Bool.{Bool}
 use mathlib.Core.List.{List, [], _∷_}

@@ -1,5 +1,5 @@
 -- What a group does, whatever it answers: the core keeps its length, nothing but the group's own words changes, what is stored is
--- a word, and the later group stands. Assumes nothing.
+-- a word, and the later group stands.
 use mathlib.Core.Path.{_≡_, refl, sym, _∙_}
 use mathlib.Core.Bool.{Bool, true, _&&_}
 use mathlib.Core.List.{List}

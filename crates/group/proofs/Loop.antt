@@ -1,5 +1,5 @@
 -- The loop over a group's program words, which are copied into the core and changed there: what is left to do after some steps is what
--- there was to do. Assumes nothing.
+-- there was to do.
 use mathlib.Core.Path.{_≡_, refl, sym, ap, _∙_}
 use mathlib.Core.Logic.{⊎-elim}
 use mathlib.Core.List.{List, _∷_}

@@ -1,5 +1,5 @@
 -- A turn of the loop over a group's program words, an indicator word more where bits are wanting and then a step; and a group without any
--- change. Assumes nothing.
+-- change.
 use mathlib.Core.Path.{_≡_, sym, ap, _∙_}
 use mathlib.Core.Bool.{true}
 use mathlib.Core.List.{List}

@@ -1,4 +1,4 @@
--- Where a group's words go: by its section, and always in the area. Assumes nothing.
+-- Where a group's words go: by its section, and always in the area.
 use mathlib.Core.Path.{_≡_}
 use mathlib.Core.Bool.{Bool, true, false, cond, not}
 use Prim.Native.Nat.{ℕ, _+_, _≤_}

@@ -1,4 +1,4 @@
--- Each test of a group, as the code makes it, gives the outcome that the definition says. Assumes nothing.
+-- Each test of a group, as the code makes it, gives the outcome that the definition says.
 use mathlib.Core.Path.{_≡_, refl, sym, ap, _∙_}
 use mathlib.Core.Bool.{Bool, true, false}
 use mathlib.Core.List.{List, [], _∷_, _++_}

@@ -1,4 +1,4 @@
--- What the program words of a group become: as many words, each below 2^36. Assumes nothing.
+-- What the program words of a group become: as many words, each below 2^36.
 use mathlib.Core.Path.{_≡_, refl}
 use mathlib.Core.Bool.{true}
 use mathlib.Core.List.{List, [], _∷_}

@@ -6,6 +6,8 @@ use mathlib.Core.Bool.{Bool, true, cond, not, _&&_}
 use mathlib.Core.List.{List, [], _∷_}
 use lib.ListN.{length, getD}
 use lib.Dec.{leb}
+use Rattle.program.specs.Sections.{lastWord}
+use Rattle.word.specs.Limits.{coreMost, wordsInBlock}
 use Rattle.word.specs.declared.Absolute.{Absolute}
 use Rattle.word.specs.declared.Area.{Area}
 use Rattle.word.specs.declared.Fault.{Fault}
@@ -83,7 +85,7 @@ indicatorBitsIn block i g = bitsBefore block (i + 1 + g .words) (g .words - g .p
 
 -- "and so does each group (else 18)": it stays in one block, whose last word for it is word 254
 abbrev pub inOneBlock : ℕ → Group → Bool
-inOneBlock i g = leb (i + g .words) 254
+inOneBlock i g = leb (i + g .words) lastWord
 
 -- "the words after the identifier", of which "the program words come first": there are as many at least
 abbrev pub holdsProgram : Group → Bool
@@ -162,8 +164,8 @@ InArea area (InTable t count) = (area .at .0 ≤ t .at .0) × (t .at .0 + t .len
 pub record Ready (g : Given) (l : List ℕ) (section : Section) (block : List ℕ) (i : ℕ) (core : List ℕ) : Type 0 where
   pub lists : Readable g l
   pub inside : g .area .at .0 + g .area .size ≤ length core
-  pub most : length core ≤ 65536
+  pub most : length core ≤ coreMost
   pub room : InArea (g .area) section
-  pub long : length block ≡ 256
+  pub long : length block ≡ wordsInBlock
   pub words : every isWord block ≡ true
-  pub place : i ≤ 254
+  pub place : i ≤ lastWord

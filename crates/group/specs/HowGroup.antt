@@ -4,6 +4,8 @@ use mathlib.Core.Path.{_≡_}
 use mathlib.Core.Bool.{true, cond}
 use mathlib.Core.List.{List}
 use lib.ListN.{length, replicate}
+use Rattle.program.specs.Sections.{lastWord}
+use Rattle.word.specs.Limits.{wordsInBlock}
 use Rattle.lists.specs.declared.Given.{Given}
 use Rattle.lists.specs.Load.{Readable}
 use Rattle.word.specs.declared.Fault.{Fault}
@@ -56,13 +58,13 @@ pub record Sized (g : Group) : Type 0 where
 -- what is known before
 pub record FillReady (x : Given) (l block : List ℕ) (i : ℕ) (g : Group) (out : List ℕ) : Type 0 where
   pub lists : Readable x l
-  pub long : length block ≡ 256
+  pub long : length block ≡ wordsInBlock
   pub words : every isWord block ≡ true
-  pub place : i ≤ 254
+  pub place : i ≤ lastWord
   pub sized : Sized g
   pub room : length out ≡ g .program
 
 -- what its two first tests show
 pub record Fitting (i : ℕ) (g : Group) : Type 0 where
-  pub whole : i + g .words ≤ 254
+  pub whole : i + g .words ≤ lastWord
   pub holds : g .program ≤ g .words

@@ -10,7 +10,7 @@ use Rattle.word.specs.Sorts.{absoluteOf, rightMoved}
 use Rattle.word.specs.Word.{fieldOf}
 use Rattle.field.specs.declared.Changed.{Changed}
 use Rattle.field.specs.declared.Changed.the-variants.{Word, Refused}
-use Rattle.field.specs.Field.{Assignments, relative}
+use Rattle.field.specs.Field.{Assignments, relative, valueLimit}
 use Rattle.indicator.specs.declared.Indicator.{Indicator}
 use Rattle.indicator.specs.declared.Indicator.the-variants.{Same, Change, Long}
 use Rattle.indicator.specs.declared.Cursor.{Cursor}
@@ -59,6 +59,6 @@ isMoved c = eqb (c .ahead / 2 ^ 59) 8
 -- a word with such indicators (`moved-both`, proofs/Both.antt: it is the same)
 unfoldable pub movedWord : Area → ℕ → Cursor → WordChange
 movedWord area w c =
-    cond (ltb (absoluteOf area (relative (fieldOf Right w)) .0) 65536)
+    cond (ltb (absoluteOf area (relative (fieldOf Right w)) .0) valueLimit)
     (Next (rightMoved area w) (record { at = c .at + 5; ahead = c .ahead * 2 ^ 5 % 2 ^ 64; words = c .words; edge = c .edge }))
     (Stop (fault 21))

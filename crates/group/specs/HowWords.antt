@@ -5,6 +5,7 @@ use mathlib.Core.Bool.{Bool, true, cond}
 use mathlib.Core.List.{List}
 use lib.ListN.{length, getD, set, replicate}
 use lib.Dec.{eqb}
+use Rattle.word.specs.Limits.{coreMost, wordsInBlock}
 use Rattle.lists.specs.declared.Given.{Given}
 use Rattle.lists.specs.Load.{Readable}
 use Rattle.word.specs.Lists.{every}
@@ -60,7 +61,7 @@ unchangedStep c k n =
 pub record NextReady (g : Given) (l given : List ℕ) (c : Cursor) (k : ℕ) (out : List ℕ) : Type 0 where
   pub lists : Readable g l
   pub left : k < length given
-  pub most : length given ≤ 65536
+  pub most : length given ≤ coreMost
   pub room : length out ≡ length given
   pub word : getD given k 0 < 2 ^ 36
   pub same : getD out k 0 ≡ getD given k 0
@@ -86,7 +87,7 @@ pub record ChangeReady (g : Given) (l given block : List ℕ) (marks : Indicator
   pub lists : Readable g l
   pub words : every isWord given ≡ true
   pub few : length given ≤ 255
-  pub long : length block ≡ 256
+  pub long : length block ≡ wordsInBlock
   pub indicators : InBlock block (marks .end) (marks .count)
   pub room : length out ≡ length given
 

@@ -1,9 +1,10 @@
 // The program words of a group, changed word after word. They are read from the block and stored into the core, where all are copied
-// first: a group without any change is seen at a glance, words without change are passed many at once, and the commonest change has a
+// first: a group without any change is seen by its indicator words alone, words without change are passed many at once, and the commonest change has a
 // way of its own.
 ghost use mathlib.Core.Path.{_≡_};
 ghost use Prim.Native.Nat.{_+_, _-_, _*_, _<_, _≤_, _^_};
 ghost use lib.ListN.{length};
+ghost use Rattle.word.specs.Limits.{coreMost};
 ghost use Rattle.word.specs.Lists.{every};
 ghost use Rattle.field.specs.Field.{assignedBy};
 ghost use Rattle.indicator.specs.Indicator.{bitsBefore};
@@ -27,7 +28,7 @@ const MOVED: u64 = 8;
 
 const NO_CHANGE: u64 = 1 << 62;
 
-// The indicator words of a group: so many before a place of its block.
+// The indicator words of a group: this many before a place of its block.
 pub struct IndicatorWords {
     pub end: usize,
     pub count: usize,
@@ -167,7 +168,7 @@ fn store_word(out: &mut [u64], k: usize, r: WordChange) -> NextWord
 
 // A word whose indicators are 01000: its right field is moved by the area's address.
 fn moved_word(area: Area, c: Cursor, w: u64) -> WordChange
-    requires { ⌜ (area .at .0 ≤ 65536) × (w < 2 ^ 36) × (c .at + 5 < 2 ^ 64) ⌝ }
+    requires { ⌜ (area .at .0 ≤ coreMost) × (w < 2 ^ 36) × (c .at + 5 < 2 ^ 64) ⌝ }
     ensures { λ r. ⌜ r ≡ movedWord area w c ⌝ }
 {
     let a = word::placed(area, Relative(word::field(w, Half::Right)));

@@ -7,6 +7,7 @@ mod halves;
 ghost use mathlib.Core.Path.{_≡_};
 ghost use Prim.Native.Nat.{_+_, _*_, _<_, _≤_, _^_};
 ghost use lib.ListN.{length};
+ghost use Rattle.word.specs.Limits.{coreMost};
 ghost use Rattle.field.specs.Field.{assignedBy};
 ghost use Rattle.indicator.specs.Indicator.{justEnough};
 ghost use Rattle.group.specs.Group.{liesIn, wordsLie, addressOf, groupOutcome, groupStep, GroupMeets, InArea, Ready};
@@ -109,7 +110,7 @@ fn lies_in(bank: Bank, g: Group) -> bool
 
 // Where the first word of a group goes.
 fn address_of(area: Area, section: Section, g: Group) -> Absolute
-    requires { ⌜ (area .at .0 + area .size ≤ 65536) × (InArea area section) × (Sized g) ⌝ }
+    requires { ⌜ (area .at .0 + area .size ≤ coreMost) × (InArea area section) × (Sized g) ⌝ }
     ensures { λ r. ⌜ r ≡ addressOf area section g ⌝ }
 {
     let at = g.at;

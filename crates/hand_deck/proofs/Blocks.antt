@@ -1,4 +1,4 @@
--- What the definitions read in the three blocks of the hand deck, by computing. Assumes nothing.
+-- What the definitions read in the three blocks of the hand deck, by computing.
 use mathlib.Core.Path.{_≡_, refl}
 use mathlib.Core.Bool.{true, false}
 use lib.ListN.{getD}

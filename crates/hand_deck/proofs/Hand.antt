@@ -1,4 +1,4 @@
--- Every P case holds: one theorem over the one list, by computing. Assumes nothing.
+-- Every P case holds: one theorem over the one list, by computing.
 use Prim.Native.Nat.{ℕ}
 use mathlib.Core.Path.{_≡_, refl}
 use mathlib.Core.List.{map}

@@ -2,6 +2,7 @@
 use Prim.Native.Nat.{ℕ}
 use mathlib.Core.List.{List, [], _∷_}
 use lib.ListN.{set, replicate}
+use Rattle.word.specs.Limits.{wordsInBlock}
 
 -- a word of a block: its number and its value
 pub record Named : Type 0 where
@@ -14,7 +15,7 @@ withWords [] block = block
 withWords (n ∷ ns) block = withWords ns (set block (n .at) (n .word))
 
 unfoldable pub blank : List ℕ
-blank = replicate 256 0
+blank = replicate wordsInBlock 0
 
 unfoldable pub deckLabel : List ℕ
 deckLabel = withWords (

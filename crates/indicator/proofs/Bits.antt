@@ -1,5 +1,4 @@
--- The bits of a group's indicator words by arithmetic, as the code reads them, and how large a number of them can be. Assumes
--- nothing.
+-- The bits of a group's indicator words by arithmetic, as the code reads them, and how large a number of them can be.
 use mathlib.Core.Path.{_≡_, refl, sym, ap, _∙_}
 use mathlib.Core.List.{List, [], _∷_, _++_, reverse, reverse-cons, flatMap}
 use Prim.Native.Nat.{ℕ, zero, suc, _+_, _-_, _*_, _/_, _%_, _^_, _≤_, _<_}

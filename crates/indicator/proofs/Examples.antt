@@ -1,5 +1,5 @@
 -- Groups worked by hand beside 001's Figure 15, which names the half words of the program words K, L, .. and the indicators
--- k, l, .. of each. Every word is written in octal. Each theorem holds by computing. Assumes nothing.
+-- k, l, .. of each. Every word is written in octal. Each theorem holds by computing.
 use mathlib.Core.Path.{_≡_, refl}
 use mathlib.Core.Bool.{true, false}
 use mathlib.Core.List.{List, [], _∷_, _++_, map, flatMap}

@@ -1,4 +1,4 @@
--- Numbers that indicator bits spell: cut in two, past the end, over fewer words, over one word more. Assumes nothing.
+-- Numbers that indicator bits spell: cut in two, past the end, over fewer words, over one word more.
 use mathlib.Core.Path.{_≡_, refl, sym, ap, _∙_}
 use mathlib.Core.Logic.{⊎-elim}
 use mathlib.Core.List.{List}

@@ -1,5 +1,4 @@
 -- How far an indicator, a word's two and those of all words reach, and the turn and the end of a loop over program words.
--- Assumes nothing.
 use mathlib.Core.Path.{_≡_}
 use mathlib.Core.List.{List}
 use Prim.Native.Nat.{ℕ, _+_, _-_, _≤_, _<_}

@@ -1,4 +1,4 @@
--- A cursor reads the indicators that specs/Indicator.antt defines, and sees on after each of its moves. Assumes nothing.
+-- A cursor reads the indicators that specs/Indicator.antt defines, and sees on after each of its moves.
 use mathlib.Core.Path.{_≡_, refl, sym, ap, _∙_}
 use mathlib.Core.Logic.{⊎-elim}
 use mathlib.Core.List.{List}

@@ -1,5 +1,4 @@
--- A turn of the count: words without change passed at once, or one word; what is left then ends where it would have. Assumes
--- nothing.
+-- A turn of the count: words without change passed at once, or one word; what is left then ends where it would have.
 use mathlib.Core.Path.{_≡_, refl, sym, ap, _∙_}
 use mathlib.Core.Logic.{_⊎_, inl, inr, ⊎-elim}
 use mathlib.Core.List.{List}

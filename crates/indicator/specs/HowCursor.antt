@@ -65,7 +65,7 @@ refilled block end n c =
       edge = edgeOf n (c .words + 1);
     })
 
--- how many of the program words left have no change at a glance: two 0s each, of the bits at hand
+-- how many of the program words left have no change: two 0s each, of the bits at hand
 unfoldable pub plainWords : Cursor → ℕ → ℕ
 plainWords c left =
     cond (eqb (c .ahead) 0)

@@ -3,6 +3,7 @@
 ghost use mathlib.Core.Path.{_≡_};
 ghost use Prim.Native.Nat.{_+_, _-_, _*_, _<_, _≤_, _^_};
 ghost use lib.ListN.{length};
+ghost use Rattle.word.specs.Limits.{coreMost};
 ghost use Rattle.word.specs.Lists.{range};
 ghost use Rattle.indicator.specs.Indicator.{InBlock, bitsBefore, widthOf, afterAll, justEnough};
 ghost use Rattle.indicator.specs.HowCursor.{never, Sees, edgeOf, startCursor, lookOf, pastOf, pastField, pastWord, refilled};
@@ -149,7 +150,7 @@ pub fn refill(block: &[u64], end: usize, n: usize, c: Cursor) -> Cursor
     }
 }
 
-// How many of the program words that are left have no change, as far as the bits at hand tell at a glance.
+// How many of the program words that are left have no change, as far as the bits at hand tell.
 pub fn unchanged(c: Cursor, left: usize) -> usize
     requires { ⌜ 36 * c .words < 2 ^ 64 ⌝ }
     ensures { λ r. ⌜ r ≡ plainWords c left ⌝ }
@@ -165,7 +166,7 @@ pub fn unchanged(c: Cursor, left: usize) -> usize
     if k < left { k } else { left }
 }
 
-// Past so many words without change.
+// Past this many words without change.
 pub fn pass_plain(c: Cursor, k: usize) -> Cursor
     requires { ⌜ c .at + 2 * k < 2 ^ 64 ⌝ }
     ensures { λ r. ⌜ r ≡ pastPlain c k ⌝ }
@@ -201,7 +202,7 @@ fn move_on(block: &[u64], last: usize, c: Cursor, i: usize) -> Turn
 
 // Whether the indicators of the words from place first up to place last need just the n words before place end.
 pub fn count_fits(block: &[u64], first: usize, last: usize, end: usize, n: usize) -> bool
-    requires { ⌜ (InBlock (now block) end n) × (last ≤ length (now block)) × (length (now block) ≤ 65536) ⌝ }
+    requires { ⌜ (InBlock (now block) end n) × (last ≤ length (now block)) × (length (now block) ≤ coreMost) ⌝ }
     ensures { λ r. ⌜ r ≡ justEnough (afterAll (bitsBefore (now (block .entry)) end n) 0 (range (now (block .entry)) first (last - first))) n ⌝ }
 {
     let mut c = start(n);

@@ -1,4 +1,4 @@
--- Every label that is accepted is within the house's limits. Assumes nothing.
+-- Every label that is accepted is within the house's limits.
 use Prim.Native.Nat.{ℕ, _+_, _≤_}
 use mathlib.Core.Path.{_≡_}
 use mathlib.Core.Bool.{true, _&&_}

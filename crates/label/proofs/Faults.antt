@@ -1,4 +1,4 @@
--- Every label that is refused is refused with 14 or 15. Assumes nothing.
+-- Every label that is refused is refused with 14 or 15.
 use Prim.Native.Nat.{ℕ, _≤_}
 use mathlib.Core.Path.{_≡_}
 use mathlib.Core.List.{List}

@@ -1,4 +1,4 @@
--- Reading a name a character at a time tells whether it is one. Assumes nothing.
+-- Reading a name a character at a time tells whether it is one.
 use Prim.Native.Nat.{ℕ, zero, suc, _-_, _*_, _<_}
 use native.Mathlib.Omega.{arith}
 use Rattle.word.specs.Word.{part}

@@ -1,5 +1,4 @@
 -- The tables of a label taken one after another tell what the definition tells of them all, and a turn of each loop over them.
--- Assumes nothing.
 use Prim.Native.Nat.{ℕ, _+_, _*_, _≤_, _<_}
 use mathlib.Core.Path.{_≡_, refl, sym, ap, _∙_}
 use mathlib.Core.Bool.{Bool, true, false, false≢true, _&&_}

@@ -5,7 +5,7 @@ ghost use mathlib.Core.Path.{_≡_};
 ghost use mathlib.Core.Bool.{true};
 ghost use Prim.Native.Nat.{_≤_};
 ghost use lib.ListN.{length, getD};
-ghost use Rattle.block.specs.Block.{wordsInBlock};
+ghost use Rattle.word.specs.Limits.{wordsInBlock};
 ghost use Rattle.label.specs.Tables.{tableWord, tableWordsIn, tableWords, isCarried, tablesInOrder, withinLimits};
 ghost use Rattle.label.specs.Tables.{entriesIf, entriesOf, countsOf};
 ghost use Rattle.label.specs.HowTables.{mayFollow, FewEntries};

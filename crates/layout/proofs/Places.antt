@@ -1,5 +1,5 @@
 -- A write inside one place changes that place so, and leaves every other place, the core length and the map. What is known of a place
--- that a room holds. Assumes nothing.
+-- that a room holds.
 use Prim.Native.Nat.{ℕ, _+_, _≤_, _<_}
 use mathlib.Core.Path.{_≡_, sym, ap, _∙_}
 use mathlib.Core.Bool.{true}

@@ -1,4 +1,4 @@
--- The lists that are lent to open, written into the numbers of a load's lists part after part, and read back. Assumes nothing.
+-- The lists that are lent to open, written into the numbers of a load's lists part after part, and read back.
 use Prim.Native.Nat.{ℕ, _+_, _-_, _*_, _/_, _≤_}
 use mathlib.Core.Path.{_≡_, sym, ap, _∙_}
 use mathlib.Core.Bool.{true}

@@ -1,5 +1,4 @@
 -- The words that are kept for tables that lie in the area pass the one pass just when no two of the tables share a word.
--- Assumes nothing.
 use Prim.Native.Nat.{ℕ, suc, _+_, _^_, _≤_, _<_}
 use mathlib.Core.Path.{_≡_, refl, sym, ap, _∙_}
 use mathlib.Core.List.{List, [], _∷_}

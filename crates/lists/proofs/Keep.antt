@@ -1,4 +1,4 @@
--- Lists that obey refusal 8 can be kept; what is kept passes the desk's test and is read as what was lent. Assumes nothing.
+-- Lists that obey refusal 8 can be kept; what is kept passes the desk's test and is read as what was lent.
 use Prim.Native.Nat.{ℕ, _+_, _*_, _/_, _%_, _≤_}
 use mathlib.Core.Path.{_≡_, _∙_}
 use mathlib.Core.Bool.{true}

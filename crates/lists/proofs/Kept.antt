@@ -1,4 +1,4 @@
--- What is read of the kept lists: how many there are, each by its number, and no number is too large. Assumes nothing.
+-- What is read of the kept lists: how many there are, each by its number, and no number is too large.
 use Prim.Native.Nat.{ℕ, _+_, _*_, _/_, _%_, _^_, _<_, _≤_}
 use mathlib.Core.Path.{_≡_}
 use mathlib.Core.Bool.{true}

@@ -1,4 +1,4 @@
--- The tables of a lent list, by their places. Assumes nothing.
+-- The tables of a lent list, by their places.
 use Prim.Native.Nat.{ℕ, zero, suc, _+_, _*_, _/_, _<_}
 use mathlib.Core.Path.{_≡_, refl}
 use mathlib.Core.List.{List, [], _∷_}

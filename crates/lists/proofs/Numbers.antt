@@ -1,4 +1,4 @@
--- I/O numbers that are kept are read as they were lent. Assumes nothing.
+-- I/O numbers that are kept are read as they were lent.
 use Prim.Native.Nat.{ℕ, suc, _+_, _*_, _/_, _%_, _^_, _≤_, _<_}
 use mathlib.Core.Path.{_≡_, sym, ap, _∙_}
 use mathlib.Core.Bool.{true}

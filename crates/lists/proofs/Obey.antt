@@ -1,4 +1,4 @@
--- What it says of a table to lie inside the area, and of two that they share no word. Assumes nothing.
+-- What it says of a table to lie inside the area, and of two that they share no word.
 use Prim.Native.Nat.{_+_, _≤_, _<_}
 use mathlib.Core.Path.{_≡_}
 use mathlib.Core.Bool.{true}

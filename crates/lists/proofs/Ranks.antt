@@ -1,4 +1,4 @@
--- The ranks that are kept, and that kept tables are read as they were lent. Assumes nothing.
+-- The ranks that are kept, and that kept tables are read as they were lent.
 use Prim.Native.Nat.{ℕ, zero, suc, _+_, _-_, _^_, _≤_, _<_}
 use mathlib.Core.Path.{_≡_, refl, sym, ap, _∙_}
 use mathlib.Core.Logic.{_⊎_, inl, inr, ⊎-elim}

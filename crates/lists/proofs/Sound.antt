@@ -1,4 +1,4 @@
--- Kept words that pass the one pass are read as tables that obey refusal 8, whatever numbers the ranks are. Assumes nothing.
+-- Kept words that pass the one pass are read as tables that obey refusal 8, whatever numbers the ranks are.
 use Prim.Native.Nat.{ℕ, zero, suc, _+_, _≤_, _<_}
 use mathlib.Core.Path.{_≡_, refl, sym, ap, _∙_}
 use mathlib.Core.List.{List, [], _∷_}

@@ -67,7 +67,7 @@ ranked p (w ∷ ws) rs = ranked (suc p) ws (set rs (tableNumberIn w) p)
 unfoldable pub ranksKept : List Table → List ℕ
 ranksKept ts = ranked 0 (wordsKept ts) (map awayRank ts)
 
--- ---- how a call takes the lists: so many words are kept for the tables, or refusal 8 is due. The words stand at the start of the
+-- ---- how a call takes the lists: as many words are kept as it says for the tables, or refusal 8 is due. The words stand at the start of the
 -- stretch ws wherever each entry obeys by itself, and what follows in it is as it was
 unfoldable pub listsTaken : Area → List ℕ → List ℕ → Taken
 listsTaken area ios tables = cond (listsObey area ios tables) (Words (length (wordsKept (tablesOf tables)))) Nothing

@@ -6,7 +6,7 @@ use mathlib.Core.Bool.{true}
 use mathlib.Core.List.{List}
 use lib.ListN.{length}
 use Rattle.word.specs.declared.Area.{Area}
-use Rattle.word.specs.Limits.{ioMost, tablesMost}
+use Rattle.word.specs.Limits.{ioMost, tablesMost, coreMost}
 use Rattle.word.specs.Lists.{range, splice}
 use Rattle.lists.specs.declared.Given.{Given}
 use Rattle.lists.specs.declared.Table.{Table}
@@ -80,7 +80,7 @@ ReadsBack area ios tables l =
 -- what has been seen to before they are kept: w are the words that are kept for the tables
 pub record Keepable (area : Area) (ios tables w l : List ℕ) : Type 0 where
   pub long : length l ≡ listWords
-  pub small : area .at .0 + area .size ≤ 65536
+  pub small : area .at .0 + area .size ≤ coreMost
   pub obey : listsObey area ios tables ≡ true
   pub words : w ≡ wordsKept (tablesOf tables)
 
@@ -90,4 +90,4 @@ pub record Readable (g : Given) (l : List ℕ) : Type 0 where
   pub io : g .io ≤ ioMost
   pub tables : g .tables ≤ tablesMost
   pub kept : g .kept ≤ tablesMost
-  pub small : g .area .at .0 + g .area .size ≤ 65536
+  pub small : g .area .at .0 + g .area .size ≤ coreMost

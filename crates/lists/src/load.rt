@@ -24,10 +24,10 @@ pub fn keep_lists(area: Area, ios: &[u64], tables: &[u64], words: &[u64], lists:
     ensures { λ _. ⌜ now (lists .exit) ≡ keptLists (now (ios .entry)) (now (tables .entry)) (now (lists .entry)) ⌝ }
 {
     let mut numbers = [0u64; IO_WORDS];
-    crate::keep_numbers(ios, &mut numbers);
+    crate::keeping::keep_numbers(ios, &mut numbers);
     word::slices::copy_in(lists, 0, &numbers[..(ios.len() + 3) / 4]);
     word::slices::copy_in(lists, WORDS, words);
-    crate::keep_ranks(tables, words, &mut lists[RANKS..LISTS]);
+    crate::keeping::keep_ranks(tables, words, &mut lists[RANKS..LISTS]);
 }
 
 // Core table k of a load; one that it has not is empty.

@@ -1,4 +1,4 @@
--- Every word has its line: its twelve octal digits are read back as that word. And what is no line. Assumes nothing.
+-- Every word has its line: its twelve octal digits are read back as that word. And what is no line.
 use Prim.Native.Nat.{ℕ, zero, suc, _+_, _-_, _*_, _/_, _%_, _^_, _<_}
 use mathlib.Core.Path.{_≡_, refl, ap, _∙_}
 use mathlib.Core.Bool.{true}

@@ -2,6 +2,7 @@
 // (01, "The hand deck").
 ghost use mathlib.Core.Path.{_≡_};
 ghost use lib.ListN.{length};
+ghost use Rattle.word.specs.Limits.{wordsInBlock};
 use calls::Answer;
 use layout::DESK_WORDS;
 use libc::STDIN_FILENO;
@@ -47,7 +48,7 @@ fn say_answer(index: u64, a: Answer) {
 
 // The next block.
 fn read_block(block: &mut [u64]) -> Input
-    requires { ⌜ length (now block) ≡ 256 ⌝ }
+    requires { ⌜ length (now block) ≡ wordsInBlock ⌝ }
 {
     let mut text = [0u8; octal::TEXT];
     let n = io::read_full(STDIN_FILENO, &mut text);

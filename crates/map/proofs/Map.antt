@@ -1,4 +1,4 @@
--- The map's rule as facts, from the test and to the test. Assumes nothing.
+-- The map's rule as facts, from the test and to the test.
 use Prim.Native.Nat.{ℕ, _+_, _-_, _≤_, _<_}
 use mathlib.Core.Path.{_≡_, sym}
 use mathlib.Core.List.{List}

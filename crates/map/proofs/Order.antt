@@ -1,4 +1,4 @@
--- Stretches that stand in the order of their rooms obey the map's rule, and the pass that looks for it. Assumes nothing.
+-- Stretches that stand in the order of their rooms obey the map's rule, and the pass that looks for it.
 use Prim.Native.Nat.{ℕ, suc, _+_, _-_, _%_, _^_, _≤_, _<_}
 use mathlib.Core.Path.{_≡_, refl, sym, _∙_}
 use mathlib.Core.Bool.{Bool, true, false, and-false}

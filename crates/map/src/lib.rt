@@ -1,4 +1,4 @@
-// The map: which stretch of core is each room's. It is read from numbers, passed whole, and held against its rule (01, "The desk"
+// The map: which stretch of core is each room's. It is read from numbers, passed whole, and tested against its rule (01, "The desk"
 // and refusal 3).
 ghost use mathlib.Core.Path.{_≡_};
 ghost use Prim.Native.Nat.{_+_, _<_};
@@ -35,8 +35,8 @@ pub fn read_map(numbers: &[u64]) -> [Stretch; ROOMS]
     m
 }
 
-// Whether the map that a list tells obeys its rule. Stretches that stand in the order of their rooms obey at a glance; others are
-// held against each other.
+// Whether the map that a list tells obeys its rule. Stretches that stand in the order of their rooms obey without more; others are
+// compared with each other.
 pub fn map_fits(core: u64, numbers: &[u64]) -> bool
     ensures { λ b. ⌜ b ≡ mapObeys core (mapOf (now (numbers .entry))) ⌝ }
 {

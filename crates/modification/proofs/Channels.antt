@@ -1,4 +1,4 @@
--- The loop over the first numbers of a kept list, and that these are the first of them all. Assumes nothing.
+-- The loop over the first numbers of a kept list, and that these are the first of them all.
 use Prim.Native.Nat.{ℕ, _+_, _≤_, _<_}
 use mathlib.Core.Path.{_≡_}
 use mathlib.Core.Bool.{Bool, true, false}

@@ -1,5 +1,5 @@
 -- The word that holds a table's minimum length is one of the entry words of one of the modification blocks, and the one that
--- the count of words says. Assumes nothing.
+-- the count of words says.
 use Prim.Native.Nat.{ℕ, _+_, _-_, _*_, _≤_, _<_}
 use mathlib.Core.Path.{_≡_}
 use native.Mathlib.Omega.{arith}

@@ -1,4 +1,4 @@
--- Reading a line digit by digit: what is left of it decides, and k digits spell a number below 8^k. Assumes nothing.
+-- Reading a line digit by digit: what is left of it decides, and k digits spell a number below 8^k.
 use Prim.Native.Nat.{ℕ, suc, _+_, _-_, _*_, _^_, _≤_, _<_}
 use mathlib.Core.Path.{_≡_, _∙_}
 use mathlib.Core.Bool.{true, cond, _&&_}

@@ -1,4 +1,4 @@
--- A text line by line: what was read and what is left decide whether it is a block; and what a block's words are. Assumes nothing.
+-- A text line by line: what was read and what is left decide whether it is a block; and what a block's words are.
 use Prim.Native.Nat.{ℕ, _+_, _*_, _^_, _≤_, _<_}
 use mathlib.Core.Path.{_≡_, refl, sym, _∙_}
 use mathlib.Core.Bool.{Bool, true, _&&_, false≢true}

@@ -2,7 +2,7 @@
 ghost use mathlib.Core.Path.{_≡_};
 ghost use Prim.Native.Nat.{_+_, _≤_};
 ghost use lib.ListN.{length};
-ghost use Rattle.octal.specs.Lines.{lineAt, isGood, wordOf, isBlock, blockOf, isWhole, ended};
+ghost use Rattle.octal.specs.Lines.{lineAt, isGood, wordOf, isBlock, blockOf, isWhole, ended, textBytes, lineCount};
 
 // The digits of a line, its bytes with the newline, the lines of a block, and the bytes of a block's text.
 const DIGITS: usize = 12;
@@ -54,7 +54,7 @@ pub fn read_line(text: &[u8], a: usize) -> Line
 
 // Whether the n bytes that came are a block's text. The last newline is put where it is missing.
 pub fn end_text(text: &mut [u8], n: usize) -> bool
-    requires { ⌜ length (now text) ≡ 3328 ⌝ }
+    requires { ⌜ length (now text) ≡ textBytes ⌝ }
     ensures { λ r. ⌜ (r ≡ isWhole n) × (now (text .exit) ≡ ended (now (text .entry)) n) ⌝ }
 {
     if n == TEXT {
@@ -69,7 +69,7 @@ pub fn end_text(text: &mut [u8], n: usize) -> bool
 
 // The block that the text spells, and whether all its lines are good.
 pub fn read_lines(text: &[u8], block: &mut [u64]) -> bool
-    requires { ⌜ (length (now text) ≡ 3328) × (length (now block) ≡ 256) ⌝ }
+    requires { ⌜ (length (now text) ≡ textBytes) × (length (now block) ≡ lineCount) ⌝ }
     ensures { λ r. ⌜ (r ≡ isBlock (now (text .entry))) × (now (block .exit) ≡ blockOf (now (text .entry))) ⌝ }
 {
     let mut good = true;

@@ -12,6 +12,10 @@ use Rattle.program.specs.declared.SegmentRead.the-variants.{Good as segm
 use Rattle.program.specs.declared.TableSectionRead.{TableSectionRead}
 use Rattle.program.specs.declared.TableSectionRead.the-variants.{Good as table-section, Bad as no-table-section}
 
+-- "the end at word 254 closes the block": the last word that sections and groups may use
+abbrev pub lastWord : ℕ
+lastWord = 254
+
 -- "In a bank word bits 35, 34, 17, 16 are zero, bits 33-18 the word count, bits 15-0 the relative address."
 unfoldable pub bankOf : ℕ → BankRead
 bankOf w =

@@ -1,5 +1,5 @@
 // The words that head what a program block holds: segment section, table section, group; and the termination block's start.
-// Each is read from the word alone. What it says is held against the area, the lists and the label elsewhere.
+// Each is read from the word alone. What it says is compared with the area, the lists and the label elsewhere.
 ghost use mathlib.Core.Path.{_≡_};
 ghost use Rattle.program.specs.Sections.{bankOf, segmentOf, tableSectionOf};
 ghost use Rattle.program.specs.Groups.{groupOf};

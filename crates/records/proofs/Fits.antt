@@ -1,5 +1,5 @@
 -- What a label or a modification block leads to: a stage whose numbers are in their ranges, or a fault from 13 to 22, never the start;
--- and what a termination block leads to. Assumes nothing.
+-- and what a termination block leads to.
 use Prim.Native.Nat.{ℕ, _+_, _≤_, _<_}
 use mathlib.Core.Path.{_≡_, refl}
 use mathlib.Core.Bool.{Bool, true, false, cond, false≢true}

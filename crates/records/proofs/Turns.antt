@@ -1,4 +1,4 @@
--- The loop over the tables of a modification block: what is left of it decides. Assumes nothing.
+-- The loop over the tables of a modification block: what is left of it decides.
 use Prim.Native.Nat.{ℕ, _+_, _≤_, _<_}
 use mathlib.Core.Path.{_≡_, refl, sym, ap, _∙_}
 use mathlib.Core.Bool.{Bool, true, false}

@@ -3,6 +3,7 @@
 ghost use mathlib.Core.Path.{_≡_};
 ghost use Prim.Native.Nat.{_+_, _≤_, _<_};
 ghost use lib.ListN.{length};
+ghost use Rattle.word.specs.Limits.{coreMost, ioMost, tablesMost, wordsInBlock};
 ghost use Rattle.label.specs.declared.LabelRead.the-variants.{Good};
 ghost use Rattle.label.specs.Label.{Carried};
 ghost use Rattle.lists.specs.Load.{ioNumbers, coreTables, Readable};
@@ -23,7 +24,7 @@ use word::Reference;
 
 // The label, compared with the lists that the load was given.
 pub fn label_step(g: Given, lists: &[u64], block: &[u64]) -> Step
-    requires { ⌜ (Readable g (now lists)) × (length (now block) ≡ 256) ⌝ }
+    requires { ⌜ (Readable g (now lists)) × (length (now block) ≡ wordsInBlock) ⌝ }
     ensures { λ r. ⌜ r ≡ labelStep (ioNumbers g (now (lists .entry))) (g .tables) (now (block .entry)) ⌝ }
 {
     match label::read_label(block) {
@@ -59,7 +60,7 @@ pub fn entry_step(
     b: u64,
     block: &[u64],
 ) -> Step
-    requires { ⌜ (Readable g (now lists)) × (b < 65536) × (length (now block) ≡ 256) ⌝ }
+    requires { ⌜ (Readable g (now lists)) × (b < 65536) × (length (now block) ≡ wordsInBlock) ⌝ }
     ensures { λ r. ⌜ r ≡ entryStep (g .io) (coreTables g (now (lists .entry))) c exact b (now (block .entry)) ⌝ }
 {
     if !entries_fit(g, lists, exact, b, block) {
@@ -74,7 +75,7 @@ pub fn entry_step(
 
 // Whether each table's length fits its entry, as far as the entry's third word stands in block b.
 fn entries_fit(g: Given, lists: &[u64], exact: bool, b: u64, block: &[u64]) -> bool
-    requires { ⌜ (Readable g (now lists)) × (length (now block) ≡ 256) ⌝ }
+    requires { ⌜ (Readable g (now lists)) × (length (now block) ≡ wordsInBlock) ⌝ }
     ensures { λ r. ⌜ r ≡ entriesFit (g .io) (coreTables g (now (lists .entry))) exact b (now (block .entry)) ⌝ }
 {
     let io = g.io;
@@ -92,7 +93,7 @@ fn entries_fit(g: Given, lists: &[u64], exact: bool, b: u64, block: &[u64]) -> b
 
 // The same of table t, of length len.
 fn entry_fits(io: u64, exact: bool, b: u64, block: &[u64], len: u64, t: u64) -> bool
-    requires { ⌜ (io ≤ 128) × (t ≤ 128) × (length (now block) ≡ 256) ⌝ }
+    requires { ⌜ (io ≤ ioMost) × (t ≤ tablesMost) × (length (now block) ≡ wordsInBlock) ⌝ }
     ensures { λ r. ⌜ r ≡ entryFits io exact b (now (block .entry)) len t ⌝ }
 {
     let s = modification::length_spot(io, Reference(t));
@@ -105,7 +106,7 @@ fn entry_fits(io: u64, exact: bool, b: u64, block: &[u64], len: u64, t: u64) -> 
 
 // The termination block: the start must lie in the IBANK.
 pub fn termination_step(area: Area, ibank: Bank, block: &[u64]) -> Step
-    requires { ⌜ area .at .0 ≤ 65536 ⌝ }
+    requires { ⌜ area .at .0 ≤ coreMost ⌝ }
     ensures { λ r. ⌜ r ≡ terminationStep area ibank (now (block .entry)) ⌝ }
 {
     let start = program::read_start(block);

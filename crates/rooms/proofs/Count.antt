@@ -1,4 +1,4 @@
--- Counting in a list, the lowest free place, and the loops that find both. Assumes nothing.
+-- Counting in a list, the lowest free place, and the loops that find both.
 use Prim.Native.Nat.{ℕ, zero, suc, _+_, _≤_, _<_}
 use mathlib.Core.Path.{_≡_, refl, sym, _∙_}
 use mathlib.Core.List.{List, [], _∷_}

@@ -1,4 +1,4 @@
--- The pass that tests fairness: what each room holds so far, and how many places were a room's second. Assumes nothing.
+-- The pass that tests fairness: what each room holds so far, and how many places were a room's second.
 use Prim.Native.Nat.{ℕ, suc, _+_, _-_, _≤_, _<_}
 use mathlib.Core.Path.{_≡_, refl, sym, _∙_}
 use mathlib.Core.Bool.{false}

@@ -1,4 +1,4 @@
--- The places that are held, one by one: which comes next, and that those between are free. Assumes nothing.
+-- The places that are held, one by one: which comes next, and that those between are free.
 use Prim.Native.Nat.{ℕ, zero, suc, _+_, _-_, _≤_, _<_}
 use mathlib.Core.Path.{_≡_, sym, ap, _∙_}
 use mathlib.Core.List.{List, [], _∷_}

@@ -1,4 +1,4 @@
--- The one pass that makes all counts, and that these tell what each room holds and so H. Assumes nothing.
+-- The one pass that makes all counts, and that these tell what each room holds and so H.
 use Prim.Native.Nat.{ℕ, suc, _+_, _≤_, _<_}
 use mathlib.Core.Path.{_≡_, refl, sym, ap, _∙_}
 use mathlib.Core.List.{List, [], _∷_, map}

@@ -1,4 +1,4 @@
--- The holders stay fair whatever place is given or freed, and a room that holds none is never denied a place. Assumes nothing.
+-- The holders stay fair whatever place is given or freed, and a room that holds none is never denied a place.
 use Prim.Native.Nat.{ℕ, _+_, _-_, _≤_, _<_}
 use mathlib.Core.Path.{_≡_, refl, _∙_}
 use mathlib.Core.List.{List}

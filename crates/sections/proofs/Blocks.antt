@@ -1,6 +1,6 @@
 -- What a program block does, whatever it answers: the next stage's numbers are in their ranges, a refusal is from 17 to 21, the core keeps its
 -- length, no word outside the area changes, what is stored is a word, and neither the answer nor the area's words hang on the rest of the
--- core. Assumes nothing.
+-- core.
 use Prim.Native.Nat.{ℕ, zero, suc}
 use mathlib.Core.Path.{_≡_, refl, sym, ap, _∙_}
 use mathlib.Core.Bool.{true}

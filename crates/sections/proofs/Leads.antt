@@ -1,4 +1,4 @@
--- Where an item leads: onward in the block and to a stage whose numbers are in their ranges, or to a refusal from 17 to 21. Assumes nothing.
+-- Where an item leads: onward in the block and to a stage whose numbers are in their ranges, or to a refusal from 17 to 21.
 use Prim.Native.Nat.{ℕ, _+_, _-_, _≤_, _<_}
 use mathlib.Core.Path.{_≡_, refl}
 use mathlib.Core.Bool.{Bool, true}

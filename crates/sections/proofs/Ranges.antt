@@ -1,4 +1,4 @@
--- What the ranges of a stage's numbers say, and what has been seen to before a group is read. Assumes nothing.
+-- What the ranges of a stage's numbers say, and what has been seen to before a group is read.
 use Prim.Native.Nat.{ℕ, _+_, _≤_, _<_}
 use mathlib.Core.Path.{_≡_}
 use mathlib.Core.Bool.{Bool, true}

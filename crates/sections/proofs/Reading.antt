@@ -1,4 +1,4 @@
--- How the code reads the word where `due` is due is how the definitions read it. Assumes nothing.
+-- How the code reads the word where `due` is due is how the definitions read it.
 use Prim.Native.Nat.{ℕ, _+_, _≤_}
 use mathlib.Core.Path.{_≡_, refl}
 use mathlib.Core.List.{List}

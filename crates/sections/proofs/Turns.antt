@@ -1,5 +1,5 @@
 -- How the code goes through a program block: a group's answer, the core that an item leaves, and at every turn the items from place i on
--- decide. Assumes nothing.
+-- decide.
 use Prim.Native.Nat.{ℕ, zero, suc, _+_, _-_, _≤_, _<_}
 use mathlib.Core.Path.{_≡_, refl, sym, ap, _∙_}
 use mathlib.Core.Bool.{Bool, true, false, _||_}

@@ -16,7 +16,7 @@ use Rattle.program.specs.declared.SegmentRead.{SegmentRead}
 use Rattle.program.specs.declared.SegmentRead.the-variants.{Good as segment-read, Bad as no-segment}
 use Rattle.program.specs.declared.TableSectionRead.{TableSectionRead}
 use Rattle.program.specs.declared.TableSectionRead.the-variants.{Good as section-read, Bad as no-section}
-use Rattle.program.specs.Sections.{segmentOf, tableSectionOf}
+use Rattle.program.specs.Sections.{segmentOf, tableSectionOf, lastWord}
 use Rattle.lists.specs.declared.Table.{Table as CoreTable}
 use Rattle.stage.specs.declared.LabelCounts.{LabelCounts}
 use Rattle.stage.specs.declared.Due.the-variants.{SegmentGroup, SectionGroup}
@@ -52,7 +52,7 @@ withSegment area ts c p (no-segment f) = Stop (Refused f)
 -- "its identifier words stay in one block (else 17)": words up to 254
 unfoldable pub segmentStep : Area → List CoreTable → LabelCounts → List ℕ → ℕ → Item
 segmentStep area ts c block i =
-    cond (leb (i + 3) 254) (withSegment area ts c (i + 4) (segmentOf (getD block i 0) (getD block (i + 1) 0))) headFault
+    cond (leb (i + 3) lastWord) (withSegment area ts c (i + 4) (segmentOf (getD block i 0) (getD block (i + 1) 0))) headFault
 
 -- ---- a table section
 

@@ -2,6 +2,7 @@
 -- one place of the code.
 use Prim.Native.Nat.{ℕ, _+_, _<_}
 use mathlib.Core.List.{List}
+use Rattle.word.specs.Limits.{tablesMost}
 use Rattle.lists.specs.declared.Given.{Given}
 use Rattle.lists.specs.Load.{coreTable}
 use Rattle.group.specs.declared.Section.the-variants.{Segment as in-segment, Table as in-table}
@@ -23,4 +24,4 @@ abbrev pub Numbered : Due → Type 0
 Numbered Segment = Unit {0}
 Numbered (SegmentGroup g) = Unit {0}
 Numbered (Section least ibank) = Unit {0}
-Numbered (SectionGroup t ibank) = t .number .0 < 128
+Numbered (SectionGroup t ibank) = t .number .0 < tablesMost

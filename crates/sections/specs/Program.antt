@@ -6,6 +6,7 @@ use mathlib.Core.Bool.{Bool, cond, _||_}
 use mathlib.Core.List.{List}
 use lib.ListN.{getD}
 use lib.Dec.{eqb, leb}
+use Rattle.program.specs.Sections.{lastWord}
 use Rattle.program.specs.declared.Bank.{Bank}
 use Rattle.program.specs.declared.TableSection.{TableSection}
 use Rattle.lists.specs.Obey.{noTable}
@@ -85,7 +86,7 @@ pub record StepMeets (o : StepOutcome) (step : Step) (core : List ℕ) : Type 0 
 
 -- a zero word or the end at word 254 closes the block
 unfoldable pub closes : List ℕ → ℕ → Bool
-closes block i = leb 255 i || eqb (getD block i 0) 0
+closes block i = leb (lastWord + 1) i || eqb (getD block i 0) 0
 
 abbrev pub followed : Item → List ℕ → (LabelCounts → Due → ℕ → List ℕ → StepOutcome) → StepOutcome
 followed (Go c due p) core next = next c due p core
@@ -102,4 +103,4 @@ programFrom (suc n) x c due block i core =
 
 -- each item takes a word or more, so 254 are all there can be
 unfoldable pub programStep : Load → LabelCounts → Due → List ℕ → List ℕ → StepOutcome
-programStep x c due block core = programFrom 254 x c due block 1 core
+programStep x c due block core = programFrom lastWord x c due block 1 core

@@ -4,6 +4,7 @@ use mathlib.Core.Path.{_≡_}
 use mathlib.Core.Bool.{true}
 use mathlib.Core.List.{List}
 use lib.ListN.{length}
+use Rattle.word.specs.Limits.{coreMost, ioMost, tablesMost, wordsInBlock}
 use Rattle.word.specs.Lists.{every}
 use Rattle.word.specs.Word.{isWord}
 use Rattle.lists.specs.declared.Given.{Given}
@@ -21,12 +22,12 @@ assignments x c = record { area = x .area; tables = x .tables; ios = x .ios; cha
 -- what has been seen to before a block is read for a load that waits for s
 pub record Waits (x : Load) (s : Stage) (block core : List ℕ) : Type 0 where
   pub inside : x .area .at .0 + x .area .size ≤ length core
-  pub most : length core ≤ 65536
-  pub io : length (x .ios) ≤ 128
-  pub few : length (x .tables) ≤ 128
+  pub most : length core ≤ coreMost
+  pub io : length (x .ios) ≤ ioMost
+  pub few : length (x .tables) ≤ tablesMost
   pub tables : every (tableInside (x .area)) (x .tables) ≡ true
   pub stage : stageFits (x .area) (x .tables) (length (x .ios)) s ≡ true
-  pub long : length block ≡ 256
+  pub long : length block ≡ wordsInBlock
   pub words : every isWord block ≡ true
 
 -- the same of a load whose lists the desk keeps

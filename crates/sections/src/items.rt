@@ -1,6 +1,7 @@
 // A program block, item after item: what is due at a place says how the word there is read.
 ghost use mathlib.Core.Path.{_≡_};
 ghost use Prim.Native.Nat.{_+_, _≤_};
+ghost use Rattle.program.specs.Sections.{lastWord};
 ghost use Rattle.lists.specs.Load.{loadOf, Readable};
 ghost use Rattle.sections.specs.Waits.{KeptWaits};
 ghost use Rattle.sections.specs.HowItems.{Numbered, readingOf};
@@ -93,7 +94,7 @@ fn item_step(
     i: usize,
     core: &mut [u64],
 ) -> Item
-    requires { ⌜ (KeptWaits g (now lists) (Stage.Program c due) (now block) (now core)) × (i ≤ 254) ⌝ }
+    requires { ⌜ (KeptWaits g (now lists) (Stage.Program c due) (now block) (now core)) × (i ≤ lastWord) ⌝ }
     ensures { λ r. ⌜ ItemMeets (itemStep (loadOf g (now (lists .entry))) c due (now (block .entry)) i (now (core .entry))) r (now (core .exit)) ⌝ }
 {
     match reading_of(g, lists, due) {

@@ -1,4 +1,4 @@
--- A stage is nine numbers, and reading what was written gives the stage again. Assumes nothing.
+-- A stage is nine numbers, and reading what was written gives the stage again.
 use mathlib.Core.Path.{_≡_, refl}
 use mathlib.Core.Bool.{true, false}
 use lib.ListN.{length}

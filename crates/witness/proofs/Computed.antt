@@ -1,4 +1,4 @@
--- The demands are not empty: whole lives of loads on a desk of 3,653 numbers and a core of 4,096 words, by computing alone. Assumes nothing.
+-- Examples that show that the demands are not vacuous: whole histories of loads on a desk of 3,653 numbers and a core of 4,096 words, by computing alone.
 use Prim.Native.Nat.{ℕ}
 use mathlib.Core.Path.{_≡_, refl}
 use mathlib.Core.List.{List, [], _∷_, flatMap}
@@ -91,7 +91,7 @@ deck-demand =
     (told deckFeeds (call open0 (madeWith oneRoom))) (record { 0 = 512 }) [] refl refl refl refl refl in
     (k .0, k .1 .0)
 
--- ---- two rooms by turns: each area has its own image, and all else in the core is as it was
+-- ---- two rooms interleaved: each area has its own image, and all else in the core is as it was
 pub made-two : makeOf oldDesk (length oldCore) twoRooms .answer ≡ Made
 unfolding computed
 made-two = refl

@@ -1,1 +1,1 @@
-// The demands are not empty: whole lives of loads, computed from the definitions. No code.
+// Examples that show that the demands are not vacuous: whole histories of loads, computed from the definitions. No code.

@@ -1,4 +1,4 @@
--- Case distinctions on a test, and what a chain of tests says. Assumes nothing.
+-- Case distinctions on a test, and what a chain of tests says.
 use mathlib.Core.Path.{_≡_, refl, sym, _∙_}
 use mathlib.Core.Bool.{Bool, true, false, cond, not, _&&_, _||_, false≢true}
 use mathlib.Core.Logic.{_↔_}

@@ -1,5 +1,5 @@
 -- A test of every element of a list says a fact of each place, and a test of every two elements a fact of each two places,
--- whatever the list is of. Assumes nothing.
+-- whatever the list is of.
 use Prim.Native.Nat.{ℕ, zero, suc, _<_}
 use mathlib.Core.Path.{refl}
 use mathlib.Core.Bool.{Bool}

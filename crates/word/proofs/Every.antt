@@ -1,5 +1,4 @@
 -- A test of every element says the test of each place, and a test of every two that of each two places; and the other way round.
--- Assumes nothing.
 use Prim.Native.Nat.{ℕ, zero, suc, _<_}
 use mathlib.Core.Path.{_≡_, refl}
 use mathlib.Core.Bool.{Bool, true}

@@ -1,4 +1,4 @@
--- An array that a loop fills with f of 0, 1, 2 and so on. Assumes nothing.
+-- An array that a loop fills with f of 0, 1, 2 and so on.
 use Prim.Native.Nat.{ℕ, suc, _+_, _<_}
 use mathlib.Core.Path.{_≡_, refl, sym, ap, _∙_}
 use mathlib.Core.List.{List, _++_, append-nil}

@@ -1,4 +1,4 @@
--- Loops that test every element, and a stretch of a list that is read or written. Assumes nothing.
+-- Loops that test every element, and a stretch of a list that is read or written.
 use Prim.Native.Nat.{ℕ, zero, suc, _+_, _-_, min, _≤_, _<_}
 use mathlib.Core.Path.{_≡_, refl, sym, ap, _∙_}
 use mathlib.Core.Bool.{Bool, true, false}

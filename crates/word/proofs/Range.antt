@@ -1,5 +1,4 @@
 -- Numbers or'ed together are below 2^n just when each of them is: for a loop that looks at all of them and tests once at the end.
--- Assumes nothing.
 use Prim.Native.Nat.{ℕ, suc, _+_, _^_, _≤_, _<_}
 use mathlib.Core.Path.{_≡_, sym, _∙_}
 use mathlib.Core.Bool.{Bool, _&&_}

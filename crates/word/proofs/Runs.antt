@@ -1,4 +1,4 @@
--- Runs of words held against each other by differences, which cannot wrap, say the same as the definitions' sums. Assumes nothing.
+-- Runs of words compared with each other by differences, which cannot wrap, say the same as the definitions' sums.
 use Prim.Native.Nat.{ℕ, _+_, _-_, _≤_, _<_}
 use mathlib.Core.Path.{_≡_}
 use mathlib.Core.Bool.{true, false, or-false}

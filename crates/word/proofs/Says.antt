@@ -1,4 +1,4 @@
--- Tests that say facts, put together as the tests are. Assumes nothing.
+-- Tests that say facts, put together as the tests are.
 use mathlib.Core.Path.{_≡_, refl, sym, _∙_}
 use mathlib.Core.Bool.{Bool, true, false, not, _&&_, _||_, false≢true, true≢false}
 use Prim.Native.Nat.{ℕ, _+_, _≤_, _<_}

@@ -1,4 +1,4 @@
--- A stretch of a list written number by number: what stands in it, and what stands outside. Assumes nothing.
+-- A stretch of a list written number by number: what stands in it, and what stands outside.
 use mathlib.Core.Path.{_≡_, refl, sym, _∙_}
 use mathlib.Core.Bool.{Bool, true}
 use mathlib.Core.List.{List, [], _∷_, append-assoc}

@@ -1,5 +1,5 @@
 -- What is to be known of a field of a word, proved once over its lowest bit k and its width n, and so for either half and for
--- bits 25-22. Assumes nothing.
+-- bits 25-22.
 use mathlib.Core.Path.{_≡_, sym, ap, _∙_}
 use mathlib.Core.Logic.{_⊎_, ⊎-elim}
 use Prim.Native.Nat.{ℕ, _+_, _*_, _/_, _%_, _^_, _-_, _<_, _≤_}

@@ -1,4 +1,4 @@
--- The house's limits, each once: of rooms, places and words of core, and how many I/O references and core tables a load may have, in
+-- The house's limits, each once: of rooms, places, words of core and of a block, and how many I/O references and core tables a load has, in
 -- the label ("at most 128") and in the lists lent to open ("over 128 entries"). src/limits.rt has the same for the code.
 use Prim.Native.Nat.{ℕ, _*_}
 
@@ -22,3 +22,7 @@ ioMost = 128
 
 abbrev pub tablesMost : ℕ
 tablesMost = 128
+
+-- "block not 256 words" is refused with 11
+abbrev pub wordsInBlock : ℕ
+wordsInBlock = 256

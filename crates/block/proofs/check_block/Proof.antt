@@ -1,4 +1,4 @@
--- `block::check_block` meets its contract: each return by the tests that led to it. Assumes nothing.
+-- `block::check_block` meets its contract: each return by the tests that led to it.
 use Rattle.word.proofs.Tests.{tests}
 use Rattle.block.specs.Block.{verdict}
 use Rattle.block.proofs.Records.{place-small}

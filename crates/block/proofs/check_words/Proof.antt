@@ -1,4 +1,4 @@
--- `block::check_words` meets its contract: by the loop's invariant. Assumes nothing.
+-- `block::check_words` meets its contract: by the loop's invariant.
 use Prim.Native.Nat.{_≤_, _+_, _-_, _*_}
 use mathlib.Core.Path.{_≡_, refl, sym, _∙_}
 use mathlib.Core.Bool.{true, _&&_}
@@ -7,9 +7,10 @@ use lib.ListN.{drop}
 use denote.Ref.{now}
 use borrow.Author.Needs.{needs}
 use borrow.Author.Tests.{eq-eqb, ne-eqb, lt-ltb, le-ltb}
+use Rattle.word.specs.Limits.{wordsInBlock}
 use Rattle.word.specs.Word.{wordLimit, isWord}
 use Rattle.word.specs.Lists.{every}
-use Rattle.block.specs.Block.{wordsInBlock, sealVerdict}
+use Rattle.block.specs.Block.{sealVerdict}
 use Rattle.block.proofs.Checksum.{low, low-more, low-end, Taken, taken}
 use Rattle.word.proofs.Range.{any-more, any-end}
 use Rattle.block.proofs.check_words.Statement.{statement}

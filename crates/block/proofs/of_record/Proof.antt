@@ -1,4 +1,4 @@
--- `block::of_record` meets its contract: each return by the tests that led to it. Assumes nothing.
+-- `block::of_record` meets its contract: each return by the tests that led to it.
 use Rattle.block.specs.Fieldata.{spelt}
 use Rattle.block.specs.Records.{modification, program, termination}
 use borrow.Author.Needs.{needs}

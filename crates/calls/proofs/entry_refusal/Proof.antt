@@ -1,4 +1,4 @@
--- `calls::entry_refusal` meets its contract: its tests are those of `entryRefusal`, in that order. Assumes nothing.
+-- `calls::entry_refusal` meets its contract: its tests are those of `entryRefusal`, in that order.
 use mathlib.Core.Path.{sym, _∙_}
 use native.Mathlib.Omega.{arith}
 use borrow.Author.Tests.{not-true, not-false, eq-eqb, ne-eqb, lt-ltb, le-ltb}

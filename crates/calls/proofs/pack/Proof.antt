@@ -1,4 +1,4 @@
--- `calls::pack` meets its contract: each return by the tests that led to it. Assumes nothing.
+-- `calls::pack` meets its contract: each return by the tests that led to it.
 use native.Mathlib.Omega.{arith}
 use borrow.Author.Needs.{needs}
 use Rattle.calls.proofs.pack.Statement.{statement}

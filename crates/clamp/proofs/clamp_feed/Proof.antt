@@ -1,4 +1,4 @@
--- `clamp::clamp_feed` meets its contract: each return by the tests that led to it. Assumes nothing.
+-- `clamp::clamp_feed` meets its contract: each return by the tests that led to it.
 use mathlib.Core.Path.{ap, _∙_}
 use Rattle.calls.specs.Answer.{packed}
 use Rattle.feed.proofs.Fed.{feed-small}

@@ -1,4 +1,4 @@
--- `clamp::clamp_open` meets its contract: each return by the tests that led to it. Assumes nothing.
+-- `clamp::clamp_open` meets its contract: each return by the tests that led to it.
 use mathlib.Core.Path.{ap, _∙_}
 use denote.Ref.{now}
 use Rattle.calls.specs.Answer.{packed}

@@ -1,4 +1,4 @@
--- `clamp::clamp_release` meets its contract: each return by the tests that led to it. Assumes nothing.
+-- `clamp::clamp_release` meets its contract: each return by the tests that led to it.
 use denote.Ref.{now}
 use mathlib.Core.Path.{ap, _∙_}
 use Rattle.calls.specs.Answer.{packed}

@@ -1,4 +1,4 @@
--- `desk::apart_from_held` meets its contract: each return by the tests that led to it. Assumes nothing.
+-- `desk::apart_from_held` meets its contract: each return by the tests that led to it.
 use borrow.Author.Tests.{eq-eqb, ne-eqb}
 use Rattle.layout.specs.Layout.{ownOf}
 use Rattle.desk.specs.Sound.{areasApart}

@@ -1,4 +1,4 @@
--- `desk::apart_from_last` meets its contract: each return by the test that led to it. Assumes nothing.
+-- `desk::apart_from_last` meets its contract: each return by the test that led to it.
 use Prim.Native.Nat.{_-_, _<_}
 use native.Mathlib.Omega.{arith}
 use denote.Ref.{now}

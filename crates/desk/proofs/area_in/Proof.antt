@@ -1,4 +1,4 @@
--- `desk::area_in` meets its contract: each return by the tests that led to it. Assumes nothing.
+-- `desk::area_in` meets its contract: each return by the tests that led to it.
 use borrow.Author.Tests.{le-leb, lt-leb}
 use Rattle.desk.specs.Sound.{areaIn}
 use borrow.Author.Needs.{needs}

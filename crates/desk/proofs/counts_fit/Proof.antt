@@ -1,4 +1,4 @@
--- `desk::counts_fit` meets its contract: each return by the tests that led to it. Assumes nothing.
+-- `desk::counts_fit` meets its contract: each return by the tests that led to it.
 use Rattle.word.proofs.Tests.{tests}
 use Rattle.desk.specs.Sound.{countsFit}
 use Rattle.desk.proofs.counts_fit.Statement.{statement}

@@ -1,4 +1,4 @@
--- `desk::held_fits` meets its contract: each return by the tests that led to it. Assumes nothing.
+-- `desk::held_fits` meets its contract: each return by the tests that led to it.
 use Rattle.desk.proofs.Tested.{lists-readable, area-small}
 use mathlib.Core.Path.{sym, _∙_}
 use borrow.Author.Tests.{not-true, not-false}

@@ -1,4 +1,4 @@
--- `desk::holders_fit` meets its contract: the holders' test first, then the pass over the places that are held. Assumes nothing.
+-- `desk::holders_fit` meets its contract: the holders' test first, then the pass over the places that are held.
 use mathlib.Core.Path.{_≡_, sym, ap, _∙_}
 use native.Mathlib.Omega.{arith}
 use borrow.Author.Tests.{not-true, not-false}

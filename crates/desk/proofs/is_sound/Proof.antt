@@ -1,4 +1,4 @@
--- `desk::is_sound` meets its contract: each return by the tests that led to it. Assumes nothing.
+-- `desk::is_sound` meets its contract: each return by the tests that led to it.
 use mathlib.Core.Path.{sym, _∙_, _≡_}
 use borrow.Author.Tests.{eq-eqb, ne-eqb, le-leb, lt-leb, not-true, not-false}
 use denote.Ref.{now}

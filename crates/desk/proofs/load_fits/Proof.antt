@@ -1,4 +1,4 @@
--- `desk::load_fits` meets its contract: each return by the tests that led to it. Assumes nothing.
+-- `desk::load_fits` meets its contract: each return by the tests that led to it.
 use Rattle.desk.proofs.Tested.{load-is}
 use mathlib.Core.Path.{sym, _∙_}
 use borrow.Author.Tests.{not-true, not-false}

@@ -1,4 +1,4 @@
--- `desk::places_fit` meets its contract: at every turn the places before the next one are looked at. Assumes nothing.
+-- `desk::places_fit` meets its contract: at every turn the places before the next one are looked at.
 use Prim.Native.Nat.{_≤_, _<_, _-_, _+_, ℕ}
 use mathlib.Core.Path.{_≡_, refl, sym, ap, _∙_}
 use mathlib.Core.List.{List}

@@ -1,4 +1,4 @@
--- `feed::due_step`: by what is due. Assumes nothing.
+-- `feed::due_step`: by what is due.
 use Rattle.feed.proofs.Waiting.{entry-block-small, label-met, entry-met}
 use mathlib.Core.Path.{refl}
 use Rattle.feed.specs.Block.{dueStep}

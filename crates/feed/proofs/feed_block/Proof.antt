@@ -1,4 +1,4 @@
--- `feed::feed_block` meets its contract: refusals 1, 2 and 4, refusal 9, or what `feed_held` leaves. Assumes nothing.
+-- `feed::feed_block` meets its contract: refusals 1, 2 and 4, refusal 9, or what `feed_held` leaves.
 use mathlib.Core.Path.{refl, sym, _∙_}
 use native.Mathlib.Omega.{arith}
 use borrow.Author.Tests.{not-true, not-false}

@@ -1,4 +1,4 @@
--- `feed::feed_held`: the stage is the place's; each return by the tests that led to it. Assumes nothing.
+-- `feed::feed_held`: the stage is the place's; each return by the tests that led to it.
 use mathlib.Core.Path.{refl, sym, _∙_}
 use native.Mathlib.Omega.{arith}
 use Rattle.desk.proofs.Facts.{sound-long}

@@ -1,4 +1,4 @@
--- `feed::load_step`: each return by the test that led to it. Assumes nothing.
+-- `feed::load_step`: each return by the test that led to it.
 use mathlib.Core.Path.{refl, sym, _∙_}
 use borrow.Author.Tests.{not-true, not-false}
 use Rattle.feed.specs.Block.{blockStep}

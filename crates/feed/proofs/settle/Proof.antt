@@ -1,4 +1,4 @@
--- `feed::settle` meets its contract: each return by the tests that led to it. Assumes nothing.
+-- `feed::settle` meets its contract: each return by the tests that led to it.
 use Rattle.feed.specs.Feed.{settledOf}
 use mathlib.Core.Path.{refl}
 use borrow.Author.Needs.{needs}

@@ -1,4 +1,4 @@
--- `feed::take_block`: what the step told and left is settled. Assumes nothing.
+-- `feed::take_block`: what the step told and left is settled.
 use native.Mathlib.Omega.{arith}
 use Rattle.layout.proofs.Places.{place-length}
 use Rattle.feed.specs.Feed.{loadIn}

@@ -1,4 +1,4 @@
--- `feed::write_stage` meets its contract: each return by the tests that led to it. Assumes nothing.
+-- `feed::write_stage` meets its contract: each return by the tests that led to it.
 use Rattle.feed.specs.Feed.{staged}
 use borrow.Author.Needs.{needs}
 use Rattle.feed.proofs.write_stage.Statement.{statement}

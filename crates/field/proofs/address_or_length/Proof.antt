@@ -1,4 +1,4 @@
--- `field::address_or_length` meets its contract: either way out by the law of a kept table. Assumes nothing.
+-- `field::address_or_length` meets its contract: either way out by the law of a kept table.
 use Rattle.field.proofs.Field.{address-or-length-kept}
 use mathlib.Core.Bool.{true, false}
 use native.Mathlib.Omega.{arith}

@@ -1,4 +1,4 @@
--- `field::long_of` meets its contract: each way out by the tests on its way. Assumes nothing.
+-- `field::long_of` meets its contract: each way out by the tests on its way.
 use mathlib.Core.Path.{sym, _∙_}
 use borrow.Author.Tests.{lt-ltb, le-ltb}
 use Rattle.word.proofs.Tests.{tests}

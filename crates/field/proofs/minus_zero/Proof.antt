@@ -1,4 +1,4 @@
--- `field::minus_zero` meets its contract: either way out by its test. Assumes nothing.
+-- `field::minus_zero` meets its contract: either way out by its test.
 use Rattle.field.specs.Field.{minusZero}
 use Rattle.word.proofs.Tests.{tests}
 use Rattle.field.proofs.minus_zero.Statement.{statement}

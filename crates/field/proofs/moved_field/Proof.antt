@@ -1,4 +1,4 @@
--- `field::moved_field` meets its contract: what `valued_of` gives for the address that `placed` gives. Assumes nothing.
+-- `field::moved_field` meets its contract: what `valued_of` gives for the address that `placed` gives.
 use Rattle.field.specs.Field.{movedField}
 use borrow.Author.Needs.{needs}
 use Rattle.field.proofs.moved_field.Statement.{statement}

@@ -1,4 +1,4 @@
--- `field::pair_of` meets its contract: each way out by the tests on its way; there are as many tables as the counts say. Assumes nothing.
+-- `field::pair_of` meets its contract: each way out by the tests on its way; there are as many tables as the counts say.
 use mathlib.Core.Path.{sym, _∙_}
 use borrow.Author.Tests.{lt-ltb, le-ltb}
 use Rattle.word.proofs.Tests.{tests}

@@ -1,4 +1,4 @@
--- `field::plus_or_minus` meets its contract: each way out by the tests on its way. Assumes nothing.
+-- `field::plus_or_minus` meets its contract: each way out by the tests on its way.
 use Rattle.field.specs.Field.{plusOrMinus}
 use Rattle.word.proofs.Tests.{tests}
 use borrow.Author.Needs.{needs}

@@ -1,4 +1,4 @@
--- `field::put_a` meets its contract: each arm by what it holds. Assumes nothing.
+-- `field::put_a` meets its contract: each arm by what it holds.
 use Rattle.field.specs.Field.{putBack}
 use mathlib.Core.Path.{ap}
 use Rattle.field.specs.declared.Changed.the-variants.{Word}

@@ -1,4 +1,4 @@
--- `field::refer` meets its contract: each way out by the test on its way; there is a table for each word of the ranks. Assumes nothing.
+-- `field::refer` meets its contract: each way out by the test on its way; there is a table for each word of the ranks.
 use Rattle.field.specs.Field.{referred}
 use Rattle.word.proofs.Tests.{tests}
 use Rattle.lists.proofs.Reading.{core-length}

@@ -1,4 +1,4 @@
--- `field::right_step` meets its contract: each arm of the match by what its calls give (Field's arms), and what they give fits. Assumes nothing.
+-- `field::right_step` meets its contract: each arm of the match by what its calls give (Field's arms), and what they give fits.
 use Rattle.word.specs.declared.Half.the-variants.{Right}
 use Rattle.field.specs.Field.{assignedBy}
 use Rattle.field.proofs.Field.{moved-fits, pair-fits, long-fits, short-fits, unit-fits, moved-arm, pair-arm, long-arm, short-arm, unit-arm, right-rest}

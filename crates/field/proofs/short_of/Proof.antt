@@ -1,4 +1,4 @@
--- `field::short_of` meets its contract: each way out by what `minus_zero` gives of the bits read. Assumes nothing.
+-- `field::short_of` meets its contract: each way out by what `minus_zero` gives of the bits read.
 use mathlib.Core.Path.{sym, _∙_}
 use Rattle.word.proofs.Tests.{tests}
 use Rattle.field.specs.Field.{short}

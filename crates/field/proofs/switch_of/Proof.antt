@@ -1,4 +1,4 @@
--- `field::switch_of` meets its contract: each way out by the test on its way. Assumes nothing.
+-- `field::switch_of` meets its contract: each way out by the test on its way.
 use borrow.Author.Tests.{lt-leb}
 use Rattle.word.proofs.Tests.{tests}
 use Rattle.field.specs.Field.{switch}

@@ -1,4 +1,4 @@
--- `field::unit_of` meets its contract: each way out by the tests on its way. Assumes nothing.
+-- `field::unit_of` meets its contract: each way out by the tests on its way.
 use Rattle.field.specs.Field.{unit}
 use Rattle.word.proofs.Tests.{tests}
 use Rattle.lists.proofs.Reading.{io-length}

@@ -1,4 +1,4 @@
--- `field::valued_of` meets its contract: each way out by its test. Assumes nothing.
+-- `field::valued_of` meets its contract: each way out by its test.
 use Rattle.field.specs.Field.{valued}
 use Rattle.word.proofs.Tests.{tests}
 use Rattle.field.proofs.valued_of.Statement.{statement}

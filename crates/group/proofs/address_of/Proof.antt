@@ -1,4 +1,4 @@
--- `address_of`: by section, from what the two conversions ensure. Assumes nothing.
+-- `address_of`: by section, from what the two conversions ensure.
 use native.Mathlib.Omega.{arith}
 use Rattle.group.specs.Group.{addressOf}
 use borrow.Author.Needs.{needs}

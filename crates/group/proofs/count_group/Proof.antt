@@ -1,4 +1,4 @@
--- `count_group`: from what its callees ensure; the count says which answer stands. Assumes nothing.
+-- `count_group`: from what its callees ensure; the count says which answer stands.
 use native.Mathlib.Omega.{arith}
 use Rattle.group.proofs.Steps.{lent-ready, bits-most, counted-done, counted-wrong, counted-stop, counted-short}
 use borrow.Author.Needs.{needs}

@@ -1,4 +1,4 @@
--- `fill_group`: the tests of the code are those of the definition. Assumes nothing.
+-- `fill_group`: the tests of the code are those of the definition.
 use borrow.Author.Tests.{lt-leb, le-leb}
 use Rattle.group.specs.HowGroup.{fillOf}
 use borrow.Author.Needs.{needs}

@@ -1,4 +1,4 @@
--- `group_step`: from what its callees ensure. Assumes nothing.
+-- `group_step`: from what its callees ensure.
 use mathlib.Core.Path.{refl, sym, _∙_}
 use Rattle.group.specs.Group.{readOutcome, groupStep}
 use Rattle.group.proofs.Places.{group-sized}

@@ -1,4 +1,4 @@
--- `just_enough`: the tests of the code are those of the definition. Assumes nothing.
+-- `just_enough`: the tests of the code are those of the definition.
 use borrow.Author.Tests.{le-leb, lt-leb}
 use borrow.Author.Needs.{needs}
 use Rattle.group.proofs.just_enough.Statement.{statement}

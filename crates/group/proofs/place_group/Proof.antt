@@ -1,4 +1,4 @@
--- `place_group`: words that lie where they must lie in the core; filled there they are the outcome. Assumes nothing.
+-- `place_group`: words that lie where they must lie in the core; filled there they are the outcome.
 use mathlib.Core.Path.{sym, ap, _∙_}
 use native.Mathlib.Omega.{arith}
 use Rattle.word.specs.declared.Absolute.{Absolute}

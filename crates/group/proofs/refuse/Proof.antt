@@ -1,4 +1,4 @@
--- `refuse`: zeros in all of the words. Assumes nothing.
+-- `refuse`: zeros in all of the words.
 use mathlib.Core.Path.{refl, _∙_}
 use denote.Ref.{now}
 use Rattle.group.proofs.Steps.{cleared-whole}

@@ -1,4 +1,4 @@
--- `words_lie`: by section and bit 16. Assumes nothing.
+-- `words_lie`: by section and bit 16.
 use Rattle.group.specs.Group.{wordsLie}
 use borrow.Author.Needs.{needs}
 use Rattle.group.proofs.words_lie.Statement.{statement}

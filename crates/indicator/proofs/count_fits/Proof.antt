@@ -1,5 +1,5 @@
 -- `count_fits`: the cursor sees the group's bits, and the indicators of the words that are left, read from its place, end where
--- those of all words end. Assumes nothing.
+-- those of all words end.
 use Prim.Native.Nat.{_≤_, _-_, _*_, _+_}
 use mathlib.Core.Path.{_≡_, _∙_, sym, refl}
 use native.Mathlib.Omega.{arith}

@@ -1,4 +1,4 @@
--- `edge_of`: the test of the code is that of the definition. Assumes nothing.
+-- `edge_of`: the test of the code is that of the definition.
 use native.Mathlib.Omega.{arith}
 use borrow.Author.Tests.{lt-leb}
 use Rattle.word.proofs.Tests.{tests}

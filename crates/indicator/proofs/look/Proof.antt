@@ -1,4 +1,4 @@
--- `look`: the tests of the code are those of the definition, of the bits read. Assumes nothing.
+-- `look`: the tests of the code are those of the definition, of the bits read.
 use mathlib.Core.Path.{sym, _∙_}
 use Rattle.word.proofs.Tests.{tests}
 use Rattle.indicator.specs.HowCursor.{lookOf}

@@ -1,4 +1,4 @@
--- `move_on`: from what its callees ensure. Assumes nothing.
+-- `move_on`: from what its callees ensure.
 use mathlib.Core.Path.{sym}
 use native.Mathlib.Omega.{arith}
 use Prim.Native.Nat.{_-_}

@@ -1,4 +1,4 @@
--- `pass`: from what `width` ensures; no indicator is over 13 bits. Assumes nothing.
+-- `pass`: from what `width` ensures; no indicator is over 13 bits.
 use native.Mathlib.Omega.{arith}
 use Rattle.indicator.proofs.Places.{width-most}
 use Rattle.indicator.specs.HowCursor.{pastOf}

@@ -1,4 +1,4 @@
--- `pass_field`: from what its callees ensure. Assumes nothing.
+-- `pass_field`: from what its callees ensure.
 use Rattle.indicator.specs.HowCursor.{pastField}
 use borrow.Author.Needs.{needs}
 use Rattle.indicator.proofs.pass_field.Statement.{statement}

@@ -1,4 +1,4 @@
--- `pass_word`: from what its callees ensure. Assumes nothing.
+-- `pass_word`: from what its callees ensure.
 use native.Mathlib.Omega.{arith}
 use Rattle.indicator.specs.HowCursor.{pastWord}
 use Rattle.indicator.proofs.Reading.{past-at-most}

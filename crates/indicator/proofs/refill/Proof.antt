@@ -1,4 +1,4 @@
--- `refill`: the test of the code is that of the definition; the sum fits since it is a number of 64 bits. Assumes nothing.
+-- `refill`: the test of the code is that of the definition; the sum fits since it is a number of 64 bits.
 use native.Mathlib.Omega.{arith}
 use Prim.Native.Nat.{_+_}
 use denote.Ref.{now}

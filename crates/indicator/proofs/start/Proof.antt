@@ -1,4 +1,4 @@
--- `start`: from what `edge_of` ensures. Assumes nothing.
+-- `start`: from what `edge_of` ensures.
 use borrow.Author.Needs.{needs}
 use Rattle.indicator.proofs.start.Statement.{statement}
 use Rattle.indicator.proofs.start.Tie as tie

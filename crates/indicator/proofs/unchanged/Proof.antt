@@ -1,4 +1,4 @@
--- `unchanged`: the tests of the code are those of the definition. Assumes nothing.
+-- `unchanged`: the tests of the code are those of the definition.
 use Rattle.word.proofs.Tests.{tests}
 use Rattle.indicator.specs.HowCursor.{plainWords}
 use borrow.Author.Needs.{needs}

@@ -1,4 +1,4 @@
--- `label::count_entries` meets its contract: the entries of each type, of the tables that word 3 counts. Assumes nothing.
+-- `label::count_entries` meets its contract: the entries of each type, of the tables that word 3 counts.
 use Rattle.label.specs.Tables.{tableWords, countsOf}
 use Rattle.label.proofs.Tables.{few}
 use borrow.Author.Needs.{needs}

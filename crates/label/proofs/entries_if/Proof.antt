@@ -1,4 +1,4 @@
--- `label::entries_if` meets its contract: each return by the tests that led to it, which speak of the bits read. Assumes nothing.
+-- `label::entries_if` meets its contract: each return by the tests that led to it, which speak of the bits read.
 use Rattle.word.proofs.Tests.{tests}
 use borrow.Author.Needs.{needs}
 use Rattle.label.proofs.entries_if.Statement.{statement}

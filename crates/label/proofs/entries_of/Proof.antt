@@ -1,5 +1,4 @@
 -- `label::entries_of` meets its contract: at every turn the sum, and the entries of the tables left, are those of them all.
--- Assumes nothing.
 use Prim.Native.Nat.{_≤_, _+_, _-_, _*_}
 use mathlib.Core.Path.{_≡_}
 use native.Mathlib.Omega.{arith}

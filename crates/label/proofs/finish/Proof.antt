@@ -1,4 +1,4 @@
--- `label::finish` meets its contract: each return by the tests that led to it, which speak of the bits read. Assumes nothing.
+-- `label::finish` meets its contract: each return by the tests that led to it, which speak of the bits read.
 use mathlib.Core.Path.{sym, _∙_}
 use borrow.Author.Tests.{eq-eqb, not-true, not-false}
 use Rattle.word.proofs.Tests.{tests}

@@ -1,4 +1,4 @@
--- `label::is_carried` meets its contract: each return by the tests that led to it. Assumes nothing.
+-- `label::is_carried` meets its contract: each return by the tests that led to it.
 use Rattle.word.proofs.Tests.{tests}
 use Rattle.label.specs.Tables.{isCarried}
 use Rattle.label.proofs.is_carried.Statement.{statement}

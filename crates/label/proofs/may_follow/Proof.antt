@@ -1,4 +1,4 @@
--- `label::may_follow` meets its contract: each return by the tests that led to it, which speak of the bits read. Assumes nothing.
+-- `label::may_follow` meets its contract: each return by the tests that led to it, which speak of the bits read.
 use Rattle.word.proofs.Tests.{tests}
 use Rattle.label.specs.HowTables.{mayFollow}
 use borrow.Author.Needs.{needs}

@@ -1,4 +1,4 @@
--- `label::program_word_fits` meets its contract: each return by the tests that led to it, of the bits read. Assumes nothing.
+-- `label::program_word_fits` meets its contract: each return by the tests that led to it, of the bits read.
 use Rattle.word.proofs.Tests.{tests}
 use Rattle.label.specs.Label.{programWordFits}
 use borrow.Author.Needs.{needs}

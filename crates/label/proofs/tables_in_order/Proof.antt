@@ -1,5 +1,4 @@
 -- `label::tables_in_order` meets its contract: at every turn the tables left decide, from the type after the last one on.
--- Assumes nothing.
 use Prim.Native.Nat.{_≤_, _-_}
 use mathlib.Core.Path.{_≡_, sym, _∙_}
 use native.Mathlib.Omega.{arith}

@@ -1,4 +1,4 @@
--- `label::within_limits` meets its contract: each return by the tests that led to it. Assumes nothing.
+-- `label::within_limits` meets its contract: each return by the tests that led to it.
 use Rattle.word.proofs.Tests.{tests}
 use Rattle.label.specs.Tables.{withinLimits}
 use borrow.Author.Needs.{needs}

@@ -1,4 +1,4 @@
--- `layout::holds_place` meets its contract: its tests are those of `holds`. Assumes nothing.
+-- `layout::holds_place` meets its contract: its tests are those of `holds`.
 use Rattle.word.proofs.Tests.{tests}
 use Rattle.layout.specs.Layout.{holds}
 use borrow.Author.Needs.{needs}

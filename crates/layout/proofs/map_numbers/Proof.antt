@@ -1,4 +1,4 @@
--- `layout::map_numbers` meets its contract: each return by the tests that led to it. Assumes nothing.
+-- `layout::map_numbers` meets its contract: each return by the tests that led to it.
 use Rattle.word.proofs.Lists.{range-lent}
 use denote.Ref.{now}
 use Rattle.layout.specs.Layout.{mapNumbers}

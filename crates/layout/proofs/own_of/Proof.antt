@@ -1,4 +1,4 @@
--- `layout::own_of` meets its contract: each return by the tests that led to it. Assumes nothing.
+-- `layout::own_of` meets its contract: each return by the tests that led to it.
 use mathlib.Core.Path.{refl}
 use Rattle.layout.specs.Layout.{ownOf}
 use borrow.Author.Needs.{needs}

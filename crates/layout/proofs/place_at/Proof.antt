@@ -1,4 +1,4 @@
--- `layout::place_at` meets its contract: each return by the tests that led to it. Assumes nothing.
+-- `layout::place_at` meets its contract: each return by the tests that led to it.
 use Rattle.word.proofs.Lists.{range-lent}
 use denote.Ref.{now}
 use Prim.Native.Nat.{_+_, _*_}

@@ -1,4 +1,4 @@
--- `layout::read_holders` meets its contract: after p turns the first p holders are those of the desk. Assumes nothing.
+-- `layout::read_holders` meets its contract: after p turns the first p holders are those of the desk.
 use Prim.Native.Nat.{_≤_, _-_}
 use mathlib.Core.Path.{_≡_, refl}
 use native.Mathlib.Omega.{arith}

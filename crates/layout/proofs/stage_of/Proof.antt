@@ -1,4 +1,4 @@
--- `layout::stage_of` meets its contract: each return by the tests that led to it. Assumes nothing.
+-- `layout::stage_of` meets its contract: each return by the tests that led to it.
 use mathlib.Core.Path.{ap, _∙_}
 use Rattle.word.proofs.Lists.{range-lent}
 use denote.Ref.{now}

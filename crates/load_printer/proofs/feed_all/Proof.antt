@@ -1,4 +1,4 @@
--- `load_printer::feed_all` is safe and ends: the indices that are left grow fewer. Assumes nothing.
+-- `load_printer::feed_all` is safe and ends: the indices that are left grow fewer.
 use Prim.Native.Nat.{_-_, _^_}
 use mathlib.Core.Path.{_≡_, refl}
 use native.Mathlib.Omega.{arith}

@@ -1,4 +1,4 @@
--- `map::all_apart` meets its contract: the stretches not yet looked at decide. Assumes nothing.
+-- `map::all_apart` meets its contract: the stretches not yet looked at decide.
 use Prim.Native.Nat.{_≤_, _-_}
 use mathlib.Core.Path.{_≡_, refl, sym, _∙_}
 use native.Mathlib.Omega.{arith}

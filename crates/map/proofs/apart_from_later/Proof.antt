@@ -1,4 +1,4 @@
--- `map::apart_from_later` meets its contract: the later stretches not yet looked at decide. Assumes nothing.
+-- `map::apart_from_later` meets its contract: the later stretches not yet looked at decide.
 use Prim.Native.Nat.{_+_, _≤_, _<_, _-_}
 use mathlib.Core.Path.{_≡_, refl, sym, _∙_}
 use native.Mathlib.Omega.{arith}

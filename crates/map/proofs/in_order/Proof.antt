@@ -1,4 +1,4 @@
--- `map::in_order` meets its contract: what is left of the core and the stretches not yet looked at decide. Assumes nothing.
+-- `map::in_order` meets its contract: what is left of the core and the stretches not yet looked at decide.
 use Prim.Native.Nat.{_≤_, _-_}
 use mathlib.Core.Path.{_≡_}
 use native.Mathlib.Omega.{arith}

@@ -1,4 +1,4 @@
--- `map::map_fits` meets its contract: stretches in order obey, and all others are held against each other. Assumes nothing.
+-- `map::map_fits` meets its contract: stretches in order obey, and all others are compared with each other.
 use mathlib.Core.Path.{sym, _∙_}
 use borrow.Author.Needs.{needs}
 use Rattle.map.proofs.Order.{order-obeys}

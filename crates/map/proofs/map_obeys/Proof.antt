@@ -1,4 +1,4 @@
--- `map::map_obeys` meets its contract, by what its two callees ensure. Assumes nothing.
+-- `map::map_obeys` meets its contract, by what its two callees ensure.
 use mathlib.Core.Path.{sym, _∙_}
 use Rattle.map.specs.Map.{mapObeys}
 use borrow.Author.Needs.{needs}

@@ -1,4 +1,4 @@
--- `map::pairs_fit` meets its contract, by what its callees ensure. Assumes nothing.
+-- `map::pairs_fit` meets its contract, by what its callees ensure.
 use borrow.Author.Needs.{needs}
 use Rattle.map.proofs.pairs_fit.Statement.{statement}
 use Rattle.map.proofs.pairs_fit.Tie as tie

@@ -1,4 +1,4 @@
--- `map::read_map` meets its contract: after r turns the first r stretches are those that the list tells. Assumes nothing.
+-- `map::read_map` meets its contract: after r turns the first r stretches are those that the list tells.
 use Prim.Native.Nat.{_≤_, _-_}
 use mathlib.Core.Path.{_≡_, refl}
 use native.Mathlib.Omega.{arith}

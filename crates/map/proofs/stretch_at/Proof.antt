@@ -1,4 +1,4 @@
--- `map::stretch_at` meets its contract: the two numbers are read where they stand. Assumes nothing.
+-- `map::stretch_at` meets its contract: the two numbers are read where they stand.
 use mathlib.Core.Path.{refl}
 use Rattle.map.specs.Map.{stretchOf}
 use borrow.Author.Needs.{needs}

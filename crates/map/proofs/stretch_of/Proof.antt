@@ -1,4 +1,4 @@
--- `map::stretch_of` meets its contract: the two numbers are what `word_at` gives. Assumes nothing.
+-- `map::stretch_of` meets its contract: the two numbers are what `word_at` gives.
 use Rattle.map.specs.Map.{stretchOf}
 use borrow.Author.Needs.{needs}
 use Rattle.map.proofs.stretch_of.Statement.{statement}

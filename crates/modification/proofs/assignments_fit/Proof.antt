@@ -1,4 +1,4 @@
--- `modification::assignments_fit` meets its contract: each return by the tests that led to it. Assumes nothing.
+-- `modification::assignments_fit` meets its contract: each return by the tests that led to it.
 use native.Mathlib.Omega.{arith}
 use denote.Ref.{now}
 use lib.ListN.{take, length-take}

@@ -1,4 +1,4 @@
--- `modification::length_fits` meets its contract: each return by the tests that led to it. Assumes nothing.
+-- `modification::length_fits` meets its contract: each return by the tests that led to it.
 use Rattle.modification.proofs.length_fits.Statement.{statement}
 use Rattle.modification.proofs.length_fits.Tie as tie
 

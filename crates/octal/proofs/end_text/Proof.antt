@@ -1,4 +1,4 @@
--- `octal::end_text` meets its contract: each return by the tests that led to it. Assumes nothing.
+-- `octal::end_text` meets its contract: each return by the tests that led to it.
 use mathlib.Core.Path.{refl}
 use Rattle.word.proofs.Tests.{tests}
 use Rattle.octal.specs.Lines.{isWhole, ended}

@@ -1,4 +1,4 @@
--- `octal::read_line` meets its contract: by the loop's invariant. Assumes nothing.
+-- `octal::read_line` meets its contract: by the loop's invariant.
 use Prim.Native.Nat.{_≤_, _<_, _+_, _-_, _^_}
 use mathlib.Core.Path.{_≡_, sym, _∙_}
 use native.Mathlib.Omega.{arith}

@@ -1,4 +1,4 @@
--- `octal::read_lines` meets its contract: by the loop's invariant. Assumes nothing.
+-- `octal::read_lines` meets its contract: by the loop's invariant.
 use Prim.Native.Nat.{_≤_, _-_}
 use mathlib.Core.Path.{_≡_, ap, _∙_}
 use native.Mathlib.Omega.{arith}

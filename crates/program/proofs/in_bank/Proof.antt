@@ -1,4 +1,4 @@
--- `program::in_bank` meets its contract: each return by the tests that led to it. Assumes nothing.
+-- `program::in_bank` meets its contract: each return by the tests that led to it.
 use Prim.Native.Nat.{_+_, _-_}
 use native.Mathlib.Omega.{arith}
 use borrow.Author.Tests.{le-ltb}

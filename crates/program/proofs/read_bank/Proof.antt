@@ -1,4 +1,4 @@
--- `program::read_bank` meets its contract: each return by the tests that led to it, which speak of the bits read. Assumes nothing.
+-- `program::read_bank` meets its contract: each return by the tests that led to it, which speak of the bits read.
 use Rattle.word.proofs.Tests.{tests}
 use borrow.Author.Needs.{needs}
 use Rattle.program.specs.Sections.{bankOf}

@@ -1,4 +1,4 @@
--- `program::read_segment` meets its contract: each return by the tests that led to it. Assumes nothing.
+-- `program::read_segment` meets its contract: each return by the tests that led to it.
 use mathlib.Core.Path.{sym, _∙_}
 use borrow.Author.Tests.{eq-eqb, ne-eqb}
 use Rattle.program.specs.Sections.{segmentOf}

@@ -1,4 +1,4 @@
--- `program::read_start` meets its contract: the bits read, of the word read. Assumes nothing.
+-- `program::read_start` meets its contract: the bits read, of the word read.
 use borrow.Author.Needs.{needs}
 use Rattle.program.proofs.read_start.Statement.{statement}
 use Rattle.program.proofs.read_start.Tie as tie

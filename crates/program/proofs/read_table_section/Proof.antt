@@ -1,4 +1,4 @@
--- `program::read_table_section` meets its contract: each return by the tests that led to it, of the bits read. Assumes nothing.
+-- `program::read_table_section` meets its contract: each return by the tests that led to it, of the bits read.
 use Rattle.word.proofs.Tests.{tests}
 use Rattle.program.specs.Sections.{tableSectionOf}
 use borrow.Author.Needs.{needs}

@@ -1,4 +1,4 @@
--- `records::entries_fit` meets its contract: by the loop's invariant. Assumes nothing.
+-- `records::entries_fit` meets its contract: by the loop's invariant.
 use Prim.Native.Nat.{_≤_, _-_}
 use mathlib.Core.Path.{_≡_}
 use native.Mathlib.Omega.{arith}

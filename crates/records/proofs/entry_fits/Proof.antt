@@ -1,4 +1,4 @@
--- `records::entry_fits` meets its contract: each return by the tests that led to it. Assumes nothing.
+-- `records::entry_fits` meets its contract: each return by the tests that led to it.
 use native.Mathlib.Omega.{arith}
 use borrow.Author.Tests.{eq-eqb, ne-eqb}
 use Rattle.records.specs.Entries.{entryFits}

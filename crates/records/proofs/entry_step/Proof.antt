@@ -1,4 +1,4 @@
--- `records::entry_step` meets its contract: each return by the tests that led to it. Assumes nothing.
+-- `records::entry_step` meets its contract: each return by the tests that led to it.
 use denote.Ref.{now}
 use borrow.Author.Needs.{needs}
 use borrow.Author.Tests.{lt-ltb, le-ltb, not-true, not-false}

@@ -1,4 +1,4 @@
--- `records::label_step` meets its contract: each return by the tests that led to it. Assumes nothing.
+-- `records::label_step` meets its contract: each return by the tests that led to it.
 use mathlib.Core.Path.{sym, _∙_}
 use Rattle.label.proofs.Carried.{label-carried}
 use Rattle.records.specs.Label.{labelStep, withLabel}

@@ -1,4 +1,4 @@
--- `records::take_label` meets its contract: each return by the tests that led to it. Assumes nothing.
+-- `records::take_label` meets its contract: each return by the tests that led to it.
 use mathlib.Core.Path.{sym, _∙_}
 use denote.Ref.{now}
 use borrow.Author.Tests.{eq-eqb, ne-eqb, not-true, not-false}

@@ -1,4 +1,4 @@
--- `records::termination_step` meets its contract: each return by the tests that led to it. Assumes nothing.
+-- `records::termination_step` meets its contract: each return by the tests that led to it.
 use mathlib.Core.Path.{sym, _∙_}
 use native.Mathlib.Omega.{arith}
 use borrow.Author.Tests.{not-true, not-false}

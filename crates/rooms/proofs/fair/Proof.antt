@@ -1,4 +1,4 @@
--- `rooms::fair` meets its contract: after i turns the first i holders are counted. Assumes nothing.
+-- `rooms::fair` meets its contract: after i turns the first i holders are counted.
 use Prim.Native.Nat.{_≤_, _-_}
 use mathlib.Core.Path.{_≡_, refl}
 use native.Mathlib.Omega.{arith}

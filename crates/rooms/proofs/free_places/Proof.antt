@@ -1,4 +1,4 @@
--- `rooms::free_places` meets its contract, by what `how_many` ensures. Assumes nothing.
+-- `rooms::free_places` meets its contract, by what `how_many` ensures.
 use Rattle.rooms.specs.Rooms.{free}
 use borrow.Author.Needs.{needs}
 use Rattle.rooms.proofs.free_places.Statement.{statement}

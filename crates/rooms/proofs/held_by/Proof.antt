@@ -1,4 +1,4 @@
--- `rooms::held_by` meets its contract, by what `how_many` ensures. Assumes nothing.
+-- `rooms::held_by` meets its contract, by what `how_many` ensures.
 use Rattle.rooms.specs.Rooms.{held}
 use borrow.Author.Needs.{needs}
 use Rattle.rooms.proofs.held_by.Statement.{statement}

@@ -1,4 +1,4 @@
--- `rooms::held_places` meets its contract: the n held places before place i are kept, and those from there on are still to come. Assumes nothing.
+-- `rooms::held_places` meets its contract: the n held places before place i are kept, and those from there on are still to come.
 use Prim.Native.Nat.{_≤_, _-_}
 use mathlib.Core.Path.{_≡_, refl, sym, _∙_}
 use native.Mathlib.Omega.{arith}

@@ -1,4 +1,4 @@
--- `rooms::how_many` meets its contract: what was counted and what is left are the whole. Assumes nothing.
+-- `rooms::how_many` meets its contract: what was counted and what is left are the whole.
 use Prim.Native.Nat.{_+_, _≤_, _-_}
 use mathlib.Core.Path.{_≡_}
 use native.Mathlib.Omega.{arith}

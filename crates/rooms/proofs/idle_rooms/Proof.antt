@@ -1,4 +1,4 @@
--- `rooms::idle_rooms` meets its contract: the zeros among the rooms' counts. Assumes nothing.
+-- `rooms::idle_rooms` meets its contract: the zeros among the rooms' counts.
 use mathlib.Core.Path.{_∙_}
 use Rattle.rooms.proofs.Pass.{tally-idle}
 use borrow.Author.Needs.{needs}

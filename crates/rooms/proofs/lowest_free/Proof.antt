@@ -1,4 +1,4 @@
--- `rooms::lowest_free` meets its contract: the lowest free place is among those not yet looked at. Assumes nothing.
+-- `rooms::lowest_free` meets its contract: the lowest free place is among those not yet looked at.
 use Prim.Native.Nat.{_+_, _≤_, _-_}
 use mathlib.Core.Path.{_≡_}
 use native.Mathlib.Omega.{arith}

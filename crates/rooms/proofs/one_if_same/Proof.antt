@@ -1,4 +1,4 @@
--- `rooms::one_if_same` meets its contract, by its test. Assumes nothing.
+-- `rooms::one_if_same` meets its contract, by its test.
 use Rattle.word.proofs.Tests.{tests}
 use Rattle.rooms.specs.Rooms.{hit}
 use Rattle.rooms.proofs.one_if_same.Statement.{statement}

@@ -1,4 +1,4 @@
--- `rooms::place_refusal` meets its contract: each way out by the tests on its way. Assumes nothing.
+-- `rooms::place_refusal` meets its contract: each way out by the tests on its way.
 use mathlib.Core.Path.{sym}
 use Rattle.word.proofs.Tests.{tests}
 use Rattle.rooms.specs.Rooms.{placeRefusal}

@@ -1,4 +1,4 @@
--- `rooms::slot` meets its contract, by its test. Assumes nothing.
+-- `rooms::slot` meets its contract, by its test.
 use Rattle.word.proofs.Tests.{tests}
 use Rattle.rooms.specs.HowTally.{slotOf}
 use Rattle.rooms.proofs.slot.Statement.{statement}

@@ -1,4 +1,4 @@
--- `rooms::tally` meets its contract: after i turns n has the counts of the first i holders. Assumes nothing.
+-- `rooms::tally` meets its contract: after i turns n has the counts of the first i holders.
 use Prim.Native.Nat.{_≤_, _<_, _-_}
 use mathlib.Core.Path.{_≡_, refl}
 use native.Mathlib.Omega.{arith}

@@ -1,4 +1,4 @@
--- `stage::bank_fits` meets its contract: it is the one test. Assumes nothing.
+-- `stage::bank_fits` meets its contract: it is the one test.
 use Rattle.stage.specs.Ranges.{bankFits}
 use borrow.Author.Needs.{needs}
 use Rattle.stage.proofs.bank_fits.Statement.{statement}

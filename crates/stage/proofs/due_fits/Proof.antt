@@ -1,4 +1,4 @@
--- `stage::due_fits`: by what is due, and the tests of it. Assumes nothing.
+-- `stage::due_fits`: by what is due, and the tests of it.
 use mathlib.Core.Path.{sym, _∙_}
 use borrow.Author.Tests.{not-true, not-false}
 use Rattle.stage.specs.Ranges.{dueFits}

@@ -1,4 +1,4 @@
--- `stage::due_numbers`: by what is due. Assumes nothing.
+-- `stage::due_numbers`: by what is due.
 use Rattle.stage.specs.Stage.{numbersOf}
 use borrow.Author.Needs.{needs}
 use Rattle.stage.proofs.due_numbers.Statement.{statement}

@@ -1,4 +1,4 @@
--- `stage::entry_numbers` meets its contract: each return by the tests that led to it. Assumes nothing.
+-- `stage::entry_numbers` meets its contract: each return by the tests that led to it.
 use Rattle.stage.specs.Stage.{numbersOf}
 use Rattle.stage.proofs.entry_numbers.Statement.{statement}
 use Rattle.stage.proofs.entry_numbers.Tie as tie

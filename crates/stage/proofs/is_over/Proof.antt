@@ -1,4 +1,4 @@
--- `stage::is_over`: by the stage. Assumes nothing.
+-- `stage::is_over`: by the stage.
 use Rattle.stage.specs.Record.{isOver}
 use borrow.Author.Needs.{needs}
 use Rattle.stage.proofs.is_over.Statement.{statement}

@@ -1,4 +1,4 @@
--- `stage::label_counts_fit` meets its contract: each return by the tests that led to it. Assumes nothing.
+-- `stage::label_counts_fit` meets its contract: each return by the tests that led to it.
 use Rattle.word.proofs.Tests.{tests}
 use Rattle.stage.specs.Ranges.{labelCountsFit}
 use Rattle.stage.proofs.label_counts_fit.Statement.{statement}

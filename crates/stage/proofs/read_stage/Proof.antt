@@ -1,4 +1,4 @@
--- `stage::read_stage` meets its contract: each return by the tests that led to it. Assumes nothing.
+-- `stage::read_stage` meets its contract: each return by the tests that led to it.
 use Rattle.word.proofs.Tests.{tests}
 use Rattle.stage.specs.Stage.{stageOf}
 use borrow.Author.Needs.{needs}

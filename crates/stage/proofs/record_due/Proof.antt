@@ -1,4 +1,4 @@
--- `stage::record_due`: by the stage. Assumes nothing.
+-- `stage::record_due`: by the stage.
 use Rattle.stage.specs.Record.{recordDue}
 use borrow.Author.Needs.{needs}
 use Rattle.stage.proofs.record_due.Statement.{statement}

@@ -1,4 +1,4 @@
--- `stage::section_fits` meets its contract: each return by the tests that led to it. Assumes nothing.
+-- `stage::section_fits` meets its contract: each return by the tests that led to it.
 use denote.Ref.{now}
 use borrow.Author.Tests.{lt-ltb}
 use Rattle.word.proofs.Tests.{tests}

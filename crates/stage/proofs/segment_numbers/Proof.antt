@@ -1,4 +1,4 @@
--- `stage::segment_numbers` meets its contract: each return by the tests that led to it. Assumes nothing.
+-- `stage::segment_numbers` meets its contract: each return by the tests that led to it.
 use mathlib.Core.Path.{refl}
 use Rattle.stage.specs.Stage.{numbersOf}
 use Rattle.stage.proofs.segment_numbers.Statement.{statement}

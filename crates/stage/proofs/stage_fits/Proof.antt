@@ -1,4 +1,4 @@
--- `stage::stage_fits`: by the stage, and the tests of it. Assumes nothing.
+-- `stage::stage_fits`: by the stage, and the tests of it.
 use mathlib.Core.Path.{sym, _∙_}
 use mathlib.Core.Bool.{and-false}
 use denote.Ref.{now}

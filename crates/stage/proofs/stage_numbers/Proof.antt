@@ -1,4 +1,4 @@
--- `stage::stage_numbers`: by the stage. Assumes nothing.
+-- `stage::stage_numbers`: by the stage.
 use Rattle.stage.specs.Stage.{numbersOf}
 use borrow.Author.Needs.{needs}
 use Rattle.stage.proofs.stage_numbers.Statement.{statement}

@@ -1,4 +1,4 @@
--- `word::bits` meets its contract: 1 shifted left by the number of bits is the power that the definition names. Assumes nothing.
+-- `word::bits` meets its contract: 1 shifted left by the number of bits is the power that the definition names.
 use mathlib.Core.Path.{_≡_, _∙_}
 use Prim.Native.Nat.{ℕ, _+_, _-_, _*_, _%_, _^_, _<_, _≤_}
 use native.Mathlib.Nat.{one-mul}

@@ -1,4 +1,4 @@
--- `word::run_within` meets its contract: each return by the tests that led to it. Assumes nothing.
+-- `word::run_within` meets its contract: each return by the tests that led to it.
 use Rattle.word.proofs.Runs.{within-before, within-after, within-left}
 use borrow.Author.Needs.{needs}
 use Rattle.word.proofs.run_within.Statement.{statement}

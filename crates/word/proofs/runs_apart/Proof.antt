@@ -1,4 +1,4 @@
--- `word::runs_apart` meets its contract: each return by the tests that led to it. Assumes nothing.
+-- `word::runs_apart` meets its contract: each return by the tests that led to it.
 use Rattle.word.proofs.Runs.{apart-first-empty, apart-second-empty, apart-rising, apart-falling}
 use borrow.Author.Needs.{needs}
 use Rattle.word.proofs.runs_apart.Statement.{statement}

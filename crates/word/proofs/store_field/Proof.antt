@@ -1,4 +1,4 @@
--- `word::store_field` meets its contract: each half by the bits that its field is. Assumes nothing.
+-- `word::store_field` meets its contract: each half by the bits that its field is.
 use native.Mathlib.Omega.{arith}
 use borrow.Author.Needs.{needs}
 use Rattle.word.proofs.store_field.Statement.{statement}

@@ -1,4 +1,4 @@
--- `word::word_at` meets its contract: each return by the tests that led to it. Assumes nothing.
+-- `word::word_at` meets its contract: each return by the tests that led to it.
 use denote.Ref.{now}
 use mathlib.Core.Path.{sym}
 use lib.ListN.{List·getD-eq-default}

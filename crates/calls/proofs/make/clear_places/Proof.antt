@@ -1,4 +1,4 @@
--- `calls::make::clear_places` meets its contract: after p turns the first p places are free. Assumes nothing.
+-- `calls::make::clear_places` meets its contract: after p turns the first p places are free.
 use Prim.Native.Nat.{_≤_, _-_}
 use mathlib.Core.Path.{_≡_}
 use native.Mathlib.Omega.{arith}

@@ -1,4 +1,4 @@
--- `calls::make::make_desk` meets its contract: its tests are those of `makeOf`, in that order. Assumes nothing.
+-- `calls::make::make_desk` meets its contract: its tests are those of `makeOf`, in that order.
 use mathlib.Core.Path.{refl, sym, _∙_}
 use borrow.Author.Tests.{eq-eqb, ne-eqb, le-leb, lt-leb, not-true, not-false}
 use Rattle.calls.specs.Make.{makeOf}

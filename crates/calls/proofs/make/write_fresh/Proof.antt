@@ -1,4 +1,4 @@
--- `calls::make::write_fresh` meets its contract: what its three writes leave is the fresh desk. Assumes nothing.
+-- `calls::make::write_fresh` meets its contract: what its three writes leave is the fresh desk.
 use mathlib.Core.Path.{sym, ap, _∙_}
 use native.Mathlib.Omega.{arith}
 use denote.Ref.{now}

@@ -1,4 +1,4 @@
--- `calls::open::all_beside` meets its contract: by the loop's invariant. Assumes nothing.
+-- `calls::open::all_beside` meets its contract: by the loop's invariant.
 use Rattle.desk.proofs.Tested.{places-more, places-fail, places-end}
 use Prim.Native.Nat.{_≤_, _-_}
 use mathlib.Core.Path.{_≡_, refl, sym, _∙_}

@@ -1,4 +1,4 @@
--- `calls::open::area_fits` meets its contract: each return by the tests that led to it. Assumes nothing.
+-- `calls::open::area_fits` meets its contract: each return by the tests that led to it.
 use mathlib.Core.Path.{sym, ap, _∙_}
 use borrow.Author.Tests.{not-true, not-false}
 use Rattle.map.specs.Map.{mapOf}

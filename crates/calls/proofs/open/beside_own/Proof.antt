@@ -1,4 +1,4 @@
--- `calls::open::beside_own` meets its contract: each return by the tests that led to it. Assumes nothing.
+-- `calls::open::beside_own` meets its contract: each return by the tests that led to it.
 use mathlib.Core.Path.{_∙_}
 use Rattle.calls.proofs.Grant.{beside-others, beside-held}
 use borrow.Author.Needs.{needs}

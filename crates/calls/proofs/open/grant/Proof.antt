@@ -1,4 +1,4 @@
--- `calls::open::grant` meets its contract: each return by the tests that led to it. Assumes nothing.
+-- `calls::open::grant` meets its contract: each return by the tests that led to it.
 use mathlib.Core.Path.{refl, sym, ap, _∙_}
 use native.Mathlib.Omega.{arith}
 use lib.ListN.{length}

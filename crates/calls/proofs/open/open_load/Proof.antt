@@ -1,4 +1,4 @@
--- `calls::open::open_load` meets its contract: refusals 1, 2 and 4, or what `grant` leaves. Assumes nothing.
+-- `calls::open::open_load` meets its contract: refusals 1, 2 and 4, or what `grant` leaves.
 use Rattle.calls.specs.Open.{openOf}
 use Rattle.calls.proofs.Entry.{entry-shows, entered-refused, entered-on}
 use borrow.Author.Needs.{needs}

@@ -1,4 +1,4 @@
--- `calls::open::write_place` meets its contract: its own numbers, and then the lists (`place-written`). Assumes nothing.
+-- `calls::open::write_place` meets its contract: its own numbers, and then the lists (`place-written`).
 use Rattle.calls.proofs.Grant.{place-written}
 use borrow.Author.Needs.{needs}
 use Rattle.calls.proofs.open.write_place.Statement.{statement}

@@ -1,4 +1,4 @@
--- `calls::release::release_place` meets its contract: refusals 1, 2 and 4, refusal 9, or the place freed. Assumes nothing.
+-- `calls::release::release_place` meets its contract: refusals 1, 2 and 4, refusal 9, or the place freed.
 use mathlib.Core.Path.{refl, sym, _∙_}
 use native.Mathlib.Omega.{arith}
 use borrow.Author.Tests.{not-true, not-false}

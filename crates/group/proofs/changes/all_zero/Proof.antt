@@ -1,4 +1,4 @@
--- `changes::all_zero`: the words not yet looked at decide. Assumes nothing.
+-- `changes::all_zero`: the words not yet looked at decide.
 use Prim.Native.Nat.{_≤_, _-_}
 use mathlib.Core.Path.{_≡_, refl}
 use native.Mathlib.Omega.{arith}

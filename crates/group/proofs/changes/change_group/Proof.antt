@@ -1,4 +1,4 @@
--- `changes::change_group`: from what its callees ensure; where every indicator word is 0, no word changes. Assumes nothing.
+-- `changes::change_group`: from what its callees ensure; where every indicator word is 0, no word changes.
 use mathlib.Core.Path.{sym, _∙_}
 use Rattle.group.proofs.LoopTurn.{copied-in, copied-ready, no-change}
 use borrow.Author.Needs.{needs}

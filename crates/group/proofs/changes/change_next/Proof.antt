@@ -1,4 +1,4 @@
--- `changes::change_next`: from what its callees ensure. Assumes nothing.
+-- `changes::change_next`: from what its callees ensure.
 use Prim.Native.Nat.{_-_}
 use mathlib.Core.Path.{sym}
 use native.Mathlib.Omega.{arith}

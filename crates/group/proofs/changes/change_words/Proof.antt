@@ -1,4 +1,4 @@
--- `changes::change_words`: what is left to do after some words is what there was to do. Assumes nothing.
+-- `changes::change_words`: what is left to do after some words is what there was to do.
 use Prim.Native.Nat.{_-_}
 use native.Mathlib.Omega.{arith}
 use lib.ListN.{length}

@@ -1,4 +1,4 @@
--- `changes::moved_word`: the test of the code is that of the definition. Assumes nothing.
+-- `changes::moved_word`: the test of the code is that of the definition.
 use native.Mathlib.Omega.{arith}
 use borrow.Author.Tests.{lt-ltb, le-ltb}
 use Rattle.group.specs.HowHalves.{movedWord}

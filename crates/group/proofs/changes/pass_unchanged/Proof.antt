@@ -1,4 +1,4 @@
--- `changes::pass_unchanged`: from what its callees ensure; words without change are no more than are left. Assumes nothing.
+-- `changes::pass_unchanged`: from what its callees ensure; words without change are no more than are left.
 use Prim.Native.Nat.{_-_}
 use mathlib.Core.Path.{sym}
 use native.Mathlib.Omega.{arith}

@@ -1,4 +1,4 @@
--- `changes::store_word`: what became of the word is stored, or the fault given on. Assumes nothing.
+-- `changes::store_word`: what became of the word is stored, or the fault given on.
 use mathlib.Core.Path.{refl}
 use Rattle.group.specs.HowWords.{storedStep}
 use borrow.Author.Needs.{needs}

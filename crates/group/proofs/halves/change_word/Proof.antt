@@ -1,4 +1,4 @@
--- `halves::change_word`: from what its callees ensure. Assumes nothing.
+-- `halves::change_word`: from what its callees ensure.
 use mathlib.Core.Path.{sym, _∙_}
 use native.Mathlib.Omega.{arith}
 use denote.Ref.{now}

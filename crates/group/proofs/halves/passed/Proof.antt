@@ -1,4 +1,4 @@
--- `halves::passed`: what became of the half goes on or stops. Assumes nothing.
+-- `halves::passed`: what became of the half goes on or stops.
 
 use borrow.Author.Needs.{needs}
 use Rattle.group.proofs.halves.passed.Statement.{statement}

@@ -1,4 +1,4 @@
--- `halves::right_half`: an indicator without change leaves the word; any other is one field step. Assumes nothing.
+-- `halves::right_half`: an indicator without change leaves the word; any other is one field step.
 use mathlib.Core.Path.{sym, _∙_}
 use denote.Ref.{now}
 use Rattle.word.specs.declared.Half.the-variants.{Right}

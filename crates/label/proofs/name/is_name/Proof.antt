@@ -1,4 +1,4 @@
--- `label::name::is_name` meets its contract: each return by the tests that led to it. Assumes nothing.
+-- `label::name::is_name` meets its contract: each return by the tests that led to it.
 use mathlib.Core.Path.{sym, ap, _∙_}
 use Rattle.label.proofs.Spelt.{good, name-two}
 use borrow.Author.Needs.{needs}

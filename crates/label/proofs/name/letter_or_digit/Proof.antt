@@ -1,4 +1,4 @@
--- `label::name::letter_or_digit` meets its contract: each return by the tests that led to it. Assumes nothing.
+-- `label::name::letter_or_digit` meets its contract: each return by the tests that led to it.
 use native.Mathlib.Omega.{arith}
 use borrow.Author.Tests.{lt-leb}
 use Rattle.word.proofs.Tests.{tests}

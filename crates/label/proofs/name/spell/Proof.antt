@@ -1,4 +1,4 @@
--- `label::name::spell` meets its contract: each return by the tests that led to it. Assumes nothing.
+-- `label::name::spell` meets its contract: each return by the tests that led to it.
 use Rattle.label.specs.HowSpelling.{nextSpelling}
 use borrow.Author.Needs.{needs}
 use Rattle.label.proofs.name.spell.Statement.{statement}

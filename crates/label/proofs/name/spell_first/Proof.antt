@@ -1,4 +1,4 @@
--- `label::name::spell_first` meets its contract: each return by the tests that led to it. Assumes nothing.
+-- `label::name::spell_first` meets its contract: each return by the tests that led to it.
 use mathlib.Core.Path.{sym, _∙_}
 use Rattle.label.specs.HowSpelling.{nextSpelling}
 use borrow.Author.Needs.{needs}

@@ -1,4 +1,4 @@
--- `label::name::spell_inside` meets its contract: each return by the tests that led to it. Assumes nothing.
+-- `label::name::spell_inside` meets its contract: each return by the tests that led to it.
 use mathlib.Core.Path.{sym, _∙_}
 use Rattle.word.proofs.Tests.{tests}
 use Rattle.label.specs.HowSpelling.{nextSpelling}

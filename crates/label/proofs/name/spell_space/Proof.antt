@@ -1,4 +1,4 @@
--- `label::name::spell_space` meets its contract: each return by the tests that led to it. Assumes nothing.
+-- `label::name::spell_space` meets its contract: each return by the tests that led to it.
 use Rattle.word.proofs.Tests.{tests}
 use Rattle.label.specs.HowSpelling.{nextSpelling}
 use Rattle.label.proofs.name.spell_space.Statement.{statement}

@@ -1,4 +1,4 @@
--- `label::name::spell_word` meets its contract: by the loop's invariant. Assumes nothing.
+-- `label::name::spell_word` meets its contract: by the loop's invariant.
 use Prim.Native.Nat.{_≤_}
 use mathlib.Core.Path.{_≡_, refl}
 use native.Mathlib.Omega.{arith}

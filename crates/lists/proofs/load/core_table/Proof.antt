@@ -1,4 +1,4 @@
--- `lists::load::core_table` meets its contract: the table that the load's kept words and ranks tell. Assumes nothing.
+-- `lists::load::core_table` meets its contract: the table that the load's kept words and ranks tell.
 use Rattle.word.proofs.Lists.{range-lent}
 use Rattle.lists.specs.Load.{coreTable, wordsIn, ranksIn}
 use borrow.Author.Needs.{needs}

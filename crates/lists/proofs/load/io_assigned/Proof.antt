@@ -1,4 +1,4 @@
--- `lists::load::io_assigned` meets its contract: each way out by the law of the kept numbers, up to their count or past it. Assumes nothing.
+-- `lists::load::io_assigned` meets its contract: each way out by the law of the kept numbers, up to their count or past it.
 use mathlib.Core.Path.{sym, _∙_}
 use native.Mathlib.Omega.{arith}
 use lib.ListN.{length-take}

@@ -1,4 +1,4 @@
--- `lists::load::keep_lists` meets its contract: the parts are written one after the other (`lists-written`). Assumes nothing.
+-- `lists::load::keep_lists` meets its contract: the parts are written one after the other (`lists-written`).
 use mathlib.Core.Path.{sym, ap, _∙_}
 use native.Mathlib.Omega.{arith}
 use denote.Ref.{now}

@@ -1,4 +1,4 @@
--- `lists::load::kept_fits` meets its contract: the test of the load's kept words. Assumes nothing.
+-- `lists::load::kept_fits` meets its contract: the test of the load's kept words.
 use Rattle.word.proofs.Lists.{range-lent}
 use Rattle.lists.specs.Load.{wordsIn}
 use borrow.Author.Needs.{needs}

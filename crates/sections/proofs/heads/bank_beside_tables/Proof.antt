@@ -1,4 +1,4 @@
--- `heads::bank_beside_tables` meets its contract: at every turn the rest of the tables decide. Assumes nothing.
+-- `heads::bank_beside_tables` meets its contract: at every turn the rest of the tables decide.
 use Prim.Native.Nat.{ℕ, _≤_, _<_, _-_}
 use mathlib.Core.Path.{_≡_, refl, sym, _∙_}
 use mathlib.Core.Bool.{Bool}
@@ -23,7 +23,7 @@ use Rattle.sections.specs.Heads.{besideTable}
 use Rattle.sections.proofs.heads.bank_beside_tables.Statement.{statement}
 use Rattle.sections.proofs.heads.bank_beside_tables.Tie as tie
 
--- the table that the code reads, held against the bank at its place in core
+-- the table that the code reads, compared with the bank at its place in core
 beside-here : (g : Given) (l : List ℕ) → Readable g l → (bank : Bank) (k : ℕ) (at : Absolute) (t : Table) (b v : Bool) → k < g .tables
     → at ≡ absoluteOf (g .area) (bank .at) → t ≡ coreTable g l k → b ≡ apart (at .0) (bank .count) (t .at .0) (t .len) → b ≡ v
     → besideTable (g .area) bank (getD (coreTables g l) k noTable) ≡ v

@@ -1,4 +1,4 @@
--- `heads::banks_fit` meets its contract: each return by the tests that led to it. Assumes nothing.
+-- `heads::banks_fit` meets its contract: each return by the tests that led to it.
 use mathlib.Core.Path.{sym, _∙_}
 use native.Mathlib.Omega.{arith}
 use borrow.Author.Tests.{not-true, not-false}

@@ -1,4 +1,4 @@
--- `heads::one_fewer` meets its contract: 0 less 1 is 0. Assumes nothing.
+-- `heads::one_fewer` meets its contract: 0 less 1 is 0.
 use borrow.Author.Needs.{needs}
 use Rattle.sections.proofs.heads.one_fewer.Statement.{statement}
 use Rattle.sections.proofs.heads.one_fewer.Tie as tie

@@ -1,4 +1,4 @@
--- `heads::section_head` meets its contract: each return by the word read and the tests that led to it. Assumes nothing.
+-- `heads::section_head` meets its contract: each return by the word read and the tests that led to it.
 use borrow.Author.Tests.{lt-leb, le-leb}
 use Rattle.sections.specs.Heads.{sectionStep, withSection}
 use borrow.Author.Needs.{needs}

@@ -1,4 +1,4 @@
--- `heads::segment_head` meets its contract: each return by the words read and the tests that led to it. Assumes nothing.
+-- `heads::segment_head` meets its contract: each return by the words read and the tests that led to it.
 use borrow.Author.Tests.{lt-leb, le-leb}
 use Rattle.sections.specs.Heads.{segmentStep, withSegment}
 use borrow.Author.Needs.{needs}

@@ -1,4 +1,4 @@
--- `items::after_group` meets its contract: each return by the answer and the test that led to it. Assumes nothing.
+-- `items::after_group` meets its contract: each return by the answer and the test that led to it.
 use Rattle.sections.specs.Program.{afterGroup}
 use borrow.Author.Needs.{needs}
 use Rattle.sections.proofs.items.after_group.Statement.{statement}

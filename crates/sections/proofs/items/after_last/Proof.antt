@@ -1,4 +1,4 @@
--- `items::after_last` meets its contract: each return by the test that led to it. Assumes nothing.
+-- `items::after_last` meets its contract: each return by the test that led to it.
 use Rattle.word.proofs.Tests.{tests}
 use Rattle.sections.specs.Program.{afterLast}
 use Rattle.sections.proofs.items.after_last.Statement.{statement}

@@ -1,4 +1,4 @@
--- `items::item_step`: a head or a group, as the word is read. Assumes nothing.
+-- `items::item_step`: a head or a group, as the word is read.
 use mathlib.Core.Path.{refl}
 use native.Mathlib.Omega.{arith}
 use denote.Ref.{now}

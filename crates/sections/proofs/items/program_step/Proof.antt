@@ -1,4 +1,4 @@
--- `items::program_step`: the copy of the block is the block. Assumes nothing.
+-- `items::program_step`: the copy of the block is the block.
 use Rattle.sections.proofs.Turns.{copy-same}
 use borrow.Author.Needs.{needs}
 use Rattle.sections.proofs.items.program_step.Statement.{statement}

@@ -1,4 +1,4 @@
--- `items::reading_of`: by what is due. Assumes nothing.
+-- `items::reading_of`: by what is due.
 use native.Mathlib.Omega.{arith}
 use Rattle.sections.specs.HowItems.{readingOf}
 use borrow.Author.Needs.{needs}

@@ -1,4 +1,4 @@
--- `items::walk_items`: at every turn the items from place i on, onto the core as it is, give what the block gives. Assumes nothing.
+-- `items::walk_items`: at every turn the items from place i on, onto the core as it is, give what the block gives.
 use Prim.Native.Nat.{_≤_, _-_}
 use mathlib.Core.Path.{_≡_, refl, _∙_}
 use native.Mathlib.Omega.{arith}

@@ -1,4 +1,4 @@
--- `word::slices::clear` meets its contract: by the loop's invariant. Assumes nothing.
+-- `word::slices::clear` meets its contract: by the loop's invariant.
 use Prim.Native.Nat.{_≤_, _-_}
 use mathlib.Core.Path.{_≡_, sym}
 use native.Mathlib.Omega.{arith}

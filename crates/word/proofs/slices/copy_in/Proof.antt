@@ -1,4 +1,4 @@
--- `word::slices::copy_in` meets its contract: by the loop's invariant. Assumes nothing.
+-- `word::slices::copy_in` meets its contract: by the loop's invariant.
 use Prim.Native.Nat.{_≤_, _-_}
 use mathlib.Core.Path.{_≡_, refl}
 use native.Mathlib.Omega.{arith}
