@@ -49,8 +49,9 @@
    is refused.
 
    What done says, that the area holds the program's image, is proved for a desk and a core that nothing but calls with this desk
-   wrote into from open to done, with the same core lent each time. A program that runs in another area between two calls does no
-   harm, since the loader reads no core word. One that writes into the load's own area does, and no call can tell.
+   wrote into from open to done, with the same core lent each time. That a program which runs in another area between two calls
+   does no harm is to be expected, since the loader reads no core word, but it is not among the theorems yet. One that writes into
+   the load's own area does harm, and no call can tell.
 
 
    THREADS, COPIES, STACK, COST
