@@ -48,10 +48,16 @@
    A slice of length 0 is not dereferenced, so its pointer may be NULL. All other arguments may be any number whatever: a wrong one
    is refused.
 
-   What done says, that the area holds the program's image, is proved for a desk and a core that nothing but calls with this desk
-   wrote into from open to done, with the same core lent each time. That a program which runs in another area between two calls
-   does no harm is to be expected, since the loader reads no core word, but it is not among the theorems yet. One that writes into
-   the load's own area does harm, and no call can tell.
+   What done says, that the area holds the program's image, is proved for a load that meets two conditions from open to done:
+
+     - each of its own feeds was lent the core that its open was lent;
+     - nothing from outside was stored in its area, and nothing but calls wrote to the desk.
+
+   Whatever else happens does no harm: programs may run and store in other areas, other rooms may open, feed and release, calls may
+   be refused, lent another core even. Where a store hits the area, or a feed is lent another core, nothing is promised, and no call
+   can tell. The area holds the image from done on, until something is stored there.
+
+   What open and the refusals 5 and 6 say of places holds in any case: it hangs on the desk alone, not on any core.
 
 
    THREADS, COPIES, STACK, COST

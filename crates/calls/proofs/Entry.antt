@@ -5,7 +5,7 @@ use mathlib.Core.Bool.{true}
 use mathlib.Core.List.{List}
 use native.Mathlib.Omega.{arith}
 use lib.Dec.{eqb, ltb}
-use borrow.Author.Tests.{eq-eqb, ne-eqb, lt-ltb, eqb-true, ltb-true}
+use borrow.Author.Tests.{eq-eqb, ne-eqb, lt-ltb, eqb-true, eqb-false, ltb-true}
 use Rattle.word.specs.Fault.{fault, unless}
 use Rattle.word.specs.Limits.{roomCount}
 use Rattle.word.proofs.Cases.{by-test, when}
@@ -55,10 +55,10 @@ module _ (d : List ℕ) (n r : ℕ) where
     entered-room s e = rw (s, eq-eqb n (coreLength d) e) (by-test (ltb r roomCount) (λ q. rw q) (λ q. rw q))
 
     -- what holds of each refusal of the three, and of the rest where none is due, holds of the whole
-    pub entered-cases : (P : Outcome → Type 0) → ((m : ℕ) → m ≤ 4 → P (refused m d core))
+    pub entered-cases : (P : Outcome → Type 0) → ((m : ℕ) → 1 ≤ m → m ≤ 4 → P (refused m d core))
         → (Entered d n r → P rest) → P (entered d n r core rest)
     unfolding entered
     entered-cases P none on =
         when P (eqb (entryRefusal d n r) 0)
         (λ q. on (entry-tells .1 (eqb-true (entryRefusal d n r) 0 q)))
-        (λ q. none (entryRefusal d n r) (entry-tells .0))
+        (λ q. none (entryRefusal d n r) (omega (arith, eqb-false (entryRefusal d n r) 0 q)) (entry-tells .0))

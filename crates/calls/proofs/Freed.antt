@@ -65,7 +65,7 @@ pub release-sound : (d : List ℕ) (n r p : ℕ) → sound d ≡ true → sound 
 unfolding releaseOf
 release-sound d n r p q =
     let P : Outcome → Type 0 = λ o. sound (o .desk) ≡ true in
-    entered-cases d n r [] _ P (λ m k. q)
+    entered-cases d n r [] _ P (λ m l k. q)
     (λ k. when P (holds d r p)
     (λ h. sound-says (set d (base p) 0) .test (freed-sound d p (holds-inside d r p h) (sound-says d .fact q)))
     (λ h. q))
@@ -74,4 +74,4 @@ pub release-small : (d : List ℕ) (n r p : ℕ) → Small (releaseOf d n r p .a
 unfolding releaseOf
 release-small d n r p =
     let P : Outcome → Type 0 = λ o. Small (o .answer) in
-    entered-cases d n r [] _ P (λ m k. omega arith) (λ k. both P (holds d r p) tt (omega arith))
+    entered-cases d n r [] _ P (λ m l k. omega arith) (λ k. both P (holds d r p) tt (omega arith))

@@ -210,7 +210,7 @@ module _ (d core : List ℕ) (r : ℕ) (a : Area) (ios tables : List ℕ) where
 
   pub open-sound : sound d ≡ true → sound (openOf d core r a ios tables .desk) ≡ true
   unfolding openOf
-  open-sound s = entered-cases d (length core) r core _ SoundLeft (λ m h. s) (λ k. grant-sound s (k .room))
+  open-sound s = entered-cases d (length core) r core _ SoundLeft (λ m l h. s) (λ k. grant-sound s (k .room))
 
 -- ---- its answer fits in one number, whatever is lent
 abbrev SmallAnswer : Outcome → Type 0
@@ -237,4 +237,4 @@ module _ (d core : List ℕ) (r : ℕ) (a : Area) (ios tables : List ℕ) where
 
   pub open-small : Small (openOf d core r a ios tables .answer)
   unfolding openOf
-  open-small = entered-cases d (length core) r core _ SmallAnswer (λ m h. omega arith) (λ k. grant-small (k .desk) (k .room))
+  open-small = entered-cases d (length core) r core _ SmallAnswer (λ m l h. omega arith) (λ k. grant-small (k .desk) (k .room))

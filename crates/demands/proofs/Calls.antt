@@ -1,19 +1,17 @@
--- Every call keeps a desk sound and the core's length; and of a load that is held, every call but its own room's feed and release leaves the view
--- as it was. Given the laws of a block's step, and that feed keeps a desk sound.
-use Prim.Native.Nat.{ℕ, _+_, _≤_}
+-- Of a load that is held, open leaves the view as it was, and so does every release but its own room's.
+use Prim.Native.Nat.{ℕ, _+_}
 use mathlib.Core.Path.{_≡_, refl, sym, ap, _∙_}
 use mathlib.Core.Bool.{true, false, _&&_, true≢false}
-use mathlib.Core.List.{List, []}
-use mathlib.Core.Logic.{_⊎_, inl, inr, ⊎-elim}
+use mathlib.Core.List.{List}
+use mathlib.Core.Logic.{⊎-elim}
 use native.Mathlib.Omega.{arith}
-use lib.ListN.{length, set}
+use lib.ListN.{length}
 use lib.Dec.{eqb}
 use borrow.Author.Tests.{eq-eqb}
 use Rattle.word.specs.declared.Area.{Area}
-use Rattle.word.proofs.Cases.{when}
 use Rattle.word.proofs.Stretch.{length-cleared, getD-cleared-beside}
 use Rattle.rooms.specs.Rooms.{lowestFree}
-use Rattle.layout.specs.Layout.{base, placeIn, holderOf, holders, holds}
+use Rattle.layout.specs.Layout.{placeIn, holderOf, holders, holds}
 use Rattle.layout.proofs.Places.{holder-at, holds-inside}
 use Rattle.desk.specs.Sound.{sound}
 use Rattle.desk.proofs.Facts.{sound-long}
@@ -21,19 +19,17 @@ use Rattle.calls.specs.declared.Answer.the-variants.{Released}
 use Rattle.calls.specs.Outcome.{Outcome}
 use Rattle.calls.specs.Open.{openedDesk, opened}
 use Rattle.calls.specs.Release.{releaseOf}
-use Rattle.calls.proofs.Grant.{area-in-core}
 use Rattle.calls.proofs.Opened.{given-free, opened-replaced, opened-sound}
-use Rattle.calls.proofs.Freed.{freed-core, freed-other, release-sound}
-use Rattle.calls.proofs.Entry.{entered-cases}
-use Rattle.feed.proofs.Laws.{BlockLaws}
-use Rattle.demands.specs.History.{State, Call, answerTo, call, isReleased}
-use Rattle.demands.specs.History.Call.{Open, Feed, Release}
+use Rattle.calls.proofs.Freed.{freed-other}
+use Rattle.demands.specs.History.{State, answerTo, call, isReleased}
+use Rattle.demands.specs.History.Call.{Open, Release}
 use Rattle.demands.specs.Demands.{Prepared}
 use Rattle.demands.proofs.Held.{held-by, held-apart}
 use Rattle.demands.proofs.Views.{view, view-by, outside-beside}
 use Rattle.demands.proofs.Reach.{leftBy}
-use Rattle.demands.proofs.Frames.{FeedKeeps, feed-ready}
-use Rattle.demands.proofs.Loaded.{Granted, Denies, open-sorted, opened-holder, opened-area}
+use Rattle.demands.proofs.Loaded.{opened-holder, opened-area}
+use Rattle.demands.proofs.Outcomes.{Granted, open-sorted, release-sorted}
+use Rattle.demands.proofs.Ready.{area-inside}
 
 -- ---- open where it is granted
 module _ (s : State) (r : ℕ) (a : Area) (ios tables : List ℕ) (g : Granted (s .desk) (s .core) r a ios tables) where
@@ -43,9 +39,6 @@ module _ (s : State) (r : ℕ) (a : Area) (ios tables : List ℕ) (g : Granted (
   abbrev after : List ℕ
   after = openedDesk (s .desk) place r a ios tables
 
-  pub area-inside : a .at .0 + a .size ≤ length (s .core)
-  area-inside = omega (arith, area-in-core (s .desk) (g .desk) r a (g .room) (g .fit), g .long)
-
   after-sound : sound after ≡ true
   after-sound = opened-sound (s .desk) (g .desk) r a ios tables (g .room) (g .given) (g .fit) (g .obey)
 
@@ -54,7 +47,7 @@ module _ (s : State) (r : ℕ) (a : Area) (ios tables : List ℕ) (g : Granted (
   granted-ready =
       let w = opened-replaced (s .desk) (g .desk) r a ios tables (g .room) (g .given) (g .fit) (g .obey) in record {
         desk = after-sound;
-        core = length-cleared (s .core) _ _ area-inside ∙ g .long ∙ sym (w .core);
+        core = length-cleared (s .core) _ _ (area-inside s r a ios tables g) ∙ g .long ∙ sym (w .core);
       }
 
   -- the place that is given was free, and the new area shares no word with one that is held
@@ -73,19 +66,11 @@ module _ (s : State) (r : ℕ) (a : Area) (ios tables : List ℕ) (g : Granted (
         let h = opened-holder (s .desk) (g .desk) r a ios tables (g .room) (g .given) (g .fit) (g .obey) in
         let o = opened-area (s .desk) (g .desk) r a ios tables (g .room) (g .given) (g .fit) (g .obey) in
         let sep = held-apart after after-sound q place other-place (rw same-place held) (λ z. omega arith) in
-        view-by s _ q same-place (length-cleared (s .core) _ _ area-inside)
-        (λ z j x y. getD-cleared-beside (s .core) _ _ j area-inside
+        view-by s _ q same-place (length-cleared (s .core) _ _ (area-inside s r a ios tables g))
+        (λ z j x y. getD-cleared-beside (s .core) _ _ j (area-inside s r a ios tables g)
         (outside-beside j _ _ (λ u v. (rw (same-place, o) at sep) j x y u v)))
 
 module _ (r : ℕ) (a : Area) (ios tables : List ℕ) (s : State) where
-  open-ready : Prepared s → Prepared (call (Open r a ios tables) s)
-  unfolding call
-  open-ready k =
-      ⊎-elim
-      (λ x. rw (x .1) k)
-      (λ x. rw (x .1) (granted-ready s r a ios tables (x .0)))
-      (open-sorted (s .desk) (s .core) r a ios tables)
-
   pub open-view : (q : ℕ) → (holderOf (placeIn (s .desk) q) ≡ 0 → ⊥) → view q (call (Open r a ios tables) s) ≡ view q s
   unfolding call
   open-view q h =
@@ -94,33 +79,10 @@ module _ (r : ℕ) (a : Area) (ios tables : List ℕ) (s : State) where
       (λ x. ap (λ (o : Outcome). view q (leftBy o)) (x .1) ∙ granted-view s r a ios tables (x .0) q h)
       (open-sorted (s .desk) (s .core) r a ios tables)
 
--- ---- release: it is refused and changes nothing, or it frees a place that the room holds
-module _ (d : List ℕ) (n r p : ℕ) where
-  abbrev Frees : Outcome → Type 0
-  Frees o =
-      (Denies d [] o)
-      ⊎ ((sound d ≡ true) × (holds d r p ≡ true) × (o ≡ record { answer = Released; desk = set d (base p) 0; core = [] }))
-
-  release-sorted : Frees (releaseOf d n r p)
-  unfolding releaseOf
-  release-sorted =
-      entered-cases d n r [] _ Frees (λ m h. inl (_, refl))
-      (λ k. when Frees (holds d r p) (λ q. inr (k .desk, q, refl)) (λ q. inl (_, refl)))
-
+-- ---- release, of room q and place k
 module _ (n q k : ℕ) (s : State) where
   abbrev without : Outcome → State
   without o = record { desk = o .desk; core = s .core }
-
-  release-ready : Prepared s → Prepared (call (Release n q k) s)
-  unfolding call
-  release-ready m =
-      ⊎-elim
-      (λ x. rw (x .1) m)
-      (λ x. record {
-        desk = release-sound (s .desk) n q k (m .desk);
-        core = rw (x .2) (m .core ∙ sym (freed-core (s .desk) (sound-long (s .desk) (x .0)) k (holds-inside (s .desk) q k (x .1))));
-      })
-      (release-sorted (s .desk) n q k)
 
   -- a load of room r at place p, which is not given back
   module _ (r p : ℕ) (held : holderOf (placeIn (s .desk) p) ≡ r + 1)
@@ -141,10 +103,3 @@ module _ (n q k : ℕ) (s : State) where
         ∙ view-by s _ p (freed-other (s .desk) (sound-long (s .desk) (x .0)) k (holds-inside (s .desk) q k (x .1)) p
         (not-freed (x .1) (ap (λ (o : Outcome). o .answer) (x .2)))) refl (λ z j a b. refl))
         (release-sorted (s .desk) n q k)
-
--- ---- all calls
-module _ (laws : BlockLaws) (kept : FeedKeeps) where
-  pub call-ready : (c : Call) (s : State) → Prepared s → Prepared (call c s)
-  call-ready (Open r a ios tables) s k = open-ready r a ios tables s k
-  call-ready (Feed r p block) s k = feed-ready laws kept r p block s k
-  call-ready (Release n r p) s k = release-ready n r p s k

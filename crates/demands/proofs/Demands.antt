@@ -1,10 +1,10 @@
 -- The demands, proved: each has the type that specs/Demands.antt states for it.
 use Rattle.feed.proofs.Blocked.{block-laws}
-use Rattle.feed.proofs.Fed.{feed-sound, feed-long}
-use Rattle.demands.specs.Demands.{Demand1One, Demand1Number, Demand1Unchanged, Demand1Broken, Demand1Sound, Demand2, Demand2Outside, Demand3Orders, Demand3Turns, Demand3Images, Demand3Rooms}
+use Rattle.feed.proofs.Fed.{feed-sound}
+use Rattle.demands.specs.Demands.{Demand1One, Demand1Number, Demand1Unchanged, Demand1Broken, Demand1Sound, Demand1Words, Demand2, Demand2Area, Demand2Outside, Demand3Orders, Demand3Turns, Demand3Images, Demand3Rooms}
 use Rattle.demands.proofs.Refused as refused
-use Rattle.demands.proofs.Imaged.{image-is}
-use Rattle.demands.proofs.Lives as lives
+use Rattle.demands.proofs.Ready as ready
+use Rattle.demands.proofs.Completed as completed
 use Rattle.demands.proofs.Untouched as untouched
 use Rattle.demands.proofs.Frames as frames
 use Rattle.demands.proofs.AnyOrder as any-order
@@ -23,10 +23,16 @@ pub demand-1-broken : Demand1Broken
 demand-1-broken = refused.broken
 
 pub demand-1-sound : Demand1Sound
-demand-1-sound = refused.sound-kept
+demand-1-sound = ready.sound-kept
+
+pub demand-1-words : Demand1Words
+demand-1-words = ready.words-stored
 
 pub demand-2 : Demand2
-demand-2 = lives.demand-2 block-laws feed-sound image-is
+demand-2 = completed.demand-2
+
+pub demand-2-area : Demand2Area
+demand-2-area = completed.demand-2-area
 
 pub demand-2-outside : Demand2Outside
 demand-2-outside = untouched.demand-2-outside block-laws
@@ -38,7 +44,7 @@ pub demand-3-turns : Demand3Turns
 demand-3-turns = frames.demand-3-turns block-laws feed-sound
 
 pub demand-3-images : Demand3Images
-demand-3-images = any-order.demand-3-images demand-1-sound demand-2 demand-3-orders
+demand-3-images = any-order.demand-3-images demand-2 demand-3-orders
 
 pub demand-3-rooms : Demand3Rooms
-demand-3-rooms = served.demand-3-rooms (λ d core block r p s e. feed-sound d core block r p s) (λ d core block r p s e. feed-long d core block r p)
+demand-3-rooms = served.demand-3-rooms

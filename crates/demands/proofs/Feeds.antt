@@ -1,74 +1,60 @@
--- A call seen from one load: it changes nothing of it, or it is a feed of its room whose block it takes; and a load that is over takes none. Given
--- the laws of a block's step, and that feed keeps a desk sound.
-use Prim.Native.Nat.{ℕ, _+_}
+-- What happens, seen from one load that is held: it changes nothing of the load, or it is a feed of its own whose block it takes. So the
+-- desk keeps what open wrote of it; and a load that is over takes no block.
+use Prim.Native.Nat.{ℕ, _+_, _≤_, _<_}
 use mathlib.Core.Path.{_≡_, refl, sym, ap, _∙_}
-use mathlib.Core.Bool.{Bool, true, false, cond, _&&_, true≢false}
+use mathlib.Core.Bool.{Bool, true, false, not, cond, _&&_, true≢false, false≢true}
 use mathlib.Core.List.{List, [], _∷_}
 use mathlib.Core.Logic.{_⊎_, inl, inr, ⊎-elim}
 use native.Mathlib.Omega.{arith}
-use lib.ListN.{length}
-use lib.Dec.{eqb}
-use borrow.Author.Tests.{eq-eqb, ne-eqb}
+use lib.ListN.{length, length-set}
+use lib.Seq.{getD-set-other}
+use lib.Dec.{eqb, leb, ltb}
+use borrow.Author.Tests.{eq-eqb, ne-eqb, le-leb, lt-ltb}
+use Rattle.word.specs.Lists.{every}
 use Rattle.word.specs.declared.Absolute.{Absolute}
-use Rattle.word.proofs.Cases.{by-eq, when}
-use Rattle.block.specs.declared.Verdict.{Verdict}
-use Rattle.block.specs.declared.Verdict.the-variants.{Pass, Refused as refused-block}
+use Rattle.word.specs.declared.Area.{Area}
+use Rattle.word.proofs.Cases.{by-eq, when, and-left, and-right}
 use Rattle.stage.specs.Record.{isOver}
-use Rattle.layout.specs.Layout.{placeIn, holderOf, stageIn, holds}
+use Rattle.layout.specs.declared.Place.{Place}
+use Rattle.layout.specs.Layout.{placeIn, holderOf, ownOf, stageIn, holds}
+use Rattle.desk.specs.Sound.{sound}
 use Rattle.calls.specs.Outcome.{Outcome}
 use Rattle.calls.proofs.Entry.{entered-cases}
-use Rattle.feed.specs.Feed.{takenOf, checkedOf, heldOf, feedOf, loadIn}
-use Rattle.feed.proofs.Laws.{BlockLaws}
+use Rattle.feed.specs.Feed.{takenOf, feedOf, loadIn}
+use Rattle.feed.proofs.Blocked.{block-laws}
 use Rattle.demands.specs.Orders.{run}
-use Rattle.demands.specs.History.{State, Call, answerTo, call, told, takenIn, taken, startsIn, starts, releasedIn, released}
-use Rattle.demands.specs.History.Call.{Open, Feed, Release}
+use Rattle.demands.specs.History.{State, Call, answerTo, call, Event, lent, event, Told, toldBy, told, takenIn, taken, startsIn, starts, endedBy, ended, feedsIt, isIn, harmless}
+use Rattle.demands.specs.History.Call.{Make, Open, Feed, Release}
+use Rattle.demands.specs.History.Event.{Here, Elsewhere, Store}
 use Rattle.demands.specs.Demands.{Prepared}
-use Rattle.demands.proofs.Held.{held-by}
-use Rattle.demands.proofs.Frames.{FeedKeeps}
-use Rattle.demands.proofs.Views.{View, view, view-kept}
+use Rattle.demands.proofs.Held.{areaOf, held-by}
+use Rattle.demands.proofs.Views.{View, view, view-by, view-kept}
 use Rattle.demands.proofs.Reach.{leftBy, feed-confined}
-use Rattle.demands.proofs.Loaded.{Denies}
-use Rattle.demands.proofs.Calls.{open-view, release-view, call-ready}
+use Rattle.demands.proofs.Outcomes.{make-sorted, feed-sorted}
+use Rattle.demands.proofs.Ready.{neither, event-sound, event-ended, event-ready}
+use Rattle.demands.proofs.Calls.{open-view, release-view}
 
--- ---- feed: it is refused and changes nothing, or it takes the block
-module _ (d core : List ℕ) (r p : ℕ) (block : List ℕ) where
-  abbrev Takings : Outcome → Type 0
-  Takings o = Denies d core o ⊎ ((isOver (stageIn (placeIn d p)) ≡ false) × (o ≡ takenOf d core p (loadIn (placeIn d p)) (stageIn (placeIn d p)) block))
-
-  checked-sorted : isOver (stageIn (placeIn d p)) ≡ false → (v : Verdict) → Takings (checkedOf d core (takenOf d core p (loadIn (placeIn d p)) (stageIn (placeIn d p)) block) v)
-  unfolding checkedOf
-  checked-sorted o Pass = inr (o, refl)
-  checked-sorted o (refused-block f) = inl (f, refl)
-
-  feed-sorted : Takings (feedOf d core r p block)
-  unfolding feedOf heldOf
-  feed-sorted =
-      entered-cases d (length core) r core _ Takings (λ m h. inl (_, refl))
-      (λ k. when Takings (holds d r p)
-      (λ q. when Takings (isOver (stageIn (placeIn d p))) (λ o. inl (_, refl)) (λ o. checked-sorted o _))
-      (λ q. inl (_, refl)))
-
--- ---- a call seen from the load of room r at place p: it changes nothing of it, or it is a feed whose block it takes
-pub record Idle (r p : ℕ) (c : Call) (s : State) : Type 0 where
-  pub same : view p (call c s) ≡ view p s
-  pub takes-none : (rest : List (List ℕ)) → takenIn r p c (answerTo c s) rest ≡ rest
-  pub starts-none : (rest : List Absolute) → startsIn r p c (answerTo c s) rest ≡ rest
-
-abbrev Steps : ℕ → ℕ → Call → State → Type 0
-Steps r p c s =
-    (block : List ℕ) × (c ≡ Feed r p block) × (isOver (stageIn (placeIn (s .desk) p)) ≡ false)
-    × (feedOf (s .desk) (s .core) r p block ≡ takenOf (s .desk) (s .core) p (loadIn (placeIn (s .desk) p)) (stageIn (placeIn (s .desk) p)) block)
-
-not-released : (b rest : Bool) → cond b true rest ≡ false → (b ≡ false) × (rest ≡ false)
-not-released true rest q = absurd (true≢false q)
-not-released false rest q = (refl, q)
+pub place-of : (p : ℕ) (s t : State) → view p t ≡ view p s → placeIn (t .desk) p ≡ placeIn (s .desk) p
+unfolding view
+place-of p s t v = ap (λ (w : View). w .place) v
 
 pub cond-same : {X : Type 0} (b : Bool) (x : X) → cond b x x ≡ x
 cond-same true x = refl
 cond-same false x = refl
 
-module _ (laws : BlockLaws) (r p : ℕ) (s : State) (ready : Prepared s) (held : holderOf (placeIn (s .desk) p) ≡ r + 1) where
-  own-sorted : (block : List ℕ) → Idle r p (Feed r p block) s ⊎ Steps r p (Feed r p block) s
+-- ---- a call seen from the load of room r at place p, in a state whose desk is sound
+pub record CallIdle (r p : ℕ) (c : Call) (s : State) : Type 0 where
+  pub same : view p (call c s) ≡ view p s
+  pub takes-none : (rest : List (List ℕ)) → takenIn r p c (answerTo c s) rest ≡ rest
+  pub starts-none : (rest : List Absolute) → startsIn r p c (answerTo c s) rest ≡ rest
+
+abbrev CallSteps : ℕ → ℕ → Call → State → Type 0
+CallSteps r p c s =
+    (block : List ℕ) × (c ≡ Feed r p block) × (isOver (stageIn (placeIn (s .desk) p)) ≡ false)
+    × (feedOf (s .desk) (s .core) r p block ≡ takenOf (s .desk) (s .core) p (loadIn (placeIn (s .desk) p)) (stageIn (placeIn (s .desk) p)) block)
+
+module _ (r p : ℕ) (s : State) (ok : sound (s .desk) ≡ true) (held : holderOf (placeIn (s .desk) p) ≡ r + 1) where
+  own-sorted : (block : List ℕ) → CallIdle r p (Feed r p block) s ⊎ CallSteps r p (Feed r p block) s
   unfolding call answerTo
   own-sorted block =
       ⊎-elim
@@ -85,72 +71,124 @@ module _ (laws : BlockLaws) (r p : ℕ) (s : State) (ready : Prepared s) (held :
   unfolding call feedOf
   wrong-room q block n =
       let P : Outcome → Type 0 = λ o. leftBy o ≡ s in
-      entered-cases (s .desk) (length (s .core)) q (s .core) _ P (λ m h. refl)
+      entered-cases (s .desk) (length (s .core)) q (s .core) _ P (λ m l h. refl)
       (λ k. when P (holds (s .desk) q p)
       (λ h. absurd (n (omega (arith, held-by (s .desk) q p h))))
       (λ h. refl))
 
-  feed-call : (q k : ℕ) (block : List ℕ) → Idle r p (Feed q k block) s ⊎ Steps r p (Feed q k block) s
+  feed-call : (q k : ℕ) (block : List ℕ) → CallIdle r p (Feed q k block) s ⊎ CallSteps r p (Feed q k block) s
   feed-call q k block =
       by-eq q r
       (λ e. by-eq k p
       (λ f. rw (e, f) (own-sorted block))
       (λ f. inl (record {
-        same = view-kept k s (call (Feed q k block) s) (ready .desk) (feed-confined laws s k block q) p (λ z. f (sym z));
+        same = view-kept k s (call (Feed q k block) s) ok (feed-confined block-laws s k block q) p (λ z. f (sym z));
         takes-none = λ rest. rw (eq-eqb q r e, ne-eqb k p f);
         starts-none = λ rest. rw (eq-eqb q r e, ne-eqb k p f);
       })))
       (λ e. inl (record {
         same = by-eq k p (λ f. rw (f, wrong-room q block e))
-            (λ f. view-kept k s (call (Feed q k block) s) (ready .desk) (feed-confined laws s k block q) p (λ z. f (sym z)));
+            (λ f. view-kept k s (call (Feed q k block) s) ok (feed-confined block-laws s k block q) p (λ z. f (sym z)));
         takes-none = λ rest. rw (ne-eqb q r e);
         starts-none = λ rest. rw (ne-eqb q r e);
       }))
 
-  pub sort-call : (c : Call) (rest : Bool) → releasedIn r p c (answerTo c s) rest ≡ false
-      → (rest ≡ false) × (Idle r p c s ⊎ Steps r p c s)
-  sort-call (Open q a ios tables) rest e = (
-    e,
-    inl (record {
-      same = open-view q a ios tables s p (λ z. omega arith);
-      takes-none = λ l. refl;
-      starts-none = λ l. refl;
-    }),
-  )
-  sort-call (Feed q k block) rest e = (e, feed-call q k block)
-  sort-call (Release n q k) rest e =
-      let o = not-released _ rest e in (
-        o .1,
-        inl (record {
-          same = release-view n q k s r p held (o .0);
-          takes-none = λ l. refl;
-          starts-none = λ l. refl;
-        }),
-      )
+  -- a make that was not accepted changes nothing
+  pub make-view : (n : ℕ) (m : List ℕ) → endedBy r p (Make n m) (answerTo (Make n m) s) ≡ false → view p (call (Make n m) s) ≡ view p s
+  unfolding call answerTo
+  make-view n m e =
+      ⊎-elim
+      (λ x. ap (λ (o : Outcome). view p (record { desk = o .desk; core = s .core })) (x .1))
+      (λ x. absurd (true≢false (rw x at e)))
+      (make-sorted (s .desk) n m)
 
-pub place-of : (p : ℕ) (s t : State) → view p t ≡ view p s → placeIn (t .desk) p ≡ placeIn (s .desk) p
-unfolding view
-place-of p s t v = ap (λ (w : View). w .place) v
+  pub sort-call : (c : Call) → endedBy r p c (answerTo c s) ≡ false → CallIdle r p c s ⊎ CallSteps r p c s
+  sort-call (Make n m) e = inl (record { same = make-view n m e; takes-none = λ l. refl; starts-none = λ l. refl })
+  sort-call (Open q a ios tables) e =
+      inl (record { same = open-view q a ios tables s p (λ z. omega arith); takes-none = λ l. refl; starts-none = λ l. refl })
+  sort-call (Feed q k block) e = feed-call q k block
+  sort-call (Release n q k) e =
+      inl (record { same = release-view n q k s r p held e; takes-none = λ l. refl; starts-none = λ l. refl })
+
+-- ---- an event
+pub record Idle (r p : ℕ) (e : Event) (s : State) : Type 0 where
+  pub same : view p (event e s) ≡ view p s
+  pub takes-none : (rest : List Told) → taken r p (toldBy e s rest) ≡ taken r p rest
+  pub starts-none : (rest : List Told) → starts r p (toldBy e s rest) ≡ starts r p rest
+
+abbrev pub Steps : ℕ → ℕ → Event → State → Type 0
+Steps r p e s =
+    (block : List ℕ) × (e ≡ Here (Feed r p block)) × (isOver (stageIn (placeIn (s .desk) p)) ≡ false)
+    × (feedOf (s .desk) (s .core) r p block ≡ takenOf (s .desk) (s .core) p (loadIn (placeIn (s .desk) p)) (stageIn (placeIn (s .desk) p)) block)
+
+-- a call that is lent another core leaves ours as it was
+elsewhere-view : (p : ℕ) (s : State) (other : List ℕ) (c : Call) → view p (call c (lent other s)) ≡ view p (lent other s)
+    → view p (event (Elsewhere other c) s) ≡ view p s
+unfolding event
+elsewhere-view p s other c v = view-by s _ p (place-of p (lent other s) (call c (lent other s)) v) refl (λ h j a b. refl)
+
+-- a store outside the area
+store-view : (p : ℕ) (s : State) (j v : ℕ) → isIn (areaOf (placeIn (s .desk) p)) j ≡ false → view p (event (Store j v) s) ≡ view p s
+unfolding event
+store-view p s j v out =
+    let area = areaOf (placeIn (s .desk) p) in
+    let apart : (i : ℕ) → area .at .0 ≤ i → i < area .at .0 + area .size → i ≡ j → ⊥ =
+    λ i a b z. true≢false (rw (le-leb (area .at .0) j (omega arith), lt-ltb j (area .at .0 + area .size) (omega arith)) at out) in
+    view-by s _ p refl (length-set (s .core) j v) (λ h i a b. getD-set-other (s .core) j i v 0 (λ z. apart i a b (omega arith)))
+
+not-true : (b : Bool) → not b ≡ true → b ≡ false
+not-true true q = absurd (false≢true q)
+not-true false q = refl
+
+own-feed : (r p : ℕ) (block : List ℕ) → feedsIt r p (Feed r p block) ≡ true
+own-feed r p block = rw (eq-eqb r r refl, eq-eqb p p refl)
+
+module _ (r p : ℕ) (area : Area) (s : State) (ok : sound (s .desk) ≡ true) (held : holderOf (placeIn (s .desk) p) ≡ r + 1)
+    (its : areaOf (placeIn (s .desk) p) ≡ area) where
+  pub sort-event : (e : Event) (rest : List Told) → harmless r p area e ≡ true → ended r p (toldBy e s rest) ≡ false
+      → Idle r p e s ⊎ Steps r p e s
+  unfolding event taken starts ended
+  sort-event (Here c) rest h q =
+      ⊎-elim
+      (λ x. inl (record { same = x .same; takes-none = λ l. x .takes-none _; starts-none = λ l. x .starts-none _ }))
+      (λ x. inr (x .0, ap Here (x .1), x .2, x .3))
+      (sort-call r p s ok held c (neither (endedBy r p c (answerTo c s)) (ended r p rest) q .0))
+  sort-event (Elsewhere other c) rest h q =
+      let t = lent other s in
+      ⊎-elim
+      (λ x. inl (record { same = elsewhere-view p s other c (x .same); takes-none = λ l. x .takes-none _; starts-none = λ l. x .starts-none _ }))
+      (λ x. absurd (true≢false (sym (own-feed r p (x .0)) ∙ ap (feedsIt r p) (sym (x .1)) ∙ not-true _ h)))
+      (sort-call r p t ok held c (neither (endedBy r p c (answerTo c t)) (ended r p rest) q .0))
+  sort-event (Store j v) rest h q =
+      inl (record { same = store-view p s j v (rw its (not-true (isIn area j) h)); takes-none = λ l. refl; starts-none = λ l. refl })
 
 -- ---- a load that is over
-module _ (laws : BlockLaws) (kept : FeedKeeps) (r p : ℕ) where
-  pub record Quiet (cs : List Call) (s : State) : Type 0 where
-    pub none : taken r p (told cs s) ≡ []
-    pub no-start : starts r p (told cs s) ≡ []
-    pub same : view p (run call cs s) ≡ view p s
+pub record Quiet (r p : ℕ) (es : List Event) (s : State) : Type 0 where
+  pub none : taken r p (told es s) ≡ []
+  pub no-start : starts r p (told es s) ≡ []
+  pub same : view p (run event es s) ≡ view p s
 
-  pub quiet : (cs : List Call) (s : State) → Prepared s → holderOf (placeIn (s .desk) p) ≡ r + 1 → isOver (stageIn (placeIn (s .desk) p)) ≡ true
-      → released r p (told cs s) ≡ false → Quiet cs s
-  unfolding told taken starts released run
-  quiet [] s k h o q = record { none = refl; no-start = refl; same = refl }
-  quiet (c ∷ cs) s k h o q =
-      let x = sort-call laws r p s k h c _ q in
+module _ (r p : ℕ) (area : Area) where
+  pub all-head : (e : Event) (es : List Event) → every (harmless r p area) (e ∷ es) ≡ true → harmless r p area e ≡ true
+  unfolding every
+  all-head e es q = and-left (harmless r p area e) (every (harmless r p area) es) q
+
+  pub all-tail : (e : Event) (es : List Event) → every (harmless r p area) (e ∷ es) ≡ true → every (harmless r p area) es ≡ true
+  unfolding every
+  all-tail e es q = and-right (harmless r p area e) (every (harmless r p area) es) q
+
+  pub quiet : (es : List Event) (s : State) → Prepared s → holderOf (placeIn (s .desk) p) ≡ r + 1 → areaOf (placeIn (s .desk) p) ≡ area
+      → isOver (stageIn (placeIn (s .desk) p)) ≡ true → every (harmless r p area) es ≡ true → ended r p (told es s) ≡ false → Quiet r p es s
+  unfolding told run
+  quiet [] s k h a o f q = record { none = unfold taken in refl; no-start = unfold starts in refl; same = refl }
+  quiet (e ∷ es) s k h a o f q =
       ⊎-elim
-      (λ i. let e = place-of p s (call c s) (i .same) in
-      let n = quiet cs (call c s) (call-ready laws kept c s k) (rw e h) (rw e o) (x .0) in record {
+      (λ i. let z = place-of p s (event e s) (i .same) in
+      let n = quiet es (event e s) (event-ready r p e s _ k q) (rw z h) (rw z a) (rw z o) (all-tail e es f) (event-ended r p e s _ q) in
+      record {
         none = i .takes-none _ ∙ n .none;
         no-start = i .starts-none _ ∙ n .no-start;
         same = n .same ∙ i .same;
       })
       (λ z. absurd (true≢false (sym o ∙ z .2)))
-      (x .1)
+      (sort-event r p area s (k .desk) h a e _ (all-head e es f) q)

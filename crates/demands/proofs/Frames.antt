@@ -27,7 +27,8 @@ use Rattle.feed.proofs.Laws.{BlockLaws}
 use Rattle.demands.specs.Orders.{inTurn}
 use Rattle.demands.specs.History.{State, answerTo, call}
 use Rattle.demands.specs.History.Call.{Feed}
-use Rattle.demands.specs.Demands.{Prepared, Fed, feed, fedAnswer, loadNumber, Demand3Orders, Demand3Turns}
+use Rattle.demands.specs.Feeding.{Fed, feed, fedAnswer, loadNumber}
+use Rattle.demands.specs.Demands.{Prepared, Demand3Orders, Demand3Turns}
 use Rattle.demands.proofs.Held.{areaOf}
 use Rattle.demands.proofs.Parts.{Framed, same-state, same-answers}
 use Rattle.demands.proofs.Turns.{only-in-turn}
@@ -172,7 +173,7 @@ module _ (r p : ℕ) (block : List ℕ) (past : 12 ≤ p) where
   unfolding call feedOf holds
   past-same s =
       let P : Outcome → Type 0 = λ o. leftBy o ≡ s in
-      rw (le-ltb p 12 past) (entered-cases (s .desk) (length (s .core)) r (s .core) _ P (λ m h. refl) (λ k. refl))
+      rw (le-ltb p 12 past) (entered-cases (s .desk) (length (s .core)) r (s .core) _ P (λ m l h. refl) (λ k. refl))
 
   past-refused : (d core : List ℕ) → sound d ≡ true → length core ≡ coreLength d
       → feedOf d core r p block .answer ≡ unless (ltb r roomCount) (Refused (fault 4)) (Refused (fault 9))

@@ -1,5 +1,7 @@
-pub mod Counting
+pub mod Outcomes
 pub mod Granted
+pub mod Ready
+pub mod Counting
 pub mod Served
 pub mod Stores
 pub mod Heads
@@ -17,7 +19,10 @@ pub mod Loaded
 pub mod Calls
 pub mod Starts
 pub mod Feeds
+pub mod Kept
 pub mod Lives
+pub mod Begun
+pub mod Completed
 pub mod Untouched
 pub mod Refused
 pub mod AnyOrder

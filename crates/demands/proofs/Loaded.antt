@@ -1,28 +1,20 @@
 -- What open leaves: a place that holds the load as it was lent, which waits for its label; an area of zeros; and every other load as it was.
 use Prim.Native.Nat.{ℕ, _+_, _≤_, _<_}
-use mathlib.Core.Path.{_≡_, refl, ap, _∙_}
+use mathlib.Core.Path.{_≡_, ap}
 use mathlib.Core.Bool.{true}
 use mathlib.Core.List.{List}
-use mathlib.Core.Logic.{_⊎_, inl, inr}
 use native.Mathlib.Omega.{arith}
 use lib.ListN.{length}
-use lib.Dec.{eqb}
-use borrow.Author.Tests.{eqb-true}
 use Rattle.word.specs.declared.Area.{Area}
-use Rattle.word.specs.declared.Fault.{Fault}
-use Rattle.word.proofs.Cases.{when}
 use Rattle.rooms.specs.Rooms.{placeRefusal, lowestFree}
 use Rattle.lists.specs.Obey.{tablesOf, listsObey}
 use Rattle.stage.specs.declared.Stage.the-variants.{Label}
 use Rattle.layout.specs.declared.Place.{Place}
-use Rattle.layout.specs.Layout.{coreLength, placeIn, holderOf, stageIn, holders}
+use Rattle.layout.specs.Layout.{placeIn, holderOf, stageIn, holders}
 use Rattle.desk.specs.Sound.{sound}
-use Rattle.calls.specs.declared.Answer.the-variants.{Refused}
-use Rattle.calls.specs.Outcome.{Outcome}
-use Rattle.calls.specs.Open.{areaFits, openedPlace, openedDesk, opened, grantOf, openOf}
+use Rattle.calls.specs.Open.{areaFits, openedPlace, openedDesk}
 use Rattle.calls.proofs.Grant.{area-small}
 use Rattle.calls.proofs.Opened.{holder-opened, own-opened, stage-opened, load-opened, old-length, opened-replaced}
-use Rattle.calls.proofs.Entry.{entered-cases}
 use Rattle.feed.specs.Feed.{loadIn}
 use Rattle.demands.proofs.Held.{areaOf}
 
@@ -59,33 +51,3 @@ module _ (d : List ℕ) (s : sound d ≡ true) (r : ℕ) (a : Area) (ios tables 
 
   pub opened-area : areaOf (placeIn after place) ≡ a
   opened-area = rw is-new (ap (λ (o : Place). o .given .area) (own-opened r a ios tables old long small obey))
-
--- ---- open: it is refused and changes nothing, or it is granted
-pub record Granted (d core : List ℕ) (r : ℕ) (a : Area) (ios tables : List ℕ) : Type 0 where
-  pub desk : sound d ≡ true
-  pub long : length core ≡ coreLength d
-  pub room : r < 8
-  pub given : placeRefusal r (holders d) ≡ 0
-  pub fit : areaFits d r a ≡ true
-  pub obey : listsObey a ios tables ≡ true
-
-abbrev pub Denies : List ℕ → List ℕ → Outcome → Type 0
-Denies d core o = (f : Fault) × (o ≡ record { answer = Refused f; desk = d; core = core })
-
-module _ (d core : List ℕ) (r : ℕ) (a : Area) (ios tables : List ℕ) where
-  abbrev Sorted : Outcome → Type 0
-  Sorted o = Denies d core o ⊎ (Granted d core r a ios tables × (o ≡ opened d core r a ios tables))
-
-  grant-sorted : sound d ≡ true → length core ≡ coreLength d → r < 8 → Sorted (grantOf d core r a ios tables)
-  unfolding grantOf
-  grant-sorted s e h =
-      when Sorted (eqb (placeRefusal r (holders d)) 0)
-      (λ f. when Sorted (areaFits d r a)
-      (λ g. when Sorted (listsObey a ios tables)
-      (λ l. inr (record { desk = s; long = e; room = h; given = eqb-true _ 0 f; fit = g; obey = l }, refl))
-      (λ l. inl (_, refl))) (λ g. inl (_, refl))) (λ f. inl (_, refl))
-
-  pub open-sorted : Sorted (openOf d core r a ios tables)
-  unfolding openOf
-  open-sorted =
-      entered-cases d (length core) r core _ Sorted (λ m h. inl (_, refl)) (λ k. grant-sorted (k .desk) (k .core) (k .room))

@@ -79,7 +79,7 @@ module _ (laws : BlockLaws) (s : State) (p : ℕ) (block : List ℕ) where
   pub feed-confined : (r : ℕ) → Confined p s (call (Feed r p block) s)
   unfolding call feedOf
   feed-confined r =
-      entered-cases (s .desk) (length (s .core)) r (s .core) _ Kept (λ m h. confined-same p s)
+      entered-cases (s .desk) (length (s .core)) r (s .core) _ Kept (λ m l h. confined-same p s)
       (λ k. when Kept (holds (s .desk) r p)
       (λ q. held-confined (k .desk) (k .core) (holds-inside (s .desk) r p q) (λ z. omega (arith, held-by (s .desk) r p q)))
       (λ q. confined-same p s))

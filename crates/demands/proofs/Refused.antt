@@ -1,4 +1,4 @@
--- Demand 1: one outcome, told by one number; what a refusal leaves; and soundness, kept by every call.
+-- Demand 1: one outcome, told by one number; and what a refusal leaves.
 use Prim.Native.Nat.{ℕ, _+_, _≤_, _/_, _%_, _^_}
 use mathlib.Core.Path.{_≡_, refl, sym, ap, ap₂, _∙_}
 use mathlib.Core.Bool.{true, false, cond}
@@ -6,11 +6,11 @@ use mathlib.Core.List.{List, []}
 use native.Mathlib.Omega.{arith}
 use lib.ListN.{length}
 use lib.Dec.{eqb, leb}
-use borrow.Author.Tests.{ne-eqb}
+use borrow.Author.Tests.{ne-eqb, eqb-false}
 use Rattle.word.specs.Fault.{fault}
 use Rattle.word.specs.declared.Area.{Area}
 use Rattle.word.specs.declared.Fault.{Fault}
-use Rattle.word.proofs.Cases.{both}
+use Rattle.word.proofs.Cases.{both, when}
 use Rattle.word.proofs.Lists.{length-splice}
 use Rattle.word.proofs.Stretch.{length-cleared, getD-cleared-beside, getD-splice-beside}
 use Rattle.stage.specs.declared.Stage.the-variants.{Broken}
@@ -36,16 +36,14 @@ use Rattle.calls.proofs.Freed.{release-small}
 use Rattle.calls.proofs.Entry.{entered-cases}
 use Rattle.feed.specs.Feed.{loadIn, staged, wiped, feedOf}
 use Rattle.feed.proofs.Blocked.{block-laws}
-use Rattle.feed.proofs.Fed.{holds-place, feed-cases, feed-sound, feed-small}
+use Rattle.feed.proofs.Fed.{holds-place, feed-cases, feed-small}
 use Rattle.feed.proofs.Held.{held-inside}
 use Rattle.feed.proofs.Wiped.{getD-cleared-in}
 use Rattle.demands.specs.History.{State, Call, answerTo, call}
-use Rattle.demands.specs.History.Call.{Open, Feed, Release}
-use Rattle.demands.specs.Demands.{BrokenOff, Demand1One, Demand1Number, Demand1Unchanged, Demand1Broken, Demand1Sound}
+use Rattle.demands.specs.History.Call.{Make, Open, Feed, Release}
+use Rattle.demands.specs.Demands.{BrokenOff, Demand1One, Demand1Number, Demand1Unchanged, Demand1Broken}
 use Rattle.demands.proofs.Views.{outside-beside, staged-stage}
 use Rattle.demands.proofs.Reach.{leftBy}
-use Rattle.demands.proofs.Calls.{call-ready}
-use Rattle.demands.proofs.Served.{made-ready}
 
 pub one : Demand1One
 one o r q d e core other p t = (p .number ∙ sym (t .number), (p .desk-left ∙ sym (t .desk-left), p .core-left ∙ sym (t .core-left)))
@@ -80,23 +78,24 @@ one-number a b h k e =
 
 each-small : (c : Call) (s : State) → Small (answerTo c s)
 unfolding answerTo
+each-small (Make n m) s = make-small (s .desk) n m
 each-small (Open r a ios tables) s = open-small (s .desk) (s .core) r a ios tables
 each-small (Feed r p block) s = feed-small (s .desk) (s .core) block r p
 each-small (Release n r p) s = release-small (s .desk) n r p
 
 pub number : Demand1Number
-number = (make-small, (each-small, one-number))
+number = (each-small, one-number)
 
--- ---- an outcome that, where it is refused, is refused with n at most, and leaves desk and core as they were
+-- ---- an outcome that, where it is refused, is refused with a number from 1 to n, and leaves desk and core as they were
 abbrev Refuses : ℕ → List ℕ → List ℕ → Outcome → Type 0
-Refuses n d core o = (f : Fault) → o .answer ≡ Refused f → (f .number ≤ n) × ((o .desk ≡ d) × (o .core ≡ core))
+Refuses n d core o = (f : Fault) → o .answer ≡ Refused f → (1 ≤ f .number) × (f .number ≤ n) × ((o .desk ≡ d) × (o .core ≡ core))
 
 -- the number of a refusal
 same-fault : {m : ℕ} {f : Fault} → _≡_ {A = Answer} (Refused (fault m)) (Refused f) → m ≡ f .number
 same-fault q = ap codeOf q
 
-refuses : (n m : ℕ) (d core : List ℕ) → m ≤ n → Refuses n d core (record { answer = Refused (fault m); desk = d; core = core })
-refuses n m d core h f q = (omega (arith, same-fault q), (refl, refl))
+refuses : (n m : ℕ) (d core : List ℕ) → 1 ≤ m → m ≤ n → Refuses n d core (record { answer = Refused (fault m); desk = d; core = core })
+refuses n m d core l h f q = (omega (arith, same-fault q), omega (arith, same-fault q), (refl, refl))
 
 make-refuses : (d : List ℕ) (n : ℕ) (m : List ℕ) → Refuses 3 d [] (makeOf d n m)
 unfolding makeOf
@@ -105,10 +104,10 @@ make-refuses d n m =
     both P (eqb (length d) deskWords)
     (both P (coreFits n)
     (both P (eqb (length m) 16)
-    (both P (mapObeys n (mapOf m)) (λ f q. let z : _≡_ {A = ℕ} 0 1 = cc in absurd (omega arith)) (refuses 3 3 d [] (omega arith)))
-    (refuses 3 3 d [] (omega arith)))
-    (refuses 3 2 d [] (omega arith)))
-    (refuses 3 1 d [] (omega arith))
+    (both P (mapObeys n (mapOf m)) (λ f q. let z : _≡_ {A = ℕ} 0 1 = cc in absurd (omega arith)) (refuses 3 3 d [] (omega arith) (omega arith)))
+    (refuses 3 3 d [] (omega arith) (omega arith)))
+    (refuses 3 2 d [] (omega arith) (omega arith)))
+    (refuses 3 1 d [] (omega arith) (omega arith))
 
 abbrev AtMostSix : ℕ → Type 0
 AtMostSix n = n ≤ 6
@@ -123,19 +122,19 @@ open-refuses : (d core : List ℕ) (r : ℕ) (a : Area) (ios tables : List ℕ) 
 unfolding openOf grantOf opened
 open-refuses d core r a ios tables =
     let P = Refuses 8 d core in
-    entered-cases d (length core) r core _ P (λ m h. refuses 8 m d core (omega arith))
-    (λ k. both P (eqb (placeRefusal r (holders d)) 0)
-    (both P (areaFits d r a)
-    (both P (listsObey a ios tables) (λ f q. let z : _≡_ {A = ℕ} 0 1 = cc in absurd (omega arith)) (refuses 8 8 d core (omega arith)))
-    (refuses 8 7 d core (omega arith)))
-    (refuses 8 (placeRefusal r (holders d)) d core (omega (arith, refusal-most r (holders d)))))
+    entered-cases d (length core) r core _ P (λ m l h. refuses 8 m d core l (omega arith))
+    (λ k. when P (eqb (placeRefusal r (holders d)) 0)
+    (λ z. both P (areaFits d r a)
+    (both P (listsObey a ios tables) (λ f q. let z : _≡_ {A = ℕ} 0 1 = cc in absurd (omega arith)) (refuses 8 8 d core (omega arith) (omega arith)))
+    (refuses 8 7 d core (omega arith) (omega arith)))
+    (λ z. refuses 8 (placeRefusal r (holders d)) d core (omega (arith, eqb-false (placeRefusal r (holders d)) 0 z)) (omega (arith, refusal-most r (holders d)))))
 
 release-refuses : (d : List ℕ) (n r p : ℕ) → Refuses 9 d [] (releaseOf d n r p)
 unfolding releaseOf
 release-refuses d n r p =
     let P = Refuses 9 d [] in
-    entered-cases d n r [] _ P (λ m h. refuses 9 m d [] (omega arith))
-    (λ k. both P (holds d r p) (λ f q. let z : _≡_ {A = ℕ} 0 1 = cc in absurd (omega arith)) (refuses 9 9 d [] (omega arith)))
+    entered-cases d n r [] _ P (λ m l h. refuses 9 m d [] l (omega arith))
+    (λ k. both P (holds d r p) (λ f q. let z : _≡_ {A = ℕ} 0 1 = cc in absurd (omega arith)) (refuses 9 9 d [] (omega arith) (omega arith)))
 
 -- ---- a feed that is refused: up to 12 nothing changes, from 13 on the load is broken off
 same-state : (s t : State) → t .desk ≡ s .desk → t .core ≡ s .core → t ≡ s
@@ -148,10 +147,11 @@ module _ (s : State) (r p : ℕ) (block : List ℕ) where
   abbrev Breaks : Outcome → Type 0
   Breaks o =
       (f : Fault) → o .answer ≡ Refused f
-      → (f .number ≤ 12 → leftBy o ≡ s) × (13 ≤ f .number → (f .number ≤ 22) × BrokenOff p area s (leftBy o))
+      → ((1 ≤ f .number) × (f .number ≤ 22) × (f .number ≤ 12 → leftBy o ≡ s)) × (13 ≤ f .number → BrokenOff p area s (leftBy o))
 
-  none-breaks : (n : ℕ) → n ≤ 12 → Breaks (record { answer = Refused (fault n); desk = s .desk; core = s .core })
-  none-breaks n h f q = (λ k. refl, λ k. absurd (omega (arith, same-fault q)))
+  none-breaks : (n : ℕ) → 1 ≤ n → n ≤ 12 → Breaks (record { answer = Refused (fault n); desk = s .desk; core = s .core })
+  none-breaks n l h f q =
+      ((omega (arith, same-fault q), omega (arith, same-fault q), λ k. refl), λ k. absurd (omega (arith, same-fault q)))
 
   module _ (ok : sound (s .desk) ≡ true) (e : length (s .core) ≡ coreLength (s .desk)) (h : holds (s .desk) r p ≡ true) where
     in-core : area .at .0 + area .size ≤ length (s .core)
@@ -184,28 +184,19 @@ module _ (s : State) (r p : ℕ) (block : List ℕ) where
       (λ g ok e h q f z.
       let w = block-laws .faults (loadIn (placeIn (s .desk) p)) (stageIn (placeIn (s .desk) p)) block (s .core) g q in
       let i : g .number ≡ f .number = ap codeOf z in
-      (λ k. absurd (omega arith), λ k. (omega arith, broken-off ok e h)))
+      ((omega arith, omega arith, λ k. absurd (omega arith)), λ k. broken-off ok e h))
 
 -- ---- the statements
-kept : (c : Call) (s : State) (f : Fault) → answerTo c s ≡ Refused f → f .number ≤ 12 → call c s ≡ s
-unfolding answerTo call
-kept (Open r a ios tables) s f q h =
-    let k = open-refuses (s .desk) (s .core) r a ios tables f q .1 in same-state s _ (k .0) (k .1)
-kept (Feed r p block) s f q h = feed-breaks s r p block f q .0 h
-kept (Release n r p) s f q h = same-state s _ (release-refuses (s .desk) n r p f q .1 .0) refl
-
 pub unchanged : Demand1Unchanged
-unchanged = (λ d n m f q. let k = make-refuses d n m f q in (k .0, k .1 .0), kept)
+unfolding answerTo call
+unchanged (Make n m) s f q =
+    let k = make-refuses (s .desk) n m f q in (k .0, k .1, λ h. same-state s _ (k .2 .0) refl)
+unchanged (Open r a ios tables) s f q =
+    let k = open-refuses (s .desk) (s .core) r a ios tables f q in (k .0, k .1, λ h. same-state s _ (k .2 .0) (k .2 .1))
+unchanged (Feed r p block) s f q = feed-breaks s r p block f q .0
+unchanged (Release n r p) s f q =
+    let k = release-refuses (s .desk) n r p f q in (k .0, k .1, λ h. same-state s _ (k .2 .0) refl)
 
 pub broken : Demand1Broken
 unfolding answerTo call
-broken = (
-  λ s r p block f q h. feed-breaks s r p block f q .1 h,
-  (
-    λ s r area ios tables f q. open-refuses (s .desk) (s .core) r area ios tables f q .0,
-    λ s n r p f q. release-refuses (s .desk) n r p f q .0,
-  ),
-)
-
-pub sound-kept : Demand1Sound
-sound-kept = (made-ready, call-ready block-laws feed-sound)
+broken s r p block f q h = feed-breaks s r p block f q .1 h

@@ -18,8 +18,8 @@ use Rattle.demands.specs.Demands.{Outside, Demand2Outside}
 use Rattle.demands.proofs.Held.{areaOf}
 use Rattle.demands.proofs.Views.{extent, extent-free, extent-held, outside-beside}
 use Rattle.demands.proofs.Reach.{feed-confined}
-use Rattle.demands.proofs.Loaded.{open-sorted}
-use Rattle.demands.proofs.Calls.{area-inside}
+use Rattle.demands.proofs.Outcomes.{open-sorted}
+use Rattle.demands.proofs.Ready.{area-inside}
 
 open-outside : (s : State) (j r : ℕ) (area : Area) (ios tables : List ℕ) → Outside area j
     → getD (call (Open r area ios tables) s .core) j 0 ≡ getD (s .core) j 0

@@ -1,14 +1,22 @@
--- Lives of loads, call by call: the hand deck in its room as 01 has it, two rooms interleaved, and a load that breaks beside one that completes.
+-- Lives of loads, event by event: the hand deck in its room as 01 has it, two rooms interleaved, a load that breaks beside one that
+-- completes, and a day in which programs run while others load. What each leads to is computed whole (`not-empty`, crate witness), so
+-- that the demands are not vacuous.
 use Prim.Native.Nat.{ℕ}
+use mathlib.Core.Path.{_≡_}
 use mathlib.Core.List.{List, [], _∷_}
-use lib.ListN.{replicate}
+use lib.ListN.{length, replicate, set}
+use Rattle.word.specs.Fault.{fault}
+use Rattle.word.specs.Lists.{splice, cleared}
 use Rattle.word.specs.declared.Area.{Area}
 use Rattle.layout.specs.Layout.{deskWords}
 use Rattle.calls.specs.declared.Answer.{Answer}
+use Rattle.calls.specs.declared.Answer.the-variants.{Refused, Made, Opened, More, Done, Released}
 use Rattle.hand_deck.specs.Blocks.{deckLabel, deckProgram, deckTermination}
 use Rattle.demands.specs.HandDeck.{deckGiven}
-use Rattle.demands.specs.History.{State, fresh, Call, Told}
-use Rattle.demands.specs.History.Call.{Open, Feed}
+use Rattle.demands.specs.Orders.{run}
+use Rattle.demands.specs.History.{State, Call, call, Event, event, Told, told}
+use Rattle.demands.specs.History.Call.{Make, Open, Feed, Release}
+use Rattle.demands.specs.History.Event.{Here, Elsewhere, Store}
 
 -- what C lends for a desk, and a core of 4,096 words, with something in each
 unfoldable pub oldDesk : List ℕ
@@ -17,6 +25,9 @@ oldDesk = replicate deskWords 9
 unfoldable pub oldCore : List ℕ
 oldCore = replicate 4096 5
 
+unfoldable pub old : State
+old = record { desk = oldDesk; core = oldCore }
+
 -- "room 0's stretch all of them, other stretches empty", and half of them each for rooms 0 and 1
 abbrev pub oneRoom : List ℕ
 oneRoom = 0 ∷ 4096 ∷ 0 ∷ 0 ∷ 0 ∷ 0 ∷ 0 ∷ 0 ∷ 0 ∷ 0 ∷ 0 ∷ 0 ∷ 0 ∷ 0 ∷ 0 ∷ 0 ∷ []
@@ -24,8 +35,8 @@ oneRoom = 0 ∷ 4096 ∷ 0 ∷ 0 ∷ 0 ∷ 0 ∷ 0 ∷ 0 ∷ 0 ∷ 0 ∷ 0 ∷ 0
 abbrev pub twoRooms : List ℕ
 twoRooms = 0 ∷ 2048 ∷ 2048 ∷ 2048 ∷ 0 ∷ 0 ∷ 0 ∷ 0 ∷ 0 ∷ 0 ∷ 0 ∷ 0 ∷ 0 ∷ 0 ∷ 0 ∷ 0 ∷ []
 
-unfoldable pub madeWith : List ℕ → State
-madeWith m = fresh oldDesk oldCore m
+abbrev pub make : List ℕ → Event
+make m = Here (Make 4096 m)
 
 -- the answers alone
 unfoldable pub answersIn : List Told → List Answer
@@ -37,37 +48,69 @@ abbrev pub otherArea : Area
 otherArea = record { at = record { 0 = 2560 }; size = 64 }
 
 -- room 0 feeds place 0, room 1 place 1
-abbrev pub open0 : Call
-open0 = Open 0 (deckGiven .area) [] []
+abbrev pub open0 : Event
+open0 = Here (Open 0 (deckGiven .area) [] [])
 
-abbrev pub open1 : Call
-open1 = Open 1 otherArea [] []
+abbrev pub open1 : Event
+open1 = Here (Open 1 otherArea [] [])
 
-abbrev pub fed0 : List ℕ → Call
-fed0 block = Feed 0 0 block
+abbrev pub fed0 : List ℕ → Event
+fed0 block = Here (Feed 0 0 block)
 
-abbrev pub fed1 : List ℕ → Call
-fed1 block = Feed 1 1 block
+abbrev pub fed1 : List ℕ → Event
+fed1 block = Here (Feed 1 1 block)
 
 -- the hand deck
-abbrev pub deckFeeds : List Call
+abbrev pub deckFeeds : List Event
 deckFeeds = fed0 deckLabel ∷ fed0 deckProgram ∷ fed0 deckTermination ∷ []
 
-abbrev pub deckLife : List Call
-deckLife = open0 ∷ deckFeeds
+abbrev pub deckLife : List Event
+deckLife = make oneRoom ∷ open0 ∷ deckFeeds
 
 -- both rooms load it, interleaved
-abbrev pub byTurns : List Call
+abbrev pub byTurns : List Event
 byTurns =
-    open0 ∷ open1
+    make twoRooms ∷ open0 ∷ open1
     ∷ fed0 deckLabel ∷ fed1 deckLabel
     ∷ fed1 deckProgram ∷ fed0 deckProgram
     ∷ fed0 deckTermination ∷ fed1 deckTermination ∷ []
 
 -- room 0 feeds its program block again where the termination block is due, and then goes on
-abbrev pub oneBroken : List Call
+abbrev pub oneBroken : List Event
 oneBroken =
-    open0 ∷ open1
+    make twoRooms ∷ open0 ∷ open1
     ∷ fed0 deckLabel ∷ fed1 deckLabel
     ∷ fed0 deckProgram ∷ fed0 deckProgram
     ∷ fed1 deckProgram ∷ fed0 deckTermination ∷ fed1 deckTermination ∷ []
+
+-- room 1's program is loaded and stores into its own area while room 0 loads; a call of room 1 is lent a core of two words; a make is
+-- given a map of no numbers; and room 1 gives its place back
+abbrev pub whileItLoads : List Event
+whileItLoads =
+    fed0 deckLabel
+    ∷ Store 2600 77
+    ∷ fed0 deckProgram
+    ∷ Elsewhere (1 ∷ 2 ∷ []) (Feed 1 1 deckLabel)
+    ∷ Here (Make 4096 [])
+    ∷ Here (Release 4096 1 1)
+    ∷ fed0 deckTermination ∷ []
+
+abbrev pub dayLife : List Event
+dayLife = make twoRooms ∷ open0 ∷ open1 ∷ fed1 deckLabel ∷ fed1 deckProgram ∷ fed1 deckTermination ∷ whileItLoads
+
+-- what they lead to
+pub record NotEmpty : Type 0 where
+  pub deck : answersIn (told deckLife old) ≡ Made ∷ Opened 0 ∷ More ∷ More ∷ Done (record { 0 = 512 }) ∷ []
+  pub deck-left : run event deckLife old .core ≡ splice oldCore 512 (519 ∷ replicate 63 0)
+  pub turns : answersIn (told byTurns old)
+      ≡ Made ∷ Opened 0 ∷ Opened 1 ∷ More ∷ More ∷ More ∷ More ∷ Done (record { 0 = 512 }) ∷ Done (record { 0 = 2560 }) ∷ []
+  pub turns-left : run event byTurns old .core ≡ splice (splice oldCore 512 (519 ∷ replicate 63 0)) 2560 (2567 ∷ replicate 63 0)
+  pub broken : answersIn (told oneBroken old)
+      ≡ Made ∷ Opened 0 ∷ Opened 1 ∷ More ∷ More ∷ More ∷ Refused (fault 13) ∷ More ∷ Refused (fault 10)
+      ∷ Done (record { 0 = 2560 }) ∷ []
+  pub broken-left : run event oneBroken old .core ≡ splice (cleared oldCore 512 64) 2560 (2567 ∷ replicate 63 0)
+  pub day : answersIn (told dayLife old)
+      ≡ Made ∷ Opened 0 ∷ Opened 1 ∷ More ∷ More ∷ Done (record { 0 = 2560 })
+      ∷ More ∷ More ∷ Refused (fault 2) ∷ Refused (fault 3) ∷ Released ∷ Done (record { 0 = 512 }) ∷ []
+  pub day-left : run event dayLife old .core
+      ≡ set (splice (splice oldCore 512 (519 ∷ replicate 63 0)) 2560 (2567 ∷ replicate 63 0)) 2600 77

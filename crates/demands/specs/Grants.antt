@@ -1,48 +1,38 @@
--- Who holds how many places, counted from the grants and releases of a history alone, not from the desk's numbers: "Say F places are free
--- and H rooms hold none".
+-- Who holds how many places, counted from the grants and releases since the desk was last made, not from the desk's numbers: "Say F places
+-- are free and H rooms hold none".
 use Prim.Native.Nat.{ℕ, zero, suc, _+_, _-_}
-use mathlib.Core.Bool.{cond}
+use mathlib.Core.Bool.{Bool, false, cond}
 use mathlib.Core.List.{List, [], _∷_}
 use lib.Dec.{eqb}
 use Rattle.word.specs.Limits.{roomCount, placeCount}
 use Rattle.calls.specs.declared.Answer.{Answer}
 use Rattle.calls.specs.declared.Answer.the-variants.{Refused, Made, Opened, More, Done, Released}
-use Rattle.demands.specs.History.{Call, Told}
-use Rattle.demands.specs.History.Call.{Open, Feed, Release}
+use Rattle.demands.specs.History.{Call, Told, isMade}
+use Rattle.demands.specs.History.Call.{Make, Open, Feed, Release}
 
--- 1 where a call of room r was answered `opened`
-abbrev pub grantIn : ℕ → Call → Answer → ℕ
-grantIn r (Open q area ios tables) (Opened p) = cond (eqb q r) 1 0
-grantIn r (Open q area ios tables) (Refused f) = 0
-grantIn r (Open q area ios tables) Made = 0
-grantIn r (Open q area ios tables) More = 0
-grantIn r (Open q area ios tables) (Done a) = 0
-grantIn r (Open q area ios tables) Released = 0
-grantIn r (Feed q k block) answer = 0
-grantIn r (Release n q k) answer = 0
+-- a call of room r
+abbrev pub isOf : ℕ → Call → Bool
+isOf r (Make n m) = false
+isOf r (Open q area ios tables) = eqb q r
+isOf r (Feed q k block) = eqb q r
+isOf r (Release n q k) = eqb q r
 
--- 1 where one was answered `released`
-abbrev pub releaseIn : ℕ → Call → Answer → ℕ
-releaseIn r (Open q area ios tables) answer = 0
-releaseIn r (Feed q k block) answer = 0
-releaseIn r (Release n q k) Released = cond (eqb q r) 1 0
-releaseIn r (Release n q k) (Refused f) = 0
-releaseIn r (Release n q k) Made = 0
-releaseIn r (Release n q k) (Opened p) = 0
-releaseIn r (Release n q k) More = 0
-releaseIn r (Release n q k) (Done a) = 0
+-- what room r holds after a call, if it held n places before: `opened` adds one, `released` takes one, and on a new desk it holds none
+abbrev pub heldThen : ℕ → ℕ → Call → Answer → ℕ
+heldThen r n c (Refused f) = n
+heldThen r n c Made = 0
+heldThen r n c (Opened p) = cond (isOf r c) (n + 1) n
+heldThen r n c More = n
+heldThen r n c (Done a) = n
+heldThen r n c Released = cond (isOf r c) (n - 1) n
 
-unfoldable pub grants : ℕ → List Told → ℕ
-grants r [] = 0
-grants r (t ∷ ts) = grantIn r (t .call) (t .answer) + grants r ts
+unfoldable pub heldAfter : ℕ → ℕ → List Told → ℕ
+heldAfter r n [] = n
+heldAfter r n (t ∷ ts) = heldAfter r (heldThen r n (t .call) (t .answer)) ts
 
-unfoldable pub releases : ℕ → List Told → ℕ
-releases r [] = 0
-releases r (t ∷ ts) = releaseIn r (t .call) (t .answer) + releases r ts
-
--- how many places room r holds
-unfoldable pub heldBy : ℕ → List Told → ℕ
-heldBy r ts = grants r ts - releases r ts
+-- how many places room r holds, where nobody held one before
+abbrev pub heldBy : ℕ → List Told → ℕ
+heldBy r ts = heldAfter r 0 ts
 
 -- how many the first n rooms hold, and how many of them hold none
 unfoldable pub heldByAll : ℕ → List Told → ℕ
@@ -59,3 +49,14 @@ freePlaces ts = placeCount - heldByAll roomCount ts
 
 unfoldable pub idleRooms : List Told → ℕ
 idleRooms ts = noneOf roomCount ts
+
+-- ---- the core length that the desk was last made with, if it was n before
+abbrev pub coreThen : ℕ → Call → Answer → ℕ
+coreThen n (Make k m) answer = cond (isMade answer) k n
+coreThen n (Open q area ios tables) answer = n
+coreThen n (Feed q k block) answer = n
+coreThen n (Release k q p) answer = n
+
+unfoldable pub coreAfter : ℕ → List Told → ℕ
+coreAfter n [] = n
+coreAfter n (t ∷ ts) = coreAfter (coreThen n (t .call) (t .answer)) ts

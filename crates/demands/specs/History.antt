@@ -1,9 +1,10 @@
--- A history of calls on one desk and one core, and what can be told of it from the calls and their answers alone.
-use Prim.Native.Nat.{ℕ}
-use mathlib.Core.Bool.{Bool, true, false, cond, _&&_}
+-- A history: what happens to one desk, and to the one core that we follow. And what can be told of it from the calls and their answers
+-- alone.
+use Prim.Native.Nat.{ℕ, _+_}
+use mathlib.Core.Bool.{Bool, true, false, not, cond, _&&_, _||_}
 use mathlib.Core.List.{List, [], _∷_}
-use lib.ListN.{length}
-use lib.Dec.{eqb}
+use lib.ListN.{set}
+use lib.Dec.{eqb, leb, ltb}
 use Rattle.word.specs.declared.Absolute.{Absolute}
 use Rattle.word.specs.declared.Area.{Area}
 use Rattle.calls.specs.declared.Answer.{Answer}
@@ -17,36 +18,57 @@ pub record State : Type 0 where
   pub desk : List ℕ
   pub core : List ℕ
 
--- a made desk, with its core
-abbrev pub fresh : List ℕ → List ℕ → List ℕ → State
-fresh d core m = record { desk = makeOf d (length core) m .desk; core = core }
-
--- the calls that are made once there is a desk, with any arguments. Release is given the core's length as a number.
+-- the four calls, with any arguments. Make and release are not lent the core: they are given its length as a number.
 pub data Call : Type 0 where
+  Make : ℕ → List ℕ → Call
   Open : ℕ → Area → List ℕ → List ℕ → Call
   Feed : ℕ → ℕ → List ℕ → Call
   Release : ℕ → ℕ → ℕ → Call
 
--- the answer to a call, and the state that it leaves; release is not lent the core
+-- the answer to a call, and the state that it leaves
 unfoldable pub answerTo : Call → State → Answer
+answerTo (Make n m) s = makeOf (s .desk) n m .answer
 answerTo (Open r area ios tables) s = openOf (s .desk) (s .core) r area ios tables .answer
 answerTo (Feed r p block) s = feedOf (s .desk) (s .core) r p block .answer
 answerTo (Release n r p) s = releaseOf (s .desk) n r p .answer
 
 unfoldable pub call : Call → State → State
+call (Make n m) s = record { desk = makeOf (s .desk) n m .desk; core = s .core }
 call (Open r area ios tables) s =
     record { desk = openOf (s .desk) (s .core) r area ios tables .desk; core = openOf (s .desk) (s .core) r area ios tables .core }
 call (Feed r p block) s = record { desk = feedOf (s .desk) (s .core) r p block .desk; core = feedOf (s .desk) (s .core) r p block .core }
 call (Release n r p) s = record { desk = releaseOf (s .desk) n r p .desk; core = s .core }
 
--- the calls with their answers
+-- ---- what happens: a call on the desk that is lent the core that we follow; one that is lent another core; and a store from outside, such
+-- as a running program makes: address and value. Nothing else writes to the desk.
+pub data Event : Type 0 where
+  Here : Call → Event
+  Elsewhere : List ℕ → Call → Event
+  Store : ℕ → ℕ → Event
+
+-- our desk beside another core
+abbrev pub lent : List ℕ → State → State
+lent other s = record { desk = s .desk; core = other }
+
+-- a store past the core's end changes no word of it
+unfoldable pub event : Event → State → State
+event (Here c) s = call c s
+event (Elsewhere other c) s = record { desk = call c (lent other s) .desk; core = s .core }
+event (Store j v) s = record { desk = s .desk; core = set (s .core) j v }
+
+-- ---- the calls with their answers
 pub record Told : Type 0 where
   pub call : Call
   pub answer : Answer
 
-unfoldable pub told : List Call → State → List Told
+abbrev pub toldBy : Event → State → List Told → List Told
+toldBy (Here c) s rest = record { call = c; answer = answerTo c s } ∷ rest
+toldBy (Elsewhere other c) s rest = record { call = c; answer = answerTo c (lent other s) } ∷ rest
+toldBy (Store j v) s rest = rest
+
+unfoldable pub told : List Event → State → List Told
 told [] s = []
-told (c ∷ cs) s = record { call = c; answer = answerTo c s } ∷ told cs (call c s)
+told (e ∷ es) s = toldBy e s (told es (event e s))
 
 -- ---- of one load, at place p and of room r, from what was told
 
@@ -60,6 +82,7 @@ accepts (Done a) = true
 accepts Released = false
 
 abbrev pub takenIn : ℕ → ℕ → Call → Answer → List (List ℕ) → List (List ℕ)
+takenIn r p (Make n m) answer rest = rest
 takenIn r p (Open q area ios tables) answer rest = rest
 takenIn r p (Feed q k block) answer rest = cond (eqb q r && (eqb k p && accepts answer)) (block ∷ rest) rest
 takenIn r p (Release n q k) answer rest = rest
@@ -79,6 +102,7 @@ withStart (Done a) rest = a ∷ rest
 withStart Released rest = rest
 
 abbrev pub startsIn : ℕ → ℕ → Call → Answer → List Absolute → List Absolute
+startsIn r p (Make n m) answer rest = rest
 startsIn r p (Open q area ios tables) answer rest = rest
 startsIn r p (Feed q k block) answer rest = cond (eqb q r && eqb k p) (withStart answer rest) rest
 startsIn r p (Release n q k) answer rest = rest
@@ -87,7 +111,7 @@ unfoldable pub starts : ℕ → ℕ → List Told → List Absolute
 starts r p [] = []
 starts r p (t ∷ ts) = startsIn r p (t .call) (t .answer) (starts r p ts)
 
--- whether its place was given back
+-- whether the load is gone: its place was given back, or the desk was made anew
 abbrev pub isReleased : Answer → Bool
 isReleased (Refused f) = false
 isReleased Made = false
@@ -96,11 +120,36 @@ isReleased More = false
 isReleased (Done a) = false
 isReleased Released = true
 
-abbrev pub releasedIn : ℕ → ℕ → Call → Answer → Bool → Bool
-releasedIn r p (Open q area ios tables) answer rest = rest
-releasedIn r p (Feed q k block) answer rest = rest
-releasedIn r p (Release n q k) answer rest = cond (eqb q r && (eqb k p && isReleased answer)) true rest
+abbrev pub isMade : Answer → Bool
+isMade (Refused f) = false
+isMade Made = true
+isMade (Opened p) = false
+isMade More = false
+isMade (Done a) = false
+isMade Released = false
 
-unfoldable pub released : ℕ → ℕ → List Told → Bool
-released r p [] = false
-released r p (t ∷ ts) = releasedIn r p (t .call) (t .answer) (released r p ts)
+abbrev pub endedBy : ℕ → ℕ → Call → Answer → Bool
+endedBy r p (Make n m) answer = isMade answer
+endedBy r p (Open q area ios tables) answer = false
+endedBy r p (Feed q k block) answer = false
+endedBy r p (Release n q k) answer = eqb q r && (eqb k p && isReleased answer)
+
+unfoldable pub ended : ℕ → ℕ → List Told → Bool
+ended r p [] = false
+ended r p (t ∷ ts) = endedBy r p (t .call) (t .answer) || ended r p ts
+
+-- ---- what does a load no harm: any call that is lent its core; a call that is lent another one, if it is not the load's own feed; and a
+-- store outside its area
+abbrev pub feedsIt : ℕ → ℕ → Call → Bool
+feedsIt r p (Make n m) = false
+feedsIt r p (Open q area ios tables) = false
+feedsIt r p (Feed q k block) = eqb q r && eqb k p
+feedsIt r p (Release n q k) = false
+
+abbrev pub isIn : Area → ℕ → Bool
+isIn area j = leb (area .at .0) j && ltb j (area .at .0 + area .size)
+
+abbrev pub harmless : ℕ → ℕ → Area → Event → Bool
+harmless r p area (Here c) = true
+harmless r p area (Elsewhere other c) = not (feedsIt r p c)
+harmless r p area (Store j v) = not (isIn area j)

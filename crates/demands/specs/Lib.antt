@@ -1,6 +1,8 @@
 pub mod Image
 pub mod Orders
 pub mod History
+pub mod Opening
+pub mod Feeding
 pub mod Grants
 pub mod Taking
 pub mod HandDeck

@@ -26,7 +26,8 @@ use Rattle.records.proofs.Fits.{label-fits, entry-fits, label-not-done, entry-n
 use Rattle.lists.specs.Load.{Load}
 use Rattle.sections.specs.Program.{StepOutcome, programStep}
 use Rattle.sections.proofs.Turns.{Stands}
-use Rattle.sections.proofs.Blocks.{program-fits, program-not-done, program-faults, program-length, program-area, program-same, program-alike}
+use Rattle.sections.proofs.Blocks.{program-fits, program-not-done, program-faults, program-length, program-area, program-same, program-words, program-alike}
+use Rattle.group.proofs.Stored.{StoredWords, stored-none}
 use Rattle.feed.specs.Block.{storesNothing, dueStep, blockStep}
 use Rattle.feed.proofs.Laws.{Fit, Holds, Alike, BlockLaws}
 
@@ -110,6 +111,8 @@ block-laws = record {
       (λ c due e. program-same x block c due core other (standing x s c due core e f h) (standing x s c due other e f k));
   same-words = λ x s block core other f h k a. block-cases x block (λ (g : List ℕ → StepOutcome). Alike x (g core .core) (g other .core)) (λ r. a) s
       (λ c due e. program-alike x block c due core other (standing x s c due core e f h) (standing x s c due other e f k) a);
+  words = λ x s block core f h w. block-cases x block (λ (g : List ℕ → StepOutcome). StoredWords core (g core .core)) (λ r. stored-none core) s
+      (λ c due e. program-words x block w c due core (standing x s c due core e f h));
   starts = λ x s block core a. due-or-13 x block core s (λ (r : Step). r ≡ Done a → a ≡ absoluteOf (x .area) (startOf block))
       (λ q. let z : _≡_ {A = ℕ} 0 1 = cc in absurd (omega arith)) (due-starts x block core s a);
 }

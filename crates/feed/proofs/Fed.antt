@@ -71,21 +71,21 @@ verdict-pass r block = verdict-cases r block (λ v. v ≡ Pass → (length block
     (λ q. let z : _≡_ {A = ℕ} 0 1 = cc in absurd (omega arith))
 
 -- ---- every outcome of feed is a refusal that changes nothing, or what a block leads to at a held place
-module _ (d core block : List ℕ) (r p : ℕ) (P : Outcome → Type 0) (none : (n : ℕ) → n ≤ 12 → P (refused n d core))
+module _ (d core block : List ℕ) (r p : ℕ) (P : Outcome → Type 0) (none : (n : ℕ) → 1 ≤ n → n ≤ 12 → P (refused n d core))
     (takes : sound d ≡ true → length core ≡ coreLength d → holds d r p ≡ true → isOver (stageIn (placeIn d p)) ≡ false → length block ≡ 256
     → every isWord block ≡ true → P (takenOf d core p (loadIn (placeIn d p)) (stageIn (placeIn d p)) block)) where
   pub feed-outcomes : P (feedOf d core r p block)
   unfolding feedOf heldOf checkedOf
   feed-outcomes =
-      entered-cases d (length core) r core _ P (λ m h. none m (omega arith))
+      entered-cases d (length core) r core _ P (λ m l h. none m l (omega arith))
       (λ k. when P (holds d r p)
       (λ h. when P (isOver (stageIn (placeIn d p)))
-      (λ o. none 10 (omega arith))
+      (λ o. none 10 (omega arith) (omega arith))
       (λ o. verdict-cases (recordDue (stageIn (placeIn d p))) block (λ v. P (checkedOf d core (takenOf d core p (loadIn (placeIn d p)) (stageIn (placeIn d p)) block) v))
       (λ l w. takes (k .desk) (k .core) h o l w)
-      (none 11 (omega arith))
-      (none 12 (omega arith))))
-      (λ h. none 9 (omega arith)))
+      (none 11 (omega arith) (omega arith))
+      (none 12 (omega arith) (omega arith))))
+      (λ h. none 9 (omega arith) (omega arith)))
 
 -- a stage in range is written
 written-sound : (d : List ℕ) (p : ℕ) (t : Stage) → sound d ≡ true → p < 12
@@ -115,7 +115,7 @@ module _ (d core block : List ℕ) (r p : ℕ) where
   abbrev due : Stage
   due = stageIn (placeIn d p)
 
-  module _ (P : Outcome → Type 0) (none : (n : ℕ) → n ≤ 12 → P (refused n d core))
+  module _ (P : Outcome → Type 0) (none : (n : ℕ) → 1 ≤ n → n ≤ 12 → P (refused n d core))
       (more : (t : Stage) → sound d ≡ true → length core ≡ coreLength d → holds d r p ≡ true → blockStep load due block core .step ≡ step-more t
       → P (record { answer = More; desk = staged d p t; core = blockStep load due block core .core }))
       (done : (a : Absolute) → sound d ≡ true → length core ≡ coreLength d → holds d r p ≡ true → blockStep load due block core .step ≡ step-done a
@@ -130,21 +130,21 @@ module _ (d core block : List ℕ) (r p : ℕ) where
 
   -- the desk stays sound
   pub feed-sound : sound d ≡ true → sound (feedOf d core r p block .desk) ≡ true
-  feed-sound s = feed-cases (λ (o : Outcome). sound (o .desk) ≡ true) (λ n h. s)
+  feed-sound s = feed-cases (λ (o : Outcome). sound (o .desk) ≡ true) (λ n k h. s)
       (λ t _ e h q. let k = holds-place d r p h in written-sound d p t s (k .0) (block-laws .fits load due t block core (held-fit d s p (k .0) (k .1)) q))
       (λ a _ e h q. written-sound d p Complete s (holds-place d r p h .0) (unfold stageFits in refl))
       (λ f _ e h q. written-sound d p Broken s (holds-place d r p h .0) (unfold stageFits in refl))
 
   -- the core keeps its length
   pub feed-long : length (feedOf d core r p block .core) ≡ length core
-  feed-long = feed-cases (λ (o : Outcome). length (o .core) ≡ length core) (λ n h. refl)
+  feed-long = feed-cases (λ (o : Outcome). length (o .core) ≡ length core) (λ n k h. refl)
       (λ t s e h q. let k = holds-place d r p h in block-laws .long load due block core (held-fit d s p (k .0) (k .1)) (rw e (held-inside d s p (k .0) (k .1))))
       (λ a s e h q. let k = holds-place d r p h in block-laws .long load due block core (held-fit d s p (k .0) (k .1)) (rw e (held-inside d s p (k .0) (k .1))))
       (λ f s e h q. let k = holds-place d r p h in length-cleared core (load .area .at .0) (load .area .size) (rw e (held-inside d s p (k .0) (k .1))))
 
   -- the answer fits into one number
   pub feed-small : Small (feedOf d core r p block .answer)
-  feed-small = feed-cases (λ (o : Outcome). Small (o .answer)) (λ n h. omega arith)
+  feed-small = feed-cases (λ (o : Outcome). Small (o .answer)) (λ n k h. omega arith)
       (λ t s e h q. tt)
       (λ a s e h q. let k = holds-place d r p h in
       rw (block-laws .starts load due block core a q) (start-small (load .area) block (omega (arith, held-inside d s p (k .0) (k .1), core-small d s))))

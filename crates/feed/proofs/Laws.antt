@@ -6,11 +6,13 @@ use mathlib.Core.List.{List}
 use lib.ListN.{length, getD}
 use Rattle.word.specs.Lists.{every}
 use Rattle.word.specs.Sorts.{absoluteOf}
+use Rattle.word.specs.Word.{isWord}
 use Rattle.word.specs.declared.Absolute.{Absolute}
 use Rattle.word.specs.declared.Fault.{Fault}
 use Rattle.word.proofs.Stretch.{Beside}
 use Rattle.program.specs.Start.{startOf}
 use Rattle.lists.specs.Obey.{tableInside}
+use Rattle.group.proofs.Stored.{StoredWords}
 use Rattle.stage.specs.declared.Stage.{Stage}
 use Rattle.stage.specs.Ranges.{stageFits}
 use Rattle.stage.specs.declared.Step.the-variants.{More, Done, Refused}
@@ -42,5 +44,8 @@ pub record BlockLaws : Type 0 where
       → blockStep x s block core .step ≡ blockStep x s block other .step
   pub same-words : (x : Load) (s : Stage) (block core other : List ℕ) → Fit x s → Holds x core → Holds x other → Alike x core other
       → Alike x (blockStep x s block core .core) (blockStep x s block other .core)
+  -- what is stored is words below 2^36, where the block's are
+  pub words : (x : Load) (s : Stage) (block core : List ℕ) → Fit x s → Holds x core → every isWord block ≡ true
+      → StoredWords core (blockStep x s block core .core)
   pub starts : (x : Load) (s : Stage) (block core : List ℕ) (a : Absolute) → blockStep x s block core .step ≡ Done a
       → a ≡ absoluteOf (x .area) (startOf block)

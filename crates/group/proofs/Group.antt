@@ -15,7 +15,7 @@ use Rattle.word.specs.Lists.{every, splice, cleared}
 use Rattle.word.specs.Word.{isWord}
 use Rattle.word.proofs.Cases.{and-left, and-right, when}
 use Rattle.word.proofs.Lists.{length-range, length-range-most, length-splice, getD-splice-in}
-use Rattle.word.proofs.Stretch.{Beside, length-cleared, getD-splice-beside, getD-cleared-beside, every-splice, every-cleared, every-range}
+use Rattle.word.proofs.Stretch.{Beside, length-cleared, getD-splice-beside, getD-cleared-beside, every-range}
 use Rattle.program.specs.declared.Group.{Group}
 use Rattle.program.specs.declared.GroupRead.{GroupRead}
 use Rattle.program.specs.declared.GroupRead.the-variants.{Good, Bad}
@@ -26,6 +26,7 @@ use Rattle.group.specs.declared.GroupStep.the-variants.{Done, Refused}
 use Rattle.group.specs.declared.Section.{Section}
 use Rattle.group.specs.Group.{Words, changedWords, programWords, indicatorBitsIn, inOneBlock, holdsProgram, wordsLie, indicatorsFit, groupFits, GroupOutcome, GroupMeets, addressOf, refusedGroup, storedGroup, groupOutcome, readOutcome, groupStep, InArea}
 use Rattle.group.specs.Group.Words.{Become, Refuse}
+use Rattle.group.proofs.Stored.{StoredWords, stored-none, stored-splice, stored-cleared}
 use Rattle.group.proofs.Places.{Lies, words-lie}
 use Rattle.group.proofs.Words.{changed-many, changed-below}
 
@@ -160,14 +161,14 @@ module _ (a : Assignments) (section : Section) (block : List ℕ) (i : ℕ) wher
     group-area j b = group-beside j
         (λ g to h. let l = goes-lies g to h in ⊎-elim (λ x. inl (omega (arith, l .low))) (λ x. inr (omega (arith, l .high))) b)
 
-    -- a core of words below 2^36 stays one
-    pub group-words : every isWord block ≡ true → every isWord core ≡ true → every isWord (groupStep a section block i core .core) ≡ true
-    group-words w c = group-outcomes core (λ (o : GroupOutcome). every isWord (o .core) ≡ true) (λ f. c)
-        (λ g to f h. let l = goes-lies g to h in every-cleared isWord core (to .0) (g .program) (omega (arith, l .high)) c refl)
+    -- what it stores is words below 2^36, whatever the core held
+    pub group-words : every isWord block ≡ true → StoredWords core (groupStep a section block i core .core)
+    group-words w = group-outcomes core (λ (o : GroupOutcome). StoredWords core (o .core)) (λ f. stored-none core)
+        (λ g to f h. let l = goes-lies g to h in stored-cleared core (to .0) (g .program) (omega (arith, l .high)))
         (λ g to vs h t e.
         let l = goes-lies g to h in
         let n = gives-few g vs e in
-        every-splice isWord core (to .0) vs (omega (arith, l .high)) c
+        stored-splice core (to .0) vs (omega (arith, l .high))
         (rw e at (changed-below a (indicatorBitsIn block i g) 0 (programWords block i g) (every-range isWord block (i + 1) (g .program) w))))
 
     -- where it answers `Done`, each of its words stands in the core, whatever stood there

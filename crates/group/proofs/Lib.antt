@@ -7,4 +7,5 @@ pub mod Loop
 pub mod LoopTurn
 pub mod Places
 pub mod Steps
+pub mod Stored
 pub mod Words

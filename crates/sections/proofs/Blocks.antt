@@ -15,6 +15,7 @@ use Rattle.word.proofs.Stretch.{Beside}
 use Rattle.group.proofs.Acts.{Alike, group-same, group-alike}
 use Rattle.group.proofs.Faults.{Among}
 use Rattle.group.proofs.Group.{group-area, group-words}
+use Rattle.group.proofs.Stored.{StoredWords, stored-none, stored-then}
 use Rattle.stage.specs.declared.LabelCounts.{LabelCounts}
 use Rattle.stage.specs.declared.Due.{Due}
 use Rattle.stage.specs.declared.Stage.{Stage}
@@ -104,12 +105,12 @@ module _ (x : Load) (block : List ℕ) where
       (λ c due i core w. item-cases x block i (λ (f : List ℕ → ItemOutcome). getD (f core .core) j 0 ≡ getD core j 0) (λ it. refl) c
       (λ same least ibank section room. group-area (assignments x c) section block i core room (w .inside) j o) due (w .tables) (w .stage))
 
-  -- a core of words below 2^36 stays one
-  pub program-words : every isWord block ≡ true → (c : LabelCounts) (due : Due) (core : List ℕ) → Stands x (Program c due) core → every isWord core ≡ true
-      → every isWord (programStep x c due block core .core) ≡ true
-  program-words words = program-keeps (λ (a b : List ℕ). every isWord a ≡ true → every isWord b ≡ true) (λ core h. h) (λ a b c h k m. k (h m))
-      (λ c due i core w h. item-cases x block i (λ (f : List ℕ → ItemOutcome). every isWord (f core .core) ≡ true) (λ it. h) c
-      (λ same least ibank section room. group-words (assignments x c) section block i core room (w .inside) words h) due (w .tables) (w .stage))
+  -- what is stored is words below 2^36, whatever the core held
+  pub program-words : every isWord block ≡ true → (c : LabelCounts) (due : Due) (core : List ℕ) → Stands x (Program c due) core
+      → StoredWords core (programStep x c due block core .core)
+  program-words words = program-keeps StoredWords stored-none stored-then
+      (λ c due i core w. item-cases x block i (λ (f : List ℕ → ItemOutcome). StoredWords core (f core .core)) (λ it. stored-none core) c
+      (λ same least ibank section room. group-words (assignments x c) section block i core room (w .inside) words) due (w .tables) (w .stage))
 
 -- ---- two cores that a load could have
 module _ (x : Load) (block : List ℕ) where

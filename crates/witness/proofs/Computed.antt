@@ -2,7 +2,7 @@
 use Prim.Native.Nat.{ℕ}
 use mathlib.Core.Path.{_≡_, refl}
 use mathlib.Core.List.{List, [], _∷_, flatMap}
-use lib.ListN.{replicate, length}
+use lib.ListN.{replicate, length, set}
 use Rattle.word.specs.Fault.{fault}
 use Rattle.word.specs.Lists.{every, everyTwo, range, tab, splice, cleared}
 use Rattle.word.specs.Runs.{within, apart}
@@ -37,23 +37,24 @@ use Rattle.map.specs.Map.{stretchOf, mapOf, inCore, stretchesApart, mapObeys}
 use Rattle.rooms.specs.Rooms.{hit, count, free, held, heldEach, idle, atMost, fair, placeRefusal, lowestFree}
 use Rattle.layout.specs.Layout.{mapNumbers, holders, places, placeIn, ownOf, stageIn, listsIn, holds}
 use Rattle.desk.specs.Sound.{areaIn, countsFit, loadFits, heldFits, placeFits, areasApart, sound}
-use Rattle.calls.specs.declared.Answer.the-variants.{Refused, Made, Opened, More, Done}
+use Rattle.calls.specs.declared.Answer.the-variants.{Refused, Made, Opened, More, Done, Released}
 use Rattle.calls.specs.Entry.{entryRefusal, entered}
 use Rattle.calls.specs.Make.{freed, freshDesk, makeOf}
 use Rattle.calls.specs.Open.{besideOwn, areaFits, openedOwn, openedPlace, openedDesk, opened, grantOf, openOf}
+use Rattle.calls.specs.Release.{releaseOf}
 use Rattle.feed.specs.Block.{dueStep, blockStep}
 use Rattle.feed.specs.Feed.{loadIn, staged, settledOf, takenOf, checkedOf, heldOf, feedOf}
 use Rattle.hand_deck.specs.Blocks.{withWords, blank, deckLabel, deckProgram, deckTermination, deckFile}
 use Rattle.demands.specs.HandDeck.{deckGiven}
-use Rattle.demands.specs.Image.{imageOf, fileStart}
+use Rattle.demands.specs.Image.{fileStart}
 use Rattle.demands.specs.Orders.{run}
-use Rattle.demands.specs.History.{Call, Told, answerTo, call, told, taken, starts, released}
-use Rattle.demands.specs.Demands.{NotEmpty}
-use Rattle.demands.specs.Examples.{oldDesk, oldCore, oneRoom, twoRooms, madeWith, answersIn, open0, deckFeeds, deckLife, byTurns, oneBroken}
+use Rattle.demands.specs.History.{State, answerTo, call, Event, event, Told, told, taken, starts, ended}
+use Rattle.demands.specs.Opening.{Opening, granted, imageSince, areaWords}
+use Rattle.demands.specs.Examples.{oldDesk, oldCore, old, oneRoom, twoRooms, make, answersIn, otherArea, open1, fed1, deckFeeds, deckLife, byTurns, oneBroken, whileItLoads, dayLife, NotEmpty}
 use Rattle.demands.proofs.Demands.{demand-2}
 
 -- a history, with every definition that computing it opens; a proof that unfolds it opens them all
-computed : List ℕ → List Call → List Told
+computed : List Event → List Told
 unfolding every everyTwo range tab splice cleared within apart characters spelt modification program termination sumOf verdict sealVerdict
     isName isRest letterOrDigit
     tableWordsIn tableWords tablesInOrder entriesOf countsOf withinLimits
@@ -65,71 +66,45 @@ unfolding every everyTwo range tab splice cleared within apart characters spelt 
     programFrom programStep stretchOf mapOf inCore stretchesApart mapObeys hit count free held heldEach idle atMost fair placeRefusal
     lowestFree mapNumbers holders places placeIn ownOf stageIn listsIn iosIn wordsIn ranksIn coreTables ioNumbers keptLists areaIn countsFit loadFits heldFits placeFits areasApart
     sound freed freshDesk makeOf besideOwn areaFits openedOwn openedPlace openedDesk opened grantOf openOf entryRefusal entered holds dueStep blockStep
-    loadIn staged settledOf takenOf checkedOf heldOf feedOf withWords blank deckLabel deckProgram deckTermination run answerTo call told oldDesk oldCore
-    madeWith answersIn taken starts released
-computed m cs = told cs (madeWith m)
+    loadIn staged settledOf takenOf checkedOf heldOf feedOf withWords blank deckLabel deckProgram deckTermination run answerTo call event told oldDesk oldCore
+    old answersIn taken starts ended releaseOf
+computed es = told es old
 
--- ---- the hand deck: "0 more, 1 more, 2 done 512". Its one program word is 7, with the area's address added to its right field.
-pub made-one : makeOf oldDesk (length oldCore) oneRoom .answer ≡ Made
+-- ---- what the histories lead to, each by computing
+pub not-empty : NotEmpty
 unfolding computed
-made-one = refl
+not-empty = record {
+  deck = refl;
+  deck-left = refl;
+  turns = refl;
+  turns-left = refl;
+  broken = refl;
+  broken-left = refl;
+  day = refl;
+  day-left = refl;
+}
 
-pub deck-answers : answersIn (told deckLife (madeWith oneRoom)) ≡ Opened 0 ∷ More ∷ More ∷ Done (record { 0 = 512 }) ∷ []
-unfolding computed
-deck-answers = refl
+-- ---- so Demand 2 speaks of them: what it asks is computed, and the image is what it then says
+abbrev pub opening : State → Opening
+opening s = record { before = s; room = 0; area = deckGiven .area; ios = []; tables = []; place = 0 }
 
-pub deck-core : run call deckLife (madeWith oneRoom) .core ≡ splice oldCore 512 (519 ∷ replicate 63 0)
-unfolding computed
-deck-core = refl
+abbrev pub deckOpening : Opening
+deckOpening = opening (run event (make oneRoom ∷ []) old)
 
--- so Demand 2 speaks of it: what it asks is computed, and the image is what it then says
-pub deck-demand : (range (run call deckFeeds (call open0 (madeWith oneRoom)) .core) 512 64 ≡ imageOf (deckGiven .area) [] [] deckFile)
+pub deck-demand : (areaWords deckOpening (run event deckFeeds (granted deckOpening)) ≡ imageSince deckOpening deckFeeds)
     × (record { 0 = 512 } ≡ fileStart (deckGiven .area) deckFile)
 unfolding computed
 deck-demand =
-    let k = demand-2 oldDesk oldCore oneRoom made-one [] deckFeeds 0 0 (deckGiven .area) [] [] (madeWith oneRoom)
-    (told deckFeeds (call open0 (madeWith oneRoom))) (record { 0 = 512 }) [] refl refl refl refl refl in
+    let k = demand-2 deckOpening deckFeeds (record { 0 = 512 }) [] refl refl refl refl in
     (k .0, k .1 .0)
 
--- ---- two rooms interleaved: each area has its own image, and all else in the core is as it was
-pub made-two : makeOf oldDesk (length oldCore) twoRooms .answer ≡ Made
-unfolding computed
-made-two = refl
+-- of room 0 on the day in which programs run while it loads: nothing that happens then does it harm
+abbrev pub dayOpening : Opening
+dayOpening = opening (run event (make twoRooms ∷ []) old)
 
-pub turns-answers : answersIn (told byTurns (madeWith twoRooms))
-    ≡ Opened 0 ∷ Opened 1 ∷ More ∷ More ∷ More ∷ More ∷ Done (record { 0 = 512 }) ∷ Done (record { 0 = 2560 }) ∷ []
-unfolding computed
-turns-answers = refl
+abbrev pub afterOpening : List Event
+afterOpening = open1 ∷ fed1 deckLabel ∷ fed1 deckProgram ∷ fed1 deckTermination ∷ whileItLoads
 
-pub turns-core : run call byTurns (madeWith twoRooms) .core ≡ splice (splice oldCore 512 (519 ∷ replicate 63 0)) 2560 (2567 ∷ replicate 63 0)
+pub day-demand : areaWords dayOpening (run event afterOpening (granted dayOpening)) ≡ imageSince dayOpening afterOpening
 unfolding computed
-turns-core = refl
-
--- ---- a broken load beside a completed one: the word that it had stored is gone, and the other's stands
-pub broken-answers : answersIn (told oneBroken (madeWith twoRooms))
-    ≡ Opened 0
-    ∷ Opened 1
-    ∷ More
-    ∷ More
-    ∷ More
-    ∷ Refused (fault 13)
-    ∷ More
-    ∷ Refused (fault 10)
-    ∷ Done (record { 0 = 2560 })
-    ∷ []
-unfolding computed
-broken-answers = refl
-
-pub broken-core : run call oneBroken (madeWith twoRooms) .core ≡ splice (cleared oldCore 512 64) 2560 (2567 ∷ replicate 63 0)
-unfolding computed
-broken-core = refl
-
-pub not-empty : NotEmpty
-not-empty = record {
-  deck = deck-answers;
-  deck-left = deck-core;
-  turns = turns-answers;
-  turns-left = turns-core;
-  broken = broken-answers;
-  broken-left = broken-core;
-}
+day-demand = demand-2 dayOpening afterOpening (record { 0 = 512 }) [] refl refl refl refl .0

@@ -1,0 +1,45 @@
+-- A load from its opening on: the state that open was called in, what it was given and the place that it answered; and what happened since.
+use Prim.Native.Nat.{ℕ}
+use mathlib.Core.Path.{_≡_}
+use mathlib.Core.Bool.{true, false}
+use mathlib.Core.List.{List}
+use Rattle.word.specs.Lists.{every, range}
+use Rattle.word.specs.declared.Area.{Area}
+use Rattle.lists.specs.Obey.{tablesOf}
+use Rattle.calls.specs.declared.Answer.the-variants.{Opened}
+use Rattle.demands.specs.Image.{imageOf}
+use Rattle.demands.specs.History.{State, answerTo, call, Event, Told, told, taken, ended, harmless}
+use Rattle.demands.specs.History.Call.{Open}
+
+pub record Opening : Type 0 where
+  pub before : State
+  pub room : ℕ
+  pub area : Area
+  pub ios : List ℕ
+  pub tables : List ℕ
+  pub place : ℕ
+
+abbrev pub IsGranted : Opening → Type 0
+IsGranted o = answerTo (Open (o .room) (o .area) (o .ios) (o .tables)) (o .before) ≡ Opened (o .place)
+
+abbrev pub granted : Opening → State
+granted o = call (Open (o .room) (o .area) (o .ios) (o .tables)) (o .before)
+
+-- the calls and answers since
+abbrev pub since : Opening → List Event → List Told
+since o es = told es (granted o)
+
+-- the load is still there after them: its place was not released, and no new desk was made
+abbrev pub Stays : Opening → List Event → Type 0
+Stays o es = ended (o .room) (o .place) (since o es) ≡ false
+
+-- no store from outside hit its area, and its own feeds were lent its core. Stores elsewhere, and any calls of others, do it no harm.
+abbrev pub Unharmed : Opening → List Event → Type 0
+Unharmed o es = every (harmless (o .room) (o .place) (o .area)) es ≡ true
+
+-- the image of the blocks that the load accepted
+abbrev pub imageSince : Opening → List Event → List ℕ
+imageSince o es = imageOf (o .area) (tablesOf (o .tables)) (o .ios) (taken (o .room) (o .place) (since o es))
+
+abbrev pub areaWords : Opening → State → List ℕ
+areaWords o s = range (s .core) (o .area .at .0) (o .area .size)
