@@ -30,7 +30,8 @@ feeds-safe o [] = refl
 feeds-safe o (e ∷ es) = feeds-safe o es
 
 -- before the feeds the state is ready, since the load was there until their end
-ready-on : (r p : ℕ) (xs ys : List Event) (s : State) → Prepared s → ended r p (told (xs ++ ys) s) ≡ false → Prepared (run event xs s)
+ready-on : (r p : ℕ) (xs ys : List Event) (s : State) → Prepared s → ended r p (told (xs ++ ys) s) ≡ false
+    → Prepared (run event xs s)
 unfolding run told
 ready-on r p [] ys s k q = k
 ready-on r p (x ∷ xs) ys s k q = ready-on r p xs ys (event x s) (event-ready r p x s _ k q) (event-ended r p x s _ q)
@@ -38,7 +39,8 @@ ready-on r p (x ∷ xs) ys s k q = ready-on r p xs ys (event x s) (event-ready r
 every-on : (f : Event → Bool) (xs ys : List Event) → every f xs ≡ true → every f ys ≡ true → every f (xs ++ ys) ≡ true
 unfolding every
 every-on f [] ys p q = q
-every-on f (x ∷ xs) ys p q = and-both (f x) (every f (xs ++ ys)) (and-left (f x) (every f xs) p) (every-on f xs ys (and-right (f x) (every f xs) p) q)
+every-on f (x ∷ xs) ys p q = and-both (f x) (every f (xs ++ ys)) (and-left (f x) (every f xs) p)
+    (every-on f xs ys (and-right (f x) (every f xs) p) q)
 
 pub demand-3-images : Demand2 → Demand3Orders → Demand3Images
 demand-3-images image orders o between es fs a others grant stays safe done same =
@@ -46,6 +48,7 @@ demand-3-images image orders o between es fs a others grant stays safe done same
     let m = run event between t in
     let k = ready-on (o .room) (o .place) between (feeds es) t (begun o grant .ready) stays in
     let e : run event (between ++ feeds fs) t ≡ run event (between ++ feeds es) t =
-    run-on between (feeds fs) t ∙ run-feeds fs m ∙ sym (orders m k es fs same .0) ∙ sym (run-feeds es m) ∙ sym (run-on between (feeds es) t) in
+    run-on between (feeds fs) t ∙ run-feeds fs m ∙ sym (orders m k es fs same .0) ∙ sym (run-feeds es m)
+    ∙ sym (run-on between (feeds es) t) in
     ap (areaWords o) e
     ∙ image o (between ++ feeds es) a others grant stays (every-on _ between (feeds es) safe (feeds-safe o es)) done .0

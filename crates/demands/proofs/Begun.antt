@@ -1,4 +1,5 @@
--- What a load begins with, where open answered `opened`: its place holds what was lent, it waits for its label, and its area is zeros.
+-- What a load begins with, where open answered `opened`: its place holds what was lent, it waits for its label, and its area is
+-- zeros.
 use Prim.Native.Nat.{ℕ, _+_, _≤_, _<_}
 use mathlib.Core.Path.{_≡_, refl, sym, ap, subst, _∙_}
 use mathlib.Core.Bool.{Bool, true, false, false≢true}
@@ -42,7 +43,8 @@ pub record Begun (r : ℕ) (area : Area) (ios tables : List ℕ) (p : ℕ) (t : 
 
 cleared-zero : (core : List ℕ) (a n : ℕ) → a + n ≤ length core → (k : ℕ) → k < n → getD (cleared core a n) (a + k) 0 ≡ 0
 cleared-zero core a n h k l =
-    sym (getD-range (cleared core a n) a n k l) ∙ ap (λ (m : List ℕ). getD m k 0) (cleared-words core a n h) ∙ getD-replicate n k 0 0 l
+    sym (getD-range (cleared core a n) a n k l) ∙ ap (λ (m : List ℕ). getD m k 0) (cleared-words core a n h)
+    ∙ getD-replicate n k 0 0 l
 
 abbrev isOpened : Answer → Bool
 isOpened (Refused f) = false
@@ -56,7 +58,8 @@ module _ (s : State) (r : ℕ) (area : Area) (ios tables : List ℕ) where
   abbrev Starts : ℕ → Outcome → Type 0
   Starts p o = Begun r area ios tables p (leftBy o)
 
-  granted-begun : Granted (s .desk) (s .core) r area ios tables → Starts (lowestFree (holders (s .desk))) (opened (s .desk) (s .core) r area ios tables)
+  granted-begun : Granted (s .desk) (s .core) r area ios tables
+      → Starts (lowestFree (holders (s .desk))) (opened (s .desk) (s .core) r area ios tables)
   unfolding opened
   granted-begun g =
       let i = area-inside s r area ios tables g in record {
@@ -69,13 +72,15 @@ module _ (s : State) (r : ℕ) (area : Area) (ios tables : List ℕ) where
         zeros = cleared-zero (s .core) (area .at .0) (area .size) i;
       }
 
-  open-begun : (p : ℕ) → openOf (s .desk) (s .core) r area ios tables .answer ≡ Opened p → Starts p (openOf (s .desk) (s .core) r area ios tables)
+  open-begun : (p : ℕ) → openOf (s .desk) (s .core) r area ios tables .answer ≡ Opened p
+      → Starts p (openOf (s .desk) (s .core) r area ios tables)
   unfolding opened
   open-begun p e =
       ⊎-elim
       (λ x. absurd (false≢true (ap (λ (o : Outcome). isOpened (o .answer)) (sym (x .1)) ∙ ap isOpened e)))
       (λ x. let q : lowestFree (holders (s .desk)) ≡ p = ap (λ (o : Outcome). valueOf (o .answer)) (sym (x .1)) ∙ ap valueOf e in
-      subst (Starts p) (sym (x .1)) (subst (λ (k : ℕ). Starts k (opened (s .desk) (s .core) r area ios tables)) q (granted-begun (x .0))))
+      subst (Starts p) (sym (x .1))
+      (subst (λ (k : ℕ). Starts k (opened (s .desk) (s .core) r area ios tables)) q (granted-begun (x .0))))
       (open-sorted (s .desk) (s .core) r area ios tables)
 
 pub begun : (o : Opening) → IsGranted o → Begun (o .room) (o .area) (o .ios) (o .tables) (o .place) (granted o)

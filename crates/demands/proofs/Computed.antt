@@ -14,8 +14,10 @@ use Rattle.program.specs.Sections.{bankOf, segmentOf, tableSectionOf}
 use Rattle.program.specs.Groups.{groupOf}
 use Rattle.indicator.specs.Indicator.{bitsOf, indicatorBits, bitsBefore, numberAt, indicatorAt, afterField, afterWord, afterAll}
 use Rattle.field.specs.Field.{valued, movedField, becomes, putBack, fieldStep}
-use Rattle.group.specs.Group.{halfStep, wordStep, changedWords, groupStep, wordsLie, addressOf, indicatorsFit, groupFits, refusedGroup, storedGroup, groupOutcome, readOutcome}
-use Rattle.demands.specs.Image.{headAt, piecesFrom, pieces, storeOf, groupsFrom, upToLast, storesFrom, reached, wordFrom, storesBeyond, storesOf, imageOf, fileStart}
+use Rattle.group.specs.Group.{halfStep, wordStep, changedWords, groupStep, wordsLie, addressOf, indicatorsFit, groupFits}
+use Rattle.group.specs.Group.{refusedGroup, storedGroup, groupOutcome, readOutcome}
+use Rattle.demands.specs.Image.{headAt, piecesFrom, pieces, storeOf, groupsFrom, upToLast, storesFrom, reached, wordFrom}
+use Rattle.demands.specs.Image.{storesBeyond, storesOf, imageOf, fileStart}
 use Rattle.hand_deck.specs.Blocks.{withWords, blank, deckLabel, deckProgram, deckTermination, deckFile}
 use Rattle.demands.specs.HandDeck.{deckGiven}
 use Rattle.block.specs.Records.{modification, program, termination}
@@ -35,12 +37,11 @@ use Rattle.demands.proofs.Imaged.{image-is}
 
 -- the one program word is 7, with the area's address added to its right field
 pub deck-image : imageOf (deckGiven .area) (deckGiven .tables) (deckGiven .ios) deckFile ≡ 519 ∷ replicate 63 0
-unfolding deckLabel deckProgram deckTermination withWords blank imageOf storesOf storesBeyond labelOf isName isRest letterOrDigit every
-    characters
-    tableWordsIn tableWords tablesInOrder entriesOf countsOf withinLimits everyTwo
-    range finished programWordFits pieces piecesFrom headAt groupOf tableSectionOf segmentOf bankOf groupsFrom upToLast storesFrom
-    storeOf wordsLie addressOf within changedWords wordStep halfStep fieldStep becomes movedField valued putBack bitsOf flatMap indicatorBits
-    bitsBefore numberAt indicatorAt afterField afterWord wordFrom reached tab
+unfolding deckLabel deckProgram deckTermination withWords blank imageOf storesOf storesBeyond labelOf isName isRest letterOrDigit
+    every characters tableWordsIn tableWords tablesInOrder entriesOf countsOf withinLimits everyTwo range finished programWordFits
+    pieces piecesFrom headAt groupOf tableSectionOf segmentOf bankOf groupsFrom upToLast storesFrom storeOf wordsLie addressOf
+    within changedWords wordStep halfStep fieldStep becomes movedField valued putBack bitsOf flatMap indicatorBits bitsBefore
+    numberAt indicatorAt afterField afterWord wordFrom reached tab
 deck-image = refl
 
 -- "2 done 512"
@@ -56,16 +57,17 @@ abbrev afterwards : List ℕ
 afterwards = blockStep deckGiven (Program (record { channels = 0; sections = 0 }) Segment) deckProgram core .core
 
 pub deck-taken : Takes deckGiven Label core deckFile Complete afterwards
-unfolding deckLabel deckProgram deckTermination withWords blank labelOf isName isRest letterOrDigit every characters
-    tableWordsIn tableWords tablesInOrder entriesOf countsOf withinLimits everyTwo tab
-    range finished programWordFits groupOf tableSectionOf segmentOf bankOf wordsLie addressOf within changedWords wordStep halfStep fieldStep
-    becomes movedField valued putBack bitsOf flatMap indicatorBits bitsBefore numberAt indicatorAt afterField afterWord Takes isOver blockStep
-    dueStep recordDue labelStep withLabel afterLabel assignmentsFit programStep programFrom closes itemStep segmentStep withSegment banksFit
-    bankFits apart afterGroup afterLast groupStep readOutcome groupOutcome groupFits indicatorsFit storedGroup refusedGroup afterAll terminationStep inBank spelt modification
-    program termination
+unfolding deckLabel deckProgram deckTermination withWords blank labelOf isName isRest letterOrDigit every characters tableWordsIn
+    tableWords tablesInOrder entriesOf countsOf withinLimits everyTwo tab range finished programWordFits groupOf tableSectionOf
+    segmentOf bankOf wordsLie addressOf within changedWords wordStep halfStep fieldStep becomes movedField valued putBack bitsOf
+    flatMap indicatorBits bitsBefore numberAt indicatorAt afterField afterWord Takes isOver blockStep dueStep recordDue labelStep
+    withLabel afterLabel assignmentsFit programStep programFrom closes itemStep segmentStep withSegment banksFit bankFits apart
+    afterGroup afterLast groupStep readOutcome groupOutcome groupFits indicatorsFit storedGroup refusedGroup afterAll
+    terminationStep inBank spelt modification program termination
 deck-taken = (refl, (refl, (refl, (refl, refl))))
 
 -- so the area holds that image
 pub deck-area : range afterwards 512 64 ≡ 519 ∷ replicate 63 0
 unfolding every
-deck-area = image-is deckGiven core afterwards deckFile (omega arith) refl (λ k h. getD-replicate {A = ℕ} 576 (512 + k) 0 0 (omega arith)) deck-taken ∙ deck-image
+deck-area = image-is deckGiven core afterwards deckFile (omega arith) refl
+    (λ k h. getD-replicate {A = ℕ} 576 (512 + k) 0 0 (omega arith)) deck-taken ∙ deck-image

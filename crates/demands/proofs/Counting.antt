@@ -1,5 +1,5 @@
--- The twelve holders are each counted once: F and what the eight rooms hold are twelve together; and F and H by what each room holds. When
--- refusals 5 and 6 are given.
+-- The twelve holders are each counted once: F and what the eight rooms hold are twelve together; and F and H by what each room
+-- holds. When refusals 5 and 6 are given.
 use Prim.Native.Nat.{ℕ, zero, suc, _+_, _≤_, _<_}
 use mathlib.Core.Path.{_≡_, refl}
 use mathlib.Core.List.{List, [], _∷_, _++_}

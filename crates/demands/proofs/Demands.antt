@@ -1,7 +1,9 @@
 -- The demands, proved: each has the type that specs/Demands.antt states for it.
 use Rattle.feed.proofs.Blocked.{block-laws}
 use Rattle.feed.proofs.Fed.{feed-sound}
-use Rattle.demands.specs.Demands.{Demand1One, Demand1Number, Demand1Unchanged, Demand1Broken, Demand1Sound, Demand1Words, Demand2, Demand2Area, Demand2Outside, Demand3Orders, Demand3Turns, Demand3Images, Demand3Rooms}
+use Rattle.demands.specs.Demands.{Demand1One, Demand1Number, Demand1Unchanged, Demand1Broken, Demand1Sound, Demand1Words}
+use Rattle.demands.specs.Demands.{Demand2, Demand2Area, Demand2Outside, Demand3Orders, Demand3Turns, Demand3Images}
+use Rattle.demands.specs.Demands.{Demand3Rooms}
 use Rattle.demands.proofs.Refused as refused
 use Rattle.demands.proofs.Ready as ready
 use Rattle.demands.proofs.Completed as completed

@@ -1,5 +1,5 @@
--- What happens, seen from one load that is held: it changes nothing of the load, or it is a feed of its own whose block it takes. So the
--- desk keeps what open wrote of it; and a load that is over takes no block.
+-- What happens, seen from one load that is held: it changes nothing of the load, or it is a feed of its own whose block it takes.
+-- So the desk keeps what open wrote of it; and a load that is over takes no block.
 use Prim.Native.Nat.{ℕ, _+_, _≤_, _<_}
 use mathlib.Core.Path.{_≡_, refl, sym, ap, _∙_}
 use mathlib.Core.Bool.{Bool, true, false, not, cond, _&&_, true≢false, false≢true}
@@ -23,7 +23,8 @@ use Rattle.calls.proofs.Entry.{entered-cases}
 use Rattle.feed.specs.Feed.{takenOf, feedOf, loadIn}
 use Rattle.feed.proofs.Blocked.{block-laws}
 use Rattle.demands.specs.Orders.{run}
-use Rattle.demands.specs.History.{State, Call, answerTo, call, Event, lent, event, Told, toldBy, told, takenIn, taken, startsIn, starts, endedBy, ended, feedsIt, isIn, harmless}
+use Rattle.demands.specs.History.{State, Call, answerTo, call, Event, lent, event, Told, toldBy, told, takenIn, taken}
+use Rattle.demands.specs.History.{startsIn, starts, endedBy, ended, feedsIt, isIn, harmless}
 use Rattle.demands.specs.History.Call.{Make, Open, Feed, Release}
 use Rattle.demands.specs.History.Event.{Here, Elsewhere, Store}
 use Rattle.demands.specs.Demands.{Prepared}
@@ -51,7 +52,8 @@ pub record CallIdle (r p : ℕ) (c : Call) (s : State) : Type 0 where
 abbrev CallSteps : ℕ → ℕ → Call → State → Type 0
 CallSteps r p c s =
     (block : List ℕ) × (c ≡ Feed r p block) × (isOver (stageIn (placeIn (s .desk) p)) ≡ false)
-    × (feedOf (s .desk) (s .core) r p block ≡ takenOf (s .desk) (s .core) p (loadIn (placeIn (s .desk) p)) (stageIn (placeIn (s .desk) p)) block)
+    × (feedOf (s .desk) (s .core) r p block ≡ takenOf (s .desk) (s .core) p (loadIn (placeIn (s .desk) p))
+    (stageIn (placeIn (s .desk) p)) block)
 
 module _ (r p : ℕ) (s : State) (ok : sound (s .desk) ≡ true) (held : holderOf (placeIn (s .desk) p) ≡ r + 1) where
   own-sorted : (block : List ℕ) → CallIdle r p (Feed r p block) s ⊎ CallSteps r p (Feed r p block) s
@@ -60,8 +62,10 @@ module _ (r p : ℕ) (s : State) (ok : sound (s .desk) ≡ true) (held : holderO
       ⊎-elim
       (λ x. inl (record {
         same = ap (λ (o : Outcome). view p (leftBy o)) (x .1);
-        takes-none = λ rest. ap (λ (o : Outcome). takenIn r p (Feed r p block) (o .answer) rest) (x .1) ∙ rw (eq-eqb r r refl, eq-eqb p p refl);
-        starts-none = λ rest. ap (λ (o : Outcome). startsIn r p (Feed r p block) (o .answer) rest) (x .1) ∙ cond-same (eqb r r && eqb p p) rest;
+        takes-none = λ rest. ap (λ (o : Outcome). takenIn r p (Feed r p block) (o .answer) rest) (x .1)
+            ∙ rw (eq-eqb r r refl, eq-eqb p p refl);
+        starts-none = λ rest. ap (λ (o : Outcome). startsIn r p (Feed r p block) (o .answer) rest) (x .1)
+            ∙ cond-same (eqb r r && eqb p p) rest;
       }))
       (λ x. inr (block, refl, x .0, x .1))
       (feed-sorted (s .desk) (s .core) r p block)
@@ -94,7 +98,8 @@ module _ (r p : ℕ) (s : State) (ok : sound (s .desk) ≡ true) (held : holderO
       }))
 
   -- a make that was not accepted changes nothing
-  pub make-view : (n : ℕ) (m : List ℕ) → endedBy r p (Make n m) (answerTo (Make n m) s) ≡ false → view p (call (Make n m) s) ≡ view p s
+  pub make-view : (n : ℕ) (m : List ℕ) → endedBy r p (Make n m) (answerTo (Make n m) s) ≡ false
+      → view p (call (Make n m) s) ≡ view p s
   unfolding call answerTo
   make-view n m e =
       ⊎-elim
@@ -119,7 +124,8 @@ pub record Idle (r p : ℕ) (e : Event) (s : State) : Type 0 where
 abbrev pub Steps : ℕ → ℕ → Event → State → Type 0
 Steps r p e s =
     (block : List ℕ) × (e ≡ Here (Feed r p block)) × (isOver (stageIn (placeIn (s .desk) p)) ≡ false)
-    × (feedOf (s .desk) (s .core) r p block ≡ takenOf (s .desk) (s .core) p (loadIn (placeIn (s .desk) p)) (stageIn (placeIn (s .desk) p)) block)
+    × (feedOf (s .desk) (s .core) r p block ≡ takenOf (s .desk) (s .core) p (loadIn (placeIn (s .desk) p))
+    (stageIn (placeIn (s .desk) p)) block)
 
 -- a call that is lent another core leaves ours as it was
 elsewhere-view : (p : ℕ) (s : State) (other : List ℕ) (c : Call) → view p (call c (lent other s)) ≡ view p (lent other s)
@@ -156,11 +162,21 @@ module _ (r p : ℕ) (area : Area) (s : State) (ok : sound (s .desk) ≡ true) (
   sort-event (Elsewhere other c) rest h q =
       let t = lent other s in
       ⊎-elim
-      (λ x. inl (record { same = elsewhere-view p s other c (x .same); takes-none = λ l. x .takes-none _; starts-none = λ l. x .starts-none _ }))
+      (λ x. inl (record {
+        same = elsewhere-view p s other c
+            (x .same);
+        takes-none = λ l. x .takes-none _;
+        starts-none = λ l. x .starts-none _;
+      }))
       (λ x. absurd (true≢false (sym (own-feed r p (x .0)) ∙ ap (feedsIt r p) (sym (x .1)) ∙ not-true _ h)))
       (sort-call r p t ok held c (neither (endedBy r p c (answerTo c t)) (ended r p rest) q .0))
   sort-event (Store j v) rest h q =
-      inl (record { same = store-view p s j v (rw its (not-true (isIn area j) h)); takes-none = λ l. refl; starts-none = λ l. refl })
+      inl (record {
+        same = store-view p s j v
+            (rw its (not-true (isIn area j) h));
+        takes-none = λ l. refl;
+        starts-none = λ l. refl;
+      })
 
 -- ---- a load that is over
 pub record Quiet (r p : ℕ) (es : List Event) (s : State) : Type 0 where
@@ -177,14 +193,17 @@ module _ (r p : ℕ) (area : Area) where
   unfolding every
   all-tail e es q = and-right (harmless r p area e) (every (harmless r p area) es) q
 
-  pub quiet : (es : List Event) (s : State) → Prepared s → holderOf (placeIn (s .desk) p) ≡ r + 1 → areaOf (placeIn (s .desk) p) ≡ area
-      → isOver (stageIn (placeIn (s .desk) p)) ≡ true → every (harmless r p area) es ≡ true → ended r p (told es s) ≡ false → Quiet r p es s
+  pub quiet : (es : List Event) (s : State) → Prepared s → holderOf (placeIn (s .desk) p) ≡ r + 1
+      → areaOf (placeIn (s .desk) p) ≡ area
+      → isOver (stageIn (placeIn (s .desk) p)) ≡ true → every (harmless r p area) es ≡ true → ended r p (told es s) ≡ false
+      → Quiet r p es s
   unfolding told run
   quiet [] s k h a o f q = record { none = unfold taken in refl; no-start = unfold starts in refl; same = refl }
   quiet (e ∷ es) s k h a o f q =
       ⊎-elim
       (λ i. let z = place-of p s (event e s) (i .same) in
-      let n = quiet es (event e s) (event-ready r p e s _ k q) (rw z h) (rw z a) (rw z o) (all-tail e es f) (event-ended r p e s _ q) in
+      let n = quiet es (event e s) (event-ready r p e s _ k q) (rw z h) (rw z a) (rw z o) (all-tail e es f)
+      (event-ended r p e s _ q) in
       record {
         none = i .takes-none _ ∙ n .none;
         no-start = i .starts-none _ ∙ n .no-start;

@@ -1,5 +1,5 @@
--- Demand 3, of the feeds: they meet the laws of `Framed` (Parts.antt), so in any order that keeps each load's own they give the same. Given the
--- laws of a block's step, and that feed keeps a desk sound.
+-- Demand 3, of the feeds: they meet the laws of `Framed` (Parts.antt), so in any order that keeps each load's own they give the
+-- same. Given the laws of a block's step, and that feed keeps a desk sound.
 use Prim.Native.Nat.{ℕ, zero, suc, _+_, _-_, _/_, _%_, min, _≤_, _<_}
 use mathlib.Core.Path.{_≡_, refl, sym, ap, ap₂, _∙_}
 use mathlib.Core.Bool.{Bool, true, false, cond, _&&_, _||_, true≢false, false≢true}
@@ -100,7 +100,8 @@ rest s = record {
   outside = λ i. cond (covered 12 (s .desk) i) 0 (getD (s .core) i 0);
 }
 
-rest-eq : (v w : Rest) → v .fixed ≡ w .fixed → v .long ≡ w .long → v .core ≡ w .core → ((i : ℕ) → v .outside i ≡ w .outside i) → v ≡ w
+rest-eq : (v w : Rest) → v .fixed ≡ w .fixed → v .long ≡ w .long → v .core ≡ w .core → ((i : ℕ) → v .outside i ≡ w .outside i)
+    → v ≡ w
 rest-eq v w a b c d = λ i. record { fixed = a i; long = b i; core = c i; outside = λ j. d j i }
 
 module _ (p : ℕ) (in-p : p < 12) (s t : State) (c : Confined p s t) where
@@ -162,7 +163,8 @@ module _ (s t : State) (r : rest s ≡ rest t) (v : (p : ℕ) → view p s ≡ v
       (λ c. let (p, a) = covered-true 12 (s .desk) i c in
       core-at (placeIn (s .desk) p) (s .core) i a
       ∙ rw (words-same p, places-same p) (sym (core-at (placeIn (t .desk) p) (t .core) i (rw (places-same p) at a))))
-      (λ c. rw (c, ← covered-of 12 (s .desk) (t .desk) i (λ p. ap ownOf (places-same p)), c) at (ap (λ (x : Rest). x .outside i) r)))
+      (λ c. rw (c, ← covered-of 12 (s .desk) (t .desk) i (λ p. ap ownOf (places-same p)), c) at
+      (ap (λ (x : Rest). x .outside i) r)))
 
   whole : s ≡ t
   whole = state-eq s t desk-same core-same
@@ -183,7 +185,8 @@ module _ (r p : ℕ) (block : List ℕ) (past : 12 ≤ p) where
 
   past-answer : (s t : State) → Prepared s → Prepared t → answerTo (Feed r p block) s ≡ answerTo (Feed r p block) t
   unfolding answerTo
-  past-answer s t k m = past-refused (s .desk) (s .core) (k .desk) (k .core) ∙ sym (past-refused (t .desk) (t .core) (m .desk) (m .core))
+  past-answer s t k m = past-refused (s .desk) (s .core) (k .desk) (k .core)
+      ∙ sym (past-refused (t .desk) (t .core) (m .desk) (m .core))
 
 -- ---- the laws
 core-length : (d e : List ℕ) → range d 0 17 ≡ range e 0 17 → coreLength d ≡ coreLength e
@@ -210,14 +213,16 @@ module _ (laws : BlockLaws) (kept : FeedKeeps) where
     unfolding answerTo
     own-answer = feed-match laws s t p v (k .desk) (m .desk) (k .core) (m .core) block r .0
 
-  own : (e : Fed) (s t : State) → Prepared s → Prepared t → view (loadNumber e) s ≡ view (loadNumber e) t → view (loadNumber e) (feed e s) ≡ view (loadNumber e) (feed e t)
+  own : (e : Fed) (s t : State) → Prepared s → Prepared t → view (loadNumber e) s ≡ view (loadNumber e) t
+      → view (loadNumber e) (feed e s) ≡ view (loadNumber e) (feed e t)
   own e s t k m v =
       by-lt (e .place) 12
       (λ h. let z : min (e .place) 12 ≡ e .place = omega arith in
       rw z (own-view (e .room) (e .place) (e .block) s t k m (rw z at v)))
       (λ h. rw (past-same (e .room) (e .place) (e .block) h s, past-same (e .room) (e .place) (e .block) h t) v)
 
-  answered : (e : Fed) (s t : State) → Prepared s → Prepared t → view (loadNumber e) s ≡ view (loadNumber e) t → fedAnswer e s ≡ fedAnswer e t
+  answered : (e : Fed) (s t : State) → Prepared s → Prepared t → view (loadNumber e) s ≡ view (loadNumber e) t
+      → fedAnswer e s ≡ fedAnswer e t
   answered e s t k m v =
       by-lt (e .place) 12
       (λ h. let z : min (e .place) 12 ≡ e .place = omega arith in
@@ -227,7 +232,8 @@ module _ (laws : BlockLaws) (kept : FeedKeeps) where
   other : (e : Fed) (q : ℕ) (s : State) → Prepared s → (loadNumber e ≡ q → ⊥) → view q (feed e s) ≡ view q s
   other e q s k n =
       by-lt (e .place) 12
-      (λ h. view-kept (e .place) s (feed e s) (k .desk) (feed-confined laws s (e .place) (e .block) (e .room)) q (λ z. n (omega arith)))
+      (λ h. view-kept (e .place) s (feed e s) (k .desk) (feed-confined laws s (e .place) (e .block) (e .room)) q
+      (λ z. n (omega arith)))
       (λ h. rw (past-same (e .room) (e .place) (e .block) h s))
 
   still : (e : Fed) (s : State) → Prepared s → rest (feed e s) ≡ rest s

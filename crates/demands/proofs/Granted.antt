@@ -1,5 +1,5 @@
--- What each call does to what a room holds: `opened` adds a place, `released` takes one, on a new desk there is none, and nothing else
--- changes it. And what it does to the desk's core length.
+-- What each call does to what a room holds: `opened` adds a place, `released` takes one, on a new desk there is none, and nothing
+-- else changes it. And what it does to the desk's core length.
 use Prim.Native.Nat.{ℕ, _+_, _-_, _≤_, _<_}
 use mathlib.Core.Path.{_≡_, refl, sym, ap, _∙_}
 use mathlib.Core.Bool.{Bool, true, false, cond}

@@ -25,7 +25,8 @@ use Rattle.field.specs.Field.{Assignments}
 use Rattle.group.specs.declared.Section.{Section}
 use Rattle.group.specs.declared.Section.the-variants.{Segment as InSegment}
 use Rattle.sections.specs.Program.{closes}
-use Rattle.demands.specs.Image.{Piece, headAt, piecesFrom, storeOf, SectionGroup, tableSection, groupsFrom, upToLast, storesFrom}
+use Rattle.demands.specs.Image.{Piece, headAt, piecesFrom, storeOf, SectionGroup, tableSection, groupsFrom, upToLast}
+use Rattle.demands.specs.Image.{storesFrom}
 use Rattle.demands.specs.Image.Head.{SegmentHead, TableHead, GroupHead}
 
 -- ---- bits 35-34 tell a head: 00 the segment's, 01 a table section's, 10 a group's
@@ -50,7 +51,8 @@ module _ (w : ℕ) where
       by-test (eqb (part 34 2 w) 0) (λ q. eqb-true (part 34 2 w) 0 q)
       (λ q. let f : no-bank (fault 17) ≡ bank-read b = rw q at e in let z : _≡_ {A = ℕ} 0 1 = cc in absurd (omega arith))
 
-  segment-by : (second : ℕ) (g : Segment) (r : BankRead) → bankOf w ≡ r → withIbank r (bankOf second) ≡ segment-read g → part 34 2 w ≡ 0
+  segment-by : (second : ℕ) (g : Segment) (r : BankRead) → bankOf w ≡ r → withIbank r (bankOf second) ≡ segment-read g
+      → part 34 2 w ≡ 0
   segment-by second g (bank-read b) q e = bank-bits b q
   segment-by second g (no-bank f) q e = let z : _≡_ {A = ℕ} 0 1 = cc in absurd (omega arith)
 
@@ -79,18 +81,21 @@ module _ (block : List ℕ) (i : ℕ) where
   -- ---- the stores from a head on, `rest` being the pieces of later blocks
   module _ (a : Assignments) (m : ℕ) (section : Section) (n : ℕ) (rest : List Piece) (more : closes block i ≡ false) where
     pub stores-segment : (g : Segment) → headAt block i ≡ SegmentHead g
-        → storesFrom a (suc m) section (piecesFrom (suc n) block i ++ rest) ≡ storesFrom a (suc m) (InSegment g) (piecesFrom n block (i + 4) ++ rest)
+        → storesFrom a (suc m) section (piecesFrom (suc n) block i ++ rest) ≡ storesFrom a (suc m) (InSegment g)
+        (piecesFrom n block (i + 4) ++ rest)
     unfolding piecesFrom closes storesFrom groupsFrom
     stores-segment g e = rw (more, e)
 
     pub stores-table : (t : TableSection) → headAt block i ≡ TableHead t
-        → storesFrom a (suc m) section (piecesFrom (suc n) block i ++ rest) ≡ storesFrom a (suc m) (tableSection (a .tables) t) (piecesFrom n block (i + 1) ++ rest)
+        → storesFrom a (suc m) section (piecesFrom (suc n) block i ++ rest) ≡ storesFrom a (suc m) (tableSection (a .tables) t)
+        (piecesFrom n block (i + 1) ++ rest)
     unfolding piecesFrom closes storesFrom groupsFrom
     stores-table t e = rw (more, e)
 
     pub stores-group : (g : Group) → headAt block i ≡ GroupHead g
         → storesFrom a (suc m) section (piecesFrom (suc n) block i ++ rest)
-        ≡ storeOf a section block i g ∷ storesFrom a (cond (g .last) m (suc m)) section (piecesFrom n block (i + 1 + g .words) ++ rest)
+        ≡ storeOf a section block i g
+        ∷ storesFrom a (cond (g .last) m (suc m)) section (piecesFrom n block (i + 1 + g .words) ++ rest)
     unfolding piecesFrom closes storesFrom groupsFrom upToLast
     stores-group g e =
         let k : suc m - 1 ≡ m = omega arith in

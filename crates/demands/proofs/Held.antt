@@ -1,4 +1,5 @@
--- What a sound desk says of a place that is held: its area lies in the core, its load is fit to be fed, and it shares no word with another's.
+-- What a sound desk says of a place that is held: its area lies in the core, its load is fit to be fed, and it shares no word with
+-- another's.
 use Prim.Native.Nat.{ℕ, _+_, _≤_, _<_}
 use mathlib.Core.Path.{_≡_, sym, _∙_}
 use mathlib.Core.Bool.{true}
@@ -53,7 +54,8 @@ apart-says l k q h g =
     says-apart (areaOf l .at .0) (areaOf l .size) (areaOf k .at .0) (areaOf k .size) .fact
     (rw (ne-eqb (holderOf l) 0 h, ne-eqb (holderOf k) 0 g) at q)
 
-pub held-apart : (d : List ℕ) → sound d ≡ true → (p q : ℕ) → (p ≡ q → ⊥) → (holderOf (placeIn d p) ≡ 0 → ⊥) → (holderOf (placeIn d q) ≡ 0 → ⊥)
+pub held-apart : (d : List ℕ) → sound d ≡ true → (p q : ℕ) → (p ≡ q → ⊥) → (holderOf (placeIn d p) ≡ 0 → ⊥)
+    → (holderOf (placeIn d q) ≡ 0 → ⊥)
     → ApartAreas (areaOf (placeIn d p)) (areaOf (placeIn d q))
 held-apart d s p q n h g =
     let two = sound-says d .fact s .two in

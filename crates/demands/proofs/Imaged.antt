@@ -33,13 +33,13 @@ use Rattle.records.specs.Entries.{entriesFit, afterEntries, entryStep}
 use Rattle.records.specs.Termination.{terminationStep}
 use Rattle.lists.specs.Load.{Load}
 use Rattle.sections.specs.Program.{StepOutcome, programStep}
+use Rattle.sections.proofs.Blocks.{program-not-done}
 use Rattle.feed.specs.Block.{storesNothing, dueStep, blockStep}
 use Rattle.demands.specs.Image.{Piece, pieces, noSection, storesFrom, storesBeyond, storesOf, imageOf}
 use Rattle.demands.specs.Taking.{TakesBy, Takes}
 use Rattle.demands.proofs.Stores.{storeAll, AllInside, stores-image}
 use Rattle.demands.proofs.Heads.{no-stores}
 use Rattle.demands.proofs.Running.{Comes, given, Stands, Reads, program-leads}
-use Rattle.demands.proofs.Started.{GoesOn, program-goes}
 
 -- a list without its first element
 drop-one : {A : Type 0} (n : ℕ) (b : A) (bs : List A) → drop (1 + n) (b ∷ bs) ≡ drop n bs
@@ -59,19 +59,21 @@ module _ (x : Load) (after : List ℕ) where
   -- ---- program blocks, and the termination block
   module _ (channels : ℕ) (tables : every (tableInside (x .area)) (x .tables) ≡ true) where
     module _ (block : List ℕ) (blocks : List (List ℕ)) (core : List ℕ)
-        (ih : (s : Stage) (core′ : List ℕ) → Takes x s core′ blocks Complete after → Reads x channels after s core′ (pieces blocks)) where
-      program-by : (c : LabelCounts) (due : Due) (r : Step) → programStep x c due block core .step ≡ r → GoesOn r
+        (ih : (s : Stage) (core′ : List ℕ) → Takes x s core′ blocks Complete after
+        → Reads x channels after s core′ (pieces blocks)) where
+      program-by : (c : LabelCounts) (due : Due) (r : Step) → programStep x c due block core .step ≡ r
           → TakesBy r (λ u. Takes x u (programStep x c due block core .core) blocks Complete after)
           → Reads x channels after (Program c due) core (pieces (block ∷ blocks))
       unfolding programStep pieces
-      program-by c due (More t) e g h =
+      program-by c due (More t) e h =
           program-leads x channels tables block t (pieces blocks) after 254 c due 1 core e (ih t _ h)
-      program-by c due (Done a) e g h = absurd g
-      program-by c due (Refused f) e g h = absurd h
+      program-by c due (Done a) e h = absurd (program-not-done x block c due core a e)
+      program-by c due (Refused f) e h = absurd h
 
-      program-run : (c : LabelCounts) (due : Due) → Then blocks (programStep x c due block core) → Reads x channels after (Program c due) core (pieces (block ∷ blocks))
+      program-run : (c : LabelCounts) (due : Due) → Then blocks (programStep x c due block core)
+          → Reads x channels after (Program c due) core (pieces (block ∷ blocks))
       unfolding programStep
-      program-run c due h = program-by c due (programStep x c due block core .step) refl (program-goes x block 254 c due 1 core) h
+      program-run c due h = program-by c due (programStep x c due block core .step) refl h
 
       over : (section : Section) (ps : List Piece) → Takes x Complete core blocks Complete after
           → Comes (x .area) core (storesFrom (given x channels) 0 section ps) after
@@ -83,7 +85,8 @@ module _ (x : Load) (after : List ℕ) where
           → Reads x channels after (Termination b) core (pieces (block ∷ blocks))
       unfolding terminationStep
       termination-run b =
-          when (λ (r : Step). Then blocks (storesNothing r core) → Reads x channels after (Termination b) core (pieces (block ∷ blocks)))
+          when (λ (r : Step). Then blocks (storesNothing r core)
+          → Reads x channels after (Termination b) core (pieces (block ∷ blocks)))
           (inBank b (startOf block))
           (λ _ h section st. over section (pieces (block ∷ blocks)) h)
           (λ _ h. absurd h)
@@ -102,7 +105,8 @@ module _ (x : Load) (after : List ℕ) where
     unfolding Takes blockStep
     run s core [] h = λ section st. let z : Stands x channels Complete section = rw (h .0) at st in absurd z
     run s core (block ∷ blocks) h =
-        when (λ (o : StepOutcome). Then blocks o → Reads x channels after s core (pieces (block ∷ blocks))) (ofRecord (recordDue s) block)
+        when (λ (o : StepOutcome). Then blocks o → Reads x channels after s core (pieces (block ∷ blocks)))
+        (ofRecord (recordDue s) block)
         (λ _ k. due-run block blocks core (λ u core′ g. run u core′ blocks g) s k)
         (λ _ k. absurd k)
         (h .1)
@@ -120,10 +124,12 @@ module _ (x : Load) (after : List ℕ) where
       unfolding Takes blockStep dueStep entryStep afterEntries
       entry-run b core [] l h = let e : Entry c exact b ≡ Complete = h .0 in let z : _≡_ {A = ℕ} 0 1 = cc in absurd (omega arith)
       entry-run b core (block ∷ blocks) l h =
-          when (λ (o : StepOutcome). Then blocks o → Left (many - b) core (block ∷ blocks)) (ofRecord (recordDue (Entry c exact b)) block)
+          when (λ (o : StepOutcome). Then blocks o → Left (many - b) core (block ∷ blocks))
+          (ofRecord (recordDue (Entry c exact b)) block)
           (λ _. when (λ (r : Step). Then blocks (storesNothing r core) → Left (many - b) core (block ∷ blocks))
           (entriesFit (length (x .ios)) (x .tables) exact b block)
-          (λ _. when (λ (s : Stage). Takes x s core blocks Complete after → Left (many - b) core (block ∷ blocks)) (ltb (b + 1) many)
+          (λ _. when (λ (s : Stage). Takes x s core blocks Complete after → Left (many - b) core (block ∷ blocks))
+          (ltb (b + 1) many)
           (λ q k. rw (next (ltb-true (b + 1) many q)) (entry-run (b + 1) core blocks (ltb-true (b + 1) many q) k))
           (λ q k. rw (last (ltb-false (b + 1) many q)) (run (Program c segment-due) core blocks k)))
           (λ _ k. absurd k))
@@ -143,7 +149,8 @@ module _ (x : Load) (after : List ℕ) where
 
     -- the lists have as many entries as the label says
     beyond : (l : LabelWords) → assignmentsFit l (x .ios) (length (x .tables)) ≡ true
-        → Reads x (channelCount l) after (Program (labelCountsOf l) segment-due) core (pieces (drop (many (channelCount l) tables) blocks)) → Whole (label-read l)
+        → Reads x (channelCount l) after (Program (labelCountsOf l) segment-due) core
+        (pieces (drop (many (channelCount l) tables) blocks)) → Whole (label-read l)
     unfolding assignmentsFit storesBeyond
     beyond l q h =
         let a : length (x .ios) ≡ ioCount l = eqb-true _ _ (and-left (eqb (length (x .ios)) (ioCount l)) _ q) in
@@ -157,7 +164,8 @@ module _ (x : Load) (after : List ℕ) where
     unfolding afterLabel
     label-by l f =
         when (λ (s : Stage). Takes x s core blocks Complete after → Whole (label-read l)) (eqb (many (channelCount l) tables) 0)
-        (λ q k. beyond l f (rw (eqb-true (many (channelCount l) tables) 0 q) (run (channelCount l) tables (Program (labelCountsOf l) segment-due) core blocks k)))
+        (λ q k. beyond l f (rw (eqb-true (many (channelCount l) tables) 0 q)
+        (run (channelCount l) tables (Program (labelCountsOf l) segment-due) core blocks k)))
         (λ q k. let e : many (channelCount l) tables - 0 ≡ many (channelCount l) tables = omega arith in
         beyond l f (rw e at (entry-run (channelCount l) tables (labelCountsOf l) (l .exact) 0 core blocks (some q) k)))
       where
@@ -167,12 +175,14 @@ module _ (x : Load) (after : List ℕ) where
     label-run : (r : LabelRead) → Then blocks (storesNothing (withLabel (x .ios) (length (x .tables)) r) core) → Whole r
     unfolding withLabel
     label-run (label-read l) =
-        when (λ (r : Step). Then blocks (storesNothing r core) → Whole (label-read l)) (assignmentsFit l (x .ios) (length (x .tables)))
+        when (λ (r : Step). Then blocks (storesNothing r core) → Whole (label-read l))
+        (assignmentsFit l (x .ios) (length (x .tables)))
         (λ q k. label-by l q k)
         (λ _ k. absurd k)
     label-run (no-label f) = λ k. absurd k
 
-  pub file-comes : (core : List ℕ) (file : List (List ℕ)) → every (tableInside (x .area)) (x .tables) ≡ true → Takes x Label core file Complete after
+  pub file-comes : (core : List ℕ) (file : List (List ℕ)) → every (tableInside (x .area)) (x .tables) ≡ true
+      → Takes x Label core file Complete after
       → Comes (x .area) core (storesOf (x .area) (x .tables) (x .ios) file) after
   unfolding Takes blockStep dueStep labelStep storesOf recordDue
   file-comes core [] t h = let e : Label ≡ Complete = h .0 in let z : _≡_ {A = ℕ} 0 1 = cc in absurd (omega arith)

@@ -6,7 +6,6 @@ pub mod Served
 pub mod Stores
 pub mod Heads
 pub mod Running
-pub mod Started
 pub mod Imaged
 pub mod Computed
 pub mod Parts
@@ -17,7 +16,6 @@ pub mod Reach
 pub mod Frames
 pub mod Loaded
 pub mod Calls
-pub mod Starts
 pub mod Feeds
 pub mod Kept
 pub mod Lives

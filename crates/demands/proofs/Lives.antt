@@ -26,7 +26,8 @@ use Rattle.feed.proofs.Blocked.{block-laws}
 use Rattle.feed.proofs.Laws.{Fit, Holds, Alike}
 use Rattle.demands.specs.Image.{lastBlock, fileStart}
 use Rattle.demands.specs.Orders.{run}
-use Rattle.demands.specs.History.{State, answerTo, call, Event, event, told, takenIn, taken, startsIn, starts, ended, harmless}
+use Rattle.demands.specs.History.{State, answerTo, call, Event, event, told, takenIn, taken, startsIn, starts, ended}
+use Rattle.demands.specs.History.{harmless}
 use Rattle.demands.specs.History.Call.{Feed}
 use Rattle.demands.specs.History.Event.{Here}
 use Rattle.demands.specs.Taking.{Takes}
@@ -34,12 +35,12 @@ use Rattle.demands.specs.Demands.{Prepared}
 use Rattle.demands.proofs.Held.{areaOf, held-inside, held-fit, held-place}
 use Rattle.demands.proofs.Views.{view, words-held, range-inside, alike-range, staged-own, staged-stage, staged-load}
 use Rattle.demands.proofs.Reach.{leftBy}
-use Rattle.demands.proofs.Starts.{done-start}
 use Rattle.demands.proofs.Ready.{event-ended, event-ready}
 use Rattle.demands.proofs.Feeds.{cond-same, place-of, all-head, all-tail, sort-event, Quiet, quiet}
 
 -- ---- a load that is answered `done`: what it would take by itself, from waiting for g with the core as it is
-pub record Ends (x : Load) (g : Stage) (core : List ℕ) (file : List (List ℕ)) (s : State) (a : Absolute) (others : List Absolute) : Type 0 where
+pub record Ends (x : Load) (g : Stage) (core : List ℕ) (file : List (List ℕ)) (s : State) (a : Absolute)
+    (others : List Absolute) : Type 0 where
   pub left : List ℕ
   pub takes : Takes x g core file Complete left
   pub area : range (s .core) (x .area .at .0) (x .area .size) ≡ range left (x .area .at .0) (x .area .size)
@@ -69,10 +70,13 @@ module _ (r p : ℕ) (x : Load) (a : Absolute) (others : List Absolute) where
       → Ends x g core (taken r p (told es s)) (run event es s) a others
 
   -- the block is taken
-  module _ (es : List Event) (next : Life es) (s : State) (core : List ℕ) (g : Stage) (k : Prepared s) (h : holderOf (placeIn (s .desk) p) ≡ r + 1)
-      (lx : loadIn (placeIn (s .desk) p) ≡ x) (sg : stageIn (placeIn (s .desk) p) ≡ g) (hc : Holds x core) (al : Alike x (s .core) core)
+  module _ (es : List Event) (next : Life es) (s : State) (core : List ℕ) (g : Stage) (k : Prepared s)
+      (h : holderOf (placeIn (s .desk) p) ≡ r + 1)
+      (lx : loadIn (placeIn (s .desk) p) ≡ x) (sg : stageIn (placeIn (s .desk) p) ≡ g) (hc : Holds x core)
+      (al : Alike x (s .core) core)
       (block : List ℕ) (over : isOver g ≡ false) (safe : every (harmless r p (x .area)) es ≡ true)
-      (fed : feedOf (s .desk) (s .core) r p block ≡ takenOf (s .desk) (s .core) p (loadIn (placeIn (s .desk) p)) (stageIn (placeIn (s .desk) p)) block) where
+      (fed : feedOf (s .desk) (s .core) r p block ≡ takenOf (s .desk) (s .core) p (loadIn (placeIn (s .desk) p))
+      (stageIn (placeIn (s .desk) p)) block) where
     abbrev held : holderOf (placeIn (s .desk) p) ≡ 0 → ⊥
     held z = omega (arith, h)
 
@@ -120,7 +124,8 @@ module _ (r p : ℕ) (x : Load) (a : Absolute) (others : List Absolute) where
     Ending o =
         ended r p (told es (leftBy o)) ≡ false
         → startsIn r p (Feed r p block) (o .answer) (starts r p (told es (leftBy o))) ≡ a ∷ others
-        → Ends x g core (takenIn r p (Feed r p block) (o .answer) (taken r p (told es (leftBy o)))) (run event es (leftBy o)) a others
+        → Ends x g core (takenIn r p (Feed r p block) (o .answer) (taken r p (told es (leftBy o))))
+        (run event es (leftBy o)) a others
 
     -- the place with another stage, and any core
     module _ (t : Stage) (m : List ℕ) (ready : Prepared (record { desk = staged (s .desk) p t; core = m })) where
@@ -140,7 +145,8 @@ module _ (r p : ℕ) (x : Load) (a : Absolute) (others : List Absolute) where
       next-n : Holds x alone → Alike x m alone → ended r p (told es n) ≡ false → starts r p (told es n) ≡ a ∷ others
           → Ends x t alone (taken r p (told es n)) (run event es n) a others
       next-n h z =
-          next n alone t ready holder-n (staged-load (s .desk) (k .desk) p in-p t ∙ lx) (staged-stage (s .desk) (k .desk) p in-p t) h z safe
+          next n alone t ready holder-n (staged-load (s .desk) (k .desk) p in-p t ∙ lx)
+          (staged-stage (s .desk) (k .desk) p in-p t) h z safe
 
       words-n : Quiet r p es n
           → range (run event es n .core) (x .area .at .0) (x .area .size) ≡ range m (x .area .at .0) (x .area .size)
@@ -175,7 +181,7 @@ module _ (r p : ℕ) (x : Load) (a : Absolute) (others : List Absolute) where
           takes = (over, rw (alone-says (step-done b) e) (refl, refl));
           area = w ∙ words-alike;
           some = omega arith;
-          start = i ∙ done-start x block g (s .core) b e;
+          start = i ∙ block-laws .starts x g block (s .core) b e;
           once = o;
         })
 
@@ -198,7 +204,8 @@ module _ (r p : ℕ) (x : Load) (a : Absolute) (others : List Absolute) where
     unfolding ended event
     ready-after = event-ready r p (Here (Feed r p block)) s [] k refl
 
-    fed-ends : ended r p (told (Here (Feed r p block) ∷ es) s) ≡ false → starts r p (told (Here (Feed r p block) ∷ es) s) ≡ a ∷ others
+    fed-ends : ended r p (told (Here (Feed r p block) ∷ es) s) ≡ false → starts r p (told (Here (Feed r p block) ∷ es) s) ≡ a
+        ∷ others
         → Ends x g core (taken r p (told (Here (Feed r p block) ∷ es) s)) (run event (Here (Feed r p block) ∷ es) s) a others
     unfolding told ended starts taken run event call answerTo
     fed-ends = subst Ending (sym out) (ending _ refl (subst (λ (o : Outcome). Prepared (leftBy o)) out ready-after))

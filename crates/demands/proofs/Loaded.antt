@@ -1,4 +1,5 @@
--- What open leaves: a place that holds the load as it was lent, which waits for its label; an area of zeros; and every other load as it was.
+-- What open leaves: a place that holds the load as it was lent, which waits for its label; an area of zeros; and every other load
+-- as it was.
 use Prim.Native.Nat.{ℕ, _+_, _≤_, _<_}
 use mathlib.Core.Path.{_≡_, ap}
 use mathlib.Core.Bool.{true}
@@ -19,7 +20,8 @@ use Rattle.feed.specs.Feed.{loadIn}
 use Rattle.demands.proofs.Held.{areaOf}
 
 -- ---- open where it is granted
-module _ (d : List ℕ) (s : sound d ≡ true) (r : ℕ) (a : Area) (ios tables : List ℕ) (room : r < 8) (given : placeRefusal r (holders d) ≡ 0)
+module _ (d : List ℕ) (s : sound d ≡ true) (r : ℕ) (a : Area) (ios tables : List ℕ) (room : r < 8)
+    (given : placeRefusal r (holders d) ≡ 0)
     (fit : areaFits d r a ≡ true) (obey : listsObey a ios tables ≡ true) where
   abbrev place : ℕ
   place = lowestFree (holders d)

@@ -11,7 +11,8 @@ use Rattle.demands.specs.Orders.{run, only, answersOf}
 pub record Framed (S E W A R : Type 0) (part : E → ℕ) (step : E → S → S) (answer : E → S → A)
     (Ok : S → Type 0) (view : ℕ → S → W) (rest : S → R) : Type 0 where
   pub kept : (e : E) (s : S) → Ok s → Ok (step e s)
-  pub own : (e : E) (s t : S) → Ok s → Ok t → view (part e) s ≡ view (part e) t → view (part e) (step e s) ≡ view (part e) (step e t)
+  pub own : (e : E) (s t : S) → Ok s → Ok t → view (part e) s ≡ view (part e) t
+      → view (part e) (step e s) ≡ view (part e) (step e t)
   pub other : (e : E) (p : ℕ) (s : S) → Ok s → (part e ≡ p → ⊥) → view p (step e s) ≡ view p s
   pub still : (e : E) (s : S) → Ok s → rest (step e s) ≡ rest s
   pub answered : (e : E) (s t : S) → Ok s → Ok t → view (part e) s ≡ view (part e) t → answer e s ≡ answer e t

@@ -1,4 +1,5 @@
--- A feed changes its own load's view alone, and what it does to it, and its answer, hang on that view alone. Given the laws of a block's step.
+-- A feed changes its own load's view alone, and what it does to it, and its answer, hang on that view alone. Given the laws of a
+-- block's step.
 use Prim.Native.Nat.{ℕ, _+_, _≤_, _<_}
 use mathlib.Core.Path.{_≡_, refl, sym, ap, _∙_}
 use mathlib.Core.Bool.{Bool, true, false, cond, true≢false, false≢true}
@@ -28,7 +29,8 @@ use Rattle.feed.proofs.Laws.{BlockLaws}
 use Rattle.demands.specs.History.{State, call}
 use Rattle.demands.specs.History.Call.{Feed}
 use Rattle.demands.proofs.Held.{areaOf, held-by, held-inside, held-fit}
-use Rattle.demands.proofs.Views.{View, wordsOf, view, view-eq, extent-held, words-of, alike-range, range-inside, cleared-words, Confined, confined-same, staged-place, staged-own, staged-confined}
+use Rattle.demands.proofs.Views.{View, wordsOf, view, view-eq, extent-held, words-of, alike-range, range-inside}
+use Rattle.demands.proofs.Views.{cleared-words, Confined, confined-same, staged-place, staged-own, staged-confined}
 
 -- ---- a feed
 abbrev pub leftBy : Outcome → State
@@ -67,7 +69,8 @@ module _ (laws : BlockLaws) (s : State) (p : ℕ) (block : List ℕ) where
         (laws .long (loadIn numbers) (stageIn numbers) block (s .core) f area-inside)
         (laws .beside (loadIn numbers) (stageIn numbers) block (s .core) f area-inside)
 
-    checked-confined : (v : Verdict) → Kept (checkedOf (s .desk) (s .core) (takenOf (s .desk) (s .core) p (loadIn numbers) (stageIn numbers) block) v)
+    checked-confined : (v : Verdict)
+        → Kept (checkedOf (s .desk) (s .core) (takenOf (s .desk) (s .core) p (loadIn numbers) (stageIn numbers) block) v)
     unfolding checkedOf
     checked-confined Pass = taken-confined
     checked-confined (refused-block f) = confined-same p s
@@ -118,7 +121,8 @@ module _ (laws : BlockLaws) (s t : State) (p : ℕ) (same : view p s ≡ view p 
       inside-t = omega (arith, rw place-same at (held-inside (t .desk) ot p (rw place-same held)))
 
       -- the place with its stage written, and any words that are the same in the area
-      staged-match : (g : Stage) (k m : List ℕ) → range k (areaOf l .at .0) (areaOf l .size) ≡ range m (areaOf l .at .0) (areaOf l .size)
+      staged-match : (g : Stage) (k m : List ℕ)
+          → range k (areaOf l .at .0) (areaOf l .size) ≡ range m (areaOf l .at .0) (areaOf l .size)
           → view p (record { desk = staged (s .desk) p g; core = k }) ≡ view p (record { desk = staged (t .desk) p g; core = m })
       unfolding view wordsOf
       staged-match g k m e =
@@ -128,7 +132,8 @@ module _ (laws : BlockLaws) (s t : State) (p : ℕ) (same : view p s ≡ view p 
           ∙ rw (extent-held l held) e
           ∙ sym (words-of _ l m (staged-own (t .desk) ot p in-p g ∙ ap ownOf place-same)))
 
-      settled-match : (g : Step) (k m : List ℕ) → range k (areaOf l .at .0) (areaOf l .size) ≡ range m (areaOf l .at .0) (areaOf l .size)
+      settled-match : (g : Step) (k m : List ℕ)
+          → range k (areaOf l .at .0) (areaOf l .size) ≡ range m (areaOf l .at .0) (areaOf l .size)
           → Match (settledOf (s .desk) (s .core) p (areaOf l) g k) (settledOf (t .desk) (t .core) p (areaOf l) g m)
       unfolding settledOf
       settled-match (step-more g) k m e = (refl, staged-match g k m e)
@@ -144,12 +149,15 @@ module _ (laws : BlockLaws) (s t : State) (p : ℕ) (same : view p s ≡ view p 
           let n = laws .long (loadIn l) (stageIn l) block in
           let w = rw (extent-held l held) at words-same in
           range-inside _ _ _ _ (rw (n (s .core) f inside-s) inside-s) (rw (n (t .core) f inside-t) inside-t)
-          (laws .same-words (loadIn l) (stageIn l) block (s .core) (t .core) f inside-s inside-t (alike-range (s .core) (t .core) _ _ w))
+          (laws .same-words (loadIn l) (stageIn l) block (s .core) (t .core) f inside-s inside-t
+          (alike-range (s .core) (t .core) _ _ w))
 
-      taken-match : Match (takenOf (s .desk) (s .core) p (loadIn l) (stageIn l) block) (takenOf (t .desk) (t .core) p (loadIn l) (stageIn l) block)
+      taken-match : Match (takenOf (s .desk) (s .core) p (loadIn l) (stageIn l) block)
+          (takenOf (t .desk) (t .core) p (loadIn l) (stageIn l) block)
       unfolding takenOf loadIn
       taken-match =
-          rw (laws .same-step (loadIn l) (stageIn l) block (t .core) (s .core) (held-fit (s .desk) ok p held) inside-t inside-s) (settled-match _ _ _ after-alike)
+          rw (laws .same-step (loadIn l) (stageIn l) block (t .core) (s .core) (held-fit (s .desk) ok p held) inside-t inside-s)
+          (settled-match _ _ _ after-alike)
 
       checked-match : (v : Verdict)
           → Match (checkedOf (s .desk) (s .core) (takenOf (s .desk) (s .core) p (loadIn l) (stageIn l) block) v)
@@ -160,12 +168,14 @@ module _ (laws : BlockLaws) (s t : State) (p : ℕ) (same : view p s ≡ view p 
 
       held-match : Match (heldOf (s .desk) (s .core) p block) (heldOf (t .desk) (t .core) p block)
       unfolding heldOf
-      held-match = rw place-same (both-when Match (isOver (stageIn l)) (isOver (stageIn l)) refl (λ o. (refl, same)) (λ o. checked-match _))
+      held-match = rw place-same
+          (both-when Match (isOver (stageIn l)) (isOver (stageIn l)) refl (λ o. (refl, same)) (λ o. checked-match _))
 
     holds-same : (r : ℕ) → holds (s .desk) r p ≡ holds (t .desk) r p
     unfolding holds
     holds-same r =
-        let e : holderIn (t .desk) p ≡ holderIn (s .desk) p = holder-at (t .desk) p ∙ ap holderOf place-same ∙ sym (holder-at (s .desk) p) in
+        let e : holderIn (t .desk) p ≡ holderIn (s .desk) p = holder-at (t .desk) p ∙ ap holderOf place-same
+        ∙ sym (holder-at (s .desk) p) in
         rw e
 
     pub feed-match : (r : ℕ) → Match (feedOf (s .desk) (s .core) r p block) (feedOf (t .desk) (t .core) r p block)

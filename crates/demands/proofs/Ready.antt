@@ -96,11 +96,13 @@ module _ (s : State) (r p : ℕ) (block : List ℕ) (ok : sound (s .desk) ≡ tr
   settled-words (step-done a) after w = w
   settled-words (step-refused f) after w = stored-cleared (s .core) _ _ in-core
 
-  taken-words : every isWord block ≡ true → StoredWords (s .core) (takenOf (s .desk) (s .core) p x (stageIn (placeIn (s .desk) p)) block .core)
+  taken-words : every isWord block ≡ true
+      → StoredWords (s .core) (takenOf (s .desk) (s .core) p x (stageIn (placeIn (s .desk) p)) block .core)
   unfolding takenOf
   taken-words w =
       let k = holds-place (s .desk) r p h in
-      settled-words _ _ (block-laws .words x (stageIn (placeIn (s .desk) p)) block (s .core) (held-fit (s .desk) ok p (k .0) (k .1)) in-core w)
+      settled-words _ _ (block-laws .words x (stageIn (placeIn (s .desk) p)) block (s .core)
+      (held-fit (s .desk) ok p (k .0) (k .1)) in-core w)
 
 call-words : (c : Call) (s : State) → StoredWords (s .core) (call c s .core)
 unfolding call
@@ -138,7 +140,8 @@ call-same r p n (Open q a ios tables) b z = refl
 call-same r p n (Feed q k block) b z = refl
 call-same r p n (Release m q k) b z = refl
 
-pub event-ended : (r p : ℕ) (e : Event) (s : State) (rest : List Told) → ended r p (toldBy e s rest) ≡ false → ended r p rest ≡ false
+pub event-ended : (r p : ℕ) (e : Event) (s : State) (rest : List Told) → ended r p (toldBy e s rest) ≡ false
+    → ended r p rest ≡ false
 unfolding ended
 event-ended r p (Here c) s rest q = neither (endedBy r p c (answerTo c s)) (ended r p rest) q .1
 event-ended r p (Elsewhere other c) s rest q = neither (endedBy r p c (answerTo c (lent other s))) (ended r p rest) q .1

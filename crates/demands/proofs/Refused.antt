@@ -94,7 +94,8 @@ Refuses n d core o = (f : Fault) → o .answer ≡ Refused f → (1 ≤ f .numbe
 same-fault : {m : ℕ} {f : Fault} → _≡_ {A = Answer} (Refused (fault m)) (Refused f) → m ≡ f .number
 same-fault q = ap codeOf q
 
-refuses : (n m : ℕ) (d core : List ℕ) → 1 ≤ m → m ≤ n → Refuses n d core (record { answer = Refused (fault m); desk = d; core = core })
+refuses : (n m : ℕ) (d core : List ℕ) → 1 ≤ m → m ≤ n
+    → Refuses n d core (record { answer = Refused (fault m); desk = d; core = core })
 refuses n m d core l h f q = (omega (arith, same-fault q), omega (arith, same-fault q), (refl, refl))
 
 make-refuses : (d : List ℕ) (n : ℕ) (m : List ℕ) → Refuses 3 d [] (makeOf d n m)
@@ -104,7 +105,8 @@ make-refuses d n m =
     both P (eqb (length d) deskWords)
     (both P (coreFits n)
     (both P (eqb (length m) 16)
-    (both P (mapObeys n (mapOf m)) (λ f q. let z : _≡_ {A = ℕ} 0 1 = cc in absurd (omega arith)) (refuses 3 3 d [] (omega arith) (omega arith)))
+    (both P (mapObeys n (mapOf m)) (λ f q. let z : _≡_ {A = ℕ} 0 1 = cc in absurd (omega arith))
+    (refuses 3 3 d [] (omega arith) (omega arith)))
     (refuses 3 3 d [] (omega arith) (omega arith)))
     (refuses 3 2 d [] (omega arith) (omega arith)))
     (refuses 3 1 d [] (omega arith) (omega arith))
@@ -125,16 +127,19 @@ open-refuses d core r a ios tables =
     entered-cases d (length core) r core _ P (λ m l h. refuses 8 m d core l (omega arith))
     (λ k. when P (eqb (placeRefusal r (holders d)) 0)
     (λ z. both P (areaFits d r a)
-    (both P (listsObey a ios tables) (λ f q. let z : _≡_ {A = ℕ} 0 1 = cc in absurd (omega arith)) (refuses 8 8 d core (omega arith) (omega arith)))
+    (both P (listsObey a ios tables) (λ f q. let z : _≡_ {A = ℕ} 0 1 = cc in absurd (omega arith))
+    (refuses 8 8 d core (omega arith) (omega arith)))
     (refuses 8 7 d core (omega arith) (omega arith)))
-    (λ z. refuses 8 (placeRefusal r (holders d)) d core (omega (arith, eqb-false (placeRefusal r (holders d)) 0 z)) (omega (arith, refusal-most r (holders d)))))
+    (λ z. refuses 8 (placeRefusal r (holders d)) d core (omega (arith, eqb-false (placeRefusal r (holders d)) 0 z))
+    (omega (arith, refusal-most r (holders d)))))
 
 release-refuses : (d : List ℕ) (n r p : ℕ) → Refuses 9 d [] (releaseOf d n r p)
 unfolding releaseOf
 release-refuses d n r p =
     let P = Refuses 9 d [] in
     entered-cases d n r [] _ P (λ m l h. refuses 9 m d [] l (omega arith))
-    (λ k. both P (holds d r p) (λ f q. let z : _≡_ {A = ℕ} 0 1 = cc in absurd (omega arith)) (refuses 9 9 d [] (omega arith) (omega arith)))
+    (λ k. both P (holds d r p) (λ f q. let z : _≡_ {A = ℕ} 0 1 = cc in absurd (omega arith))
+    (refuses 9 9 d [] (omega arith) (omega arith)))
 
 -- ---- a feed that is refused: up to 12 nothing changes, from 13 on the load is broken off
 same-state : (s t : State) → t .desk ≡ s .desk → t .core ≡ s .core → t ≡ s

@@ -50,7 +50,8 @@ use Rattle.sections.specs.Heads.{banksFit, withSegment, segmentStep, withSectio
 use Rattle.sections.specs.Program.{afterLast, afterGroup, itemStep, closes, followed, StepOutcome, programFrom}
 use Rattle.demands.specs.Image.{Piece, piecesFrom, Store, storeOf, tableSection, storesFrom}
 use Rattle.demands.proofs.Stores.{storeAll, Inside, AllInside}
-use Rattle.demands.proofs.Heads.{head-group, head-table, head-segment, stores-segment, stores-table, stores-group, no-fuel, no-pieces, no-stores}
+use Rattle.demands.proofs.Heads.{head-group, head-table, head-segment, stores-segment, stores-table, stores-group, no-fuel}
+use Rattle.demands.proofs.Heads.{no-pieces, no-stores}
 
 -- the core comes to be `after` by stores that lie in the area
 pub record Comes (area : Area) (core : List ℕ) (stores : List Store) (after : List ℕ) : Type 0 where
@@ -62,8 +63,8 @@ comes-on : (area : Area) (core after : List ℕ) (s : Store) (later : List Store
 unfolding storeAll AllInside
 comes-on area core after s later h c = record { last = c .last; inside = (h, c .inside) }
 
--- ---- what is due, as the image sees it: how many sections are still to end, and the section that a group would belong to. The course has
--- one section fewer from the head of a table section on.
+-- ---- what is due, as the image sees it: how many sections are still to end, and the section that a group would belong to. The
+-- course has one section fewer from the head of a table section on.
 abbrev pub leftIn : Stage → ℕ
 leftIn Label = 0
 leftIn (Entry c exact b) = 0
@@ -113,15 +114,18 @@ unfolding sectionFits tableInside
 table-room area ts t h q =
     let k = getD ts (t .number .0) noTable in
     let b = ltb-true (t .number .0) (length ts) (and-left _ _ q) in
-    let f = says-within (k .at .0) (k .len) (area .at .0) (area .size) .fact (every-place noTable (tableInside area) ts (t .number .0) b h) in
+    let f = says-within (k .at .0) (k .len) (area .at .0) (area .size) .fact
+    (every-place noTable (tableInside area) ts (t .number .0) b h) in
     (f .0, f .1, leb-true (t .count) (k .len) (and-right (ltb (t .number .0) (length ts)) _ q))
 
 -- where s is due, the pieces ps store what is still to come; `after` is the core after all
 abbrev pub Reads : Load → ℕ → List ℕ → Stage → List ℕ → List Piece → Type 0
-Reads x channels after s core ps = (section : Section) → Stands x channels s section → Comes (x .area) core (storesFrom (given x channels) (leftIn s) section ps) after
+Reads x channels after s core ps = (section : Section) → Stands x channels s section
+    → Comes (x .area) core (storesFrom (given x channels) (leftIn s) section ps) after
 
 -- ---- a block, from any of its places on: t is what is due after it, `rest` the pieces of the blocks after it
-module _ (x : Load) (channels : ℕ) (tables : every (tableInside (x .area)) (x .tables) ≡ true) (block : List ℕ) (t : Stage) (rest : List Piece) (after : List ℕ) where
+module _ (x : Load) (channels : ℕ) (tables : every (tableInside (x .area)) (x .tables) ≡ true) (block : List ℕ) (t : Stage)
+    (rest : List Piece) (after : List ℕ) where
   abbrev a : Assignments
   a = given x channels
 
@@ -146,11 +150,13 @@ module _ (x : Load) (channels : ℕ) (tables : every (tableInside (x .area)) (x 
     ps = piecesFrom (suc n) block i ++ rest
 
     -- ---- a group
-    module _ (c : LabelCounts) (same : Due) (least : ℕ) (ibank : Bank) (section : Section) (q : c .channels ≡ channels) (room : InArea (x .area) section)
+    module _ (c : LabelCounts) (same : Due) (least : ℕ) (ibank : Bank) (section : Section) (q : c .channels ≡ channels)
+        (room : InArea (x .area) section)
         (left : leftIn (Program c same) ≡ suc (c .sections)) (stands : Stands x channels (Program c same) section) where
       -- m sections are to end after it
       abbrev Goes : ℕ → List ℕ → ℕ → Item → Type 0
-      Goes p core′ m item = Leads (then item core′) (Comes (x .area) core′ (storesFrom a m section (piecesFrom n block p ++ rest)) after)
+      Goes p core′ m item = Leads (then item core′)
+          (Comes (x .area) core′ (storesFrom a m section (piecesFrom n block p ++ rest)) after)
 
       over : (p : ℕ) (core′ : List ℕ) → c .sections ≡ 0 → Goes p core′ (c .sections) (Stop (More (Termination ibank)))
       over p core′ z e k =
@@ -167,7 +173,8 @@ module _ (x : Load) (channels : ℕ) (tables : every (tableInside (x .area)) (x 
           rw s at (ih c (section-due (record { 0 = least }) ibank) p core′ e k section q))
       goes p core′ false = λ e k. rw left at (ih c same p core′ e k section stands)
 
-      module _ (g : Group) (to : Absolute) (vs : List ℕ) (h : GroupGoes (assignments x c) section block i g to) (e : Gives (assignments x c) block i g vs) where
+      module _ (g : Group) (to : Absolute) (vs : List ℕ) (h : GroupGoes (assignments x c) section block i g to)
+          (e : Gives (assignments x c) block i g vs) where
         abbrev store : Store
         store = record { at = to .0; words = vs }
 
@@ -181,19 +188,22 @@ module _ (x : Load) (channels : ℕ) (tables : every (tableInside (x .area)) (x 
             let m = rw e at (changed-many (assignments x c) (indicatorBitsIn block i g) 0 (programWords block i g)) in
             record { first = l .low; last = omega (arith, m, l .high, length-range-most block (i + 1) (g .program)) }
 
-        stored-leads : Leads (then (afterGroup c same least ibank (group-answer (i + 1 + g .words) (g .last))) (splice core (to .0) vs))
+        stored-leads : Leads (then (afterGroup c same least ibank (group-answer (i + 1 + g .words) (g .last)))
+            (splice core (to .0) vs))
             (Comes (x .area) core (storesFrom a (suc (c .sections)) section ps) after)
         unfolding afterGroup
         stored-leads r k =
             rw (stores-group block i a (c .sections) section n rest more g (head-group block i g (h .read)), store-is)
             (comes-on (x .area) core after store _ store-inside (goes (i + 1 + g .words) (splice core (to .0) vs) (g .last) r k))
 
-      group-leads : Leads (then (afterGroup c same least ibank (groupStep (assignments x c) section block i core .answer)) (groupStep (assignments x c) section block i core .core))
+      group-leads : Leads (then (afterGroup c same least ibank (groupStep (assignments x c) section block i core .answer))
+          (groupStep (assignments x c) section block i core .core))
           (Comes (x .area) core (storesFrom a (suc (c .sections)) section ps) after)
       unfolding afterGroup
       group-leads =
           group-outcomes (assignments x c) section block i core
-          (λ (o : GroupOutcome). Leads (then (afterGroup c same least ibank (o .answer)) (o .core)) (Comes (x .area) core (storesFrom a (suc (c .sections)) section ps) after))
+          (λ (o : GroupOutcome). Leads (then (afterGroup c same least ibank (o .answer)) (o .core))
+          (Comes (x .area) core (storesFrom a (suc (c .sections)) section ps) after))
           (λ f. refuses _ f _)
           (λ g to f h. refuses _ f _)
           (λ g to vs h t e. stored-leads g to vs h e)
@@ -203,13 +213,15 @@ module _ (x : Load) (channels : ℕ) (tables : every (tableInside (x .area)) (x 
       abbrev Heads : Item → Type 0
       Heads item = Leads (then item core) (Reads x channels after (Program c segment-due) core ps)
 
-      segment-read-leads : (r : SegmentRead) → segmentOf (getD block i 0) (getD block (i + 1) 0) ≡ r → Heads (withSegment (x .area) (x .tables) c (i + 4) r)
+      segment-read-leads : (r : SegmentRead) → segmentOf (getD block i 0) (getD block (i + 1) 0) ≡ r
+          → Heads (withSegment (x .area) (x .tables) c (i + 4) r)
       unfolding withSegment
       segment-read-leads (segment-read g) e =
           when Heads (banksFit (x .area) (x .tables) g)
           (λ f r k section st.
           rw (stores-segment block i a (c .sections) section n rest more g (head-segment block i g e))
-          (ih c (SegmentGroup g) (i + 4) core r k (InSegment g) (record { count = st; same = refl; room = banks-room (x .area) (x .tables) g f })))
+          (ih c (SegmentGroup g) (i + 4) core r k (InSegment g)
+          (record { count = st; same = refl; room = banks-room (x .area) (x .tables) g f })))
           (λ f. refuses _ (fault 17) core)
       segment-read-leads (no-segment f) e = refuses _ f core
 
@@ -225,14 +237,16 @@ module _ (x : Load) (channels : ℕ) (tables : every (tableInside (x .area)) (x 
       abbrev Tables : Item → Type 0
       Tables item = Leads (then item core) (Reads x channels after (Program c (section-due (record { 0 = least }) ibank)) core ps)
 
-      section-read-leads : (r : TableSectionRead) → tableSectionOf (getD block i 0) ≡ r → Tables (withSection (x .tables) c least ibank (i + 1) r)
+      section-read-leads : (r : TableSectionRead) → tableSectionOf (getD block i 0) ≡ r
+          → Tables (withSection (x .tables) c least ibank (i + 1) r)
       unfolding withSection
       section-read-leads (section-read s) e =
           when Tables (leb least (s .number .0))
           (λ _. when Tables (sectionFits (x .tables) s)
           (λ f r k section st.
           rw (stores-table block i a (c .sections - 1) section n rest more s (head-table block i s e))
-          (ih (record { channels = c .channels; sections = c .sections - 1 }) (SectionGroup s ibank) (i + 1) core r k (tableSection (x .tables) s)
+          (ih (record { channels = c .channels; sections = c .sections - 1 }) (SectionGroup s ibank) (i + 1) core r k
+          (tableSection (x .tables) s)
           (record { count = st; same = refl; room = table-room (x .area) (x .tables) s tables f })))
           (λ f. refuses _ (fault 17) core))
           (λ _. refuses _ (fault 17) core)
@@ -243,7 +257,9 @@ module _ (x : Load) (channels : ℕ) (tables : every (tableInside (x .area)) (x 
       section-leads = section-read-leads (tableSectionOf (getD block i 0)) refl
 
     -- ---- the item, by what is due
-    item-leads : (c : LabelCounts) (due : Due) → Leads (then (itemStep x c due block i core .item) (itemStep x c due block i core .core)) (Reads x channels after (Program c due) core ps)
+    item-leads : (c : LabelCounts) (due : Due)
+        → Leads (then (itemStep x c due block i core .item) (itemStep x c due block i core .core))
+        (Reads x channels after (Program c due) core ps)
     unfolding itemStep
     item-leads c segment-due r k section st = segment-leads c r k section st
     item-leads c (SegmentGroup g) r k section st =
@@ -261,6 +277,7 @@ module _ (x : Load) (channels : ℕ) (tables : every (tableInside (x .area)) (x 
   unfolding programFrom
   program-leads zero c due i core = rw (no-fuel block i) (stays (Program c due) core)
   program-leads (suc n) c due i core =
-      when (λ (o : StepOutcome). Leads o (Reads x channels after (Program c due) core (piecesFrom (suc n) block i ++ rest))) (closes block i)
+      when (λ (o : StepOutcome). Leads o (Reads x channels after (Program c due) core (piecesFrom (suc n) block i ++ rest)))
+      (closes block i)
       (λ q. rw (no-pieces block i (suc n) q) (stays (Program c due) core))
       (λ q. item-leads n i core q (λ d u p core′. program-leads n d u p core′) c due)

@@ -1,5 +1,5 @@
--- Demand 3, of the rooms: whatever happens after a desk was made, the grants and releases give each room what it holds by the desk, and so
--- F, H and refusals 5 and 6.
+-- Demand 3, of the rooms: whatever happens after a desk was made, the grants and releases give each room what it holds by the desk,
+-- and so F, H and refusals 5 and 6.
 use Prim.Native.Nat.{ℕ, _≤_, _<_}
 use mathlib.Core.Path.{_≡_, refl, sym, ap, subst, _∙_}
 use mathlib.Core.Bool.{true}
@@ -33,7 +33,8 @@ use Rattle.demands.proofs.Granted.{call-held, call-core}
 use Rattle.demands.proofs.Ready.{event-sound}
 
 -- ---- what a room holds by the desk, and the desk's core length, are what is counted
-pub run-held : (r : ℕ) (es : List Event) (s : State) → heldAfter r (held r (holders (s .desk))) (told es s) ≡ held r (holders (run event es s .desk))
+pub run-held : (r : ℕ) (es : List Event) (s : State)
+    → heldAfter r (held r (holders (s .desk))) (told es s) ≡ held r (holders (run event es s .desk))
 unfolding run told event heldAfter
 run-held r [] s = refl
 run-held r (Here c ∷ es) s =
@@ -77,11 +78,13 @@ module _ (d : List ℕ) (ok : sound d ≡ true) (r : ℕ) (room : r < 8) (q : As
   so-refused : length (q .core) ≡ coreLength d → (n : ℕ) → 0 < n → placeRefusal r (holders d) ≡ n → Refuses d r q n
   unfolding answerTo openOf grantOf
   so-refused long n h e =
-      ap (λ (o : Outcome). o .answer) (entered-on d (length (q .core)) r (q .core) _ (record { desk = ok; core = long; room = room }))
+      ap (λ (o : Outcome). o .answer)
+      (entered-on d (length (q .core)) r (q .core) _ (record { desk = ok; core = long; room = room }))
       ∙ rw (e, ne-eqb n 0 (λ z. omega arith))
 
 -- ---- what the counts say, where they are the desk's
-module _ (ts : List Told) (d : List ℕ) (ok : sound d ≡ true) (agree : (r : ℕ) → heldBy r ts ≡ held r (holders d)) (r : ℕ) (room : r < 8) where
+module _ (ts : List Told) (d : List ℕ) (ok : sound d ≡ true) (agree : (r : ℕ) → heldBy r ts ≡ held r (holders d)) (r : ℕ)
+    (room : r < 8) where
   abbrev l : List ℕ
   l = holders d
 
@@ -99,8 +102,12 @@ module _ (ts : List Told) (d : List ℕ) (ok : sound d ≡ true) (agree : (r : �
     served = λ q z.
         let none : held r l ≡ 0 = sym (agree r) ∙ z in
         let never : (n : ℕ) → 5 ≤ n → n < 7 → Refuses d r q n → ⊥ =
-        λ n i h e. omega (arith, none-denied l r none, refused-so d ok r room q n i h e) in
-        (omega (arith, free-is, place-free l r fair room none), never 5 (omega arith) (omega arith), never 6 (omega arith) (omega arith));
+        λ n i h e. omega (arith, none-denied l r none, refused-so d ok r room q n i h e) in (
+          omega (arith, free-is, place-free l r fair room none),
+          never 5 (omega arith) (omega arith),
+          never 6 (omega arith)
+              (omega arith),
+        );
     five = λ q e.
         omega (arith, agree r, fair .two r room, given-five r l (refused-so d ok r room q 5 (omega arith) (omega arith) e));
     five-given = λ q n z. so-refused d ok r room q n 5 (omega arith) (gives-five r l (sym (agree r) ∙ z));
@@ -138,4 +145,5 @@ pub demand-3-rooms : Demand3Rooms
 demand-3-rooms s n m es r made room =
     let t = call (Make n m) s in
     rw (counted-core s n m es made)
-    (places-given (told es t) (run event es t .desk) (run-sound es t (fresh-sound s n m es made)) (counted-held s n m es made) r room)
+    (places-given (told es t) (run event es t .desk) (run-sound es t (fresh-sound s n m es made))
+    (counted-held s n m es made) r room)

@@ -52,7 +52,8 @@ module _ (area : Area) where
   unfolding storeAll AllInside
   store-length [] core h f = refl
   store-length (s ∷ later) core h f =
-      let e : length (splice core (s .at) (s .words)) ≡ length core = length-splice core (s .at) (s .words) (omega (arith, f .0 .last)) in
+      let e : length (splice core (s .at) (s .words)) ≡ length core = length-splice core (s .at) (s .words)
+      (omega (arith, f .0 .last)) in
       store-length later (splice core (s .at) (s .words)) (rw e h) (f .1) ∙ e
 
   stores-word : (stores : List Store) (core : List ℕ) (j : ℕ) → area .at .0 + area .size ≤ length core → AllInside area stores
@@ -60,7 +61,8 @@ module _ (area : Area) where
   unfolding storeAll AllInside reached wordFrom
   stores-word [] core j h f = refl
   stores-word (s ∷ later) core j h f =
-      let e : length (splice core (s .at) (s .words)) ≡ length core = length-splice core (s .at) (s .words) (omega (arith, f .0 .last)) in
+      let e : length (splice core (s .at) (s .words)) ≡ length core = length-splice core (s .at) (s .words)
+      (omega (arith, f .0 .last)) in
       stores-word later (splice core (s .at) (s .words)) j (rw e h) (f .1)
       ∙ ap (cond (reached later j) (wordFrom later j)) (store-word core s j (omega (arith, f .0 .last)))
       ∙ then-word (reached later j) (reaches s j) (wordFrom later j) (getD (s .words) (j - s .at) 0) (getD core j 0)
@@ -77,7 +79,8 @@ from-zero [] j = refl
 from-zero (s ∷ later) j = not-reached (reached later j) (reaches s j) (wordFrom later j) (getD (s .words) (j - s .at) 0)
 
 -- an area that was zero
-pub stores-image : (area : Area) (stores : List Store) (core : List ℕ) → area .at .0 + area .size ≤ length core → AllInside area stores
+pub stores-image : (area : Area) (stores : List Store) (core : List ℕ) → area .at .0 + area .size ≤ length core
+    → AllInside area stores
     → ((k : ℕ) → k < area .size → getD core (area .at .0 + k) 0 ≡ 0)
     → range (storeAll core stores) (area .at .0) (area .size) ≡ tab (λ k. wordFrom stores (area .at .0 + k)) (area .size)
 stores-image area stores core h f z =

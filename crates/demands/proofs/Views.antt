@@ -1,4 +1,5 @@
--- What of the desk and the core is a load's: its place, and its area's words. Another load's is as it was where a state differs in one load's alone.
+-- What of the desk and the core is a load's: its place, and its area's words. Another load's is as it was where a state differs in
+-- one load's alone.
 use Prim.Native.Nat.{ℕ, _+_, _-_, _≤_, _<_}
 use mathlib.Core.Path.{_≡_, refl, sym, ap, ap₂, _∙_}
 use mathlib.Core.Bool.{true, cond}
@@ -11,7 +12,8 @@ use lib.Dec.{eqb}
 use borrow.Author.Tests.{eq-eqb, ne-eqb}
 use Rattle.word.specs.Lists.{range, splice, cleared}
 use Rattle.word.proofs.Cases.{by-eq, by-lt}
-use Rattle.word.proofs.Lists.{length-range, length-range-min, length-range-most, getD-range, getD-splice-out, range-splice-before, range-splice-after, range-splice-same}
+use Rattle.word.proofs.Lists.{length-range, length-range-min, length-range-most, getD-range, getD-splice-out, range-splice-before}
+use Rattle.word.proofs.Lists.{range-splice-after, range-splice-same}
 use Rattle.word.proofs.Stretch.{Beside}
 use Rattle.stage.specs.declared.Stage.{Stage}
 use Rattle.stage.specs.Stage.{numbersOf}
@@ -76,10 +78,12 @@ pub range-inside : (k core : List ℕ) (a n : ℕ) → a + n ≤ length k → a 
     → ((j : ℕ) → a ≤ j → j < a + n → getD k j 0 ≡ getD core j 0) → range k a n ≡ range core a n
 range-inside k core a n h g = range-by k core a n (length-range k a n h ∙ sym (length-range core a n g))
 
-pub alike-range : (k core : List ℕ) (a n : ℕ) → range k a n ≡ range core a n → (j : ℕ) → a ≤ j → j < a + n → getD k j 0 ≡ getD core j 0
+pub alike-range : (k core : List ℕ) (a n : ℕ) → range k a n ≡ range core a n → (j : ℕ) → a ≤ j → j < a + n
+    → getD k j 0 ≡ getD core j 0
 alike-range k core a n e j h g =
     let z : a + (j - a) ≡ j = omega arith in
-    rw z at (sym (getD-range k a n (j - a) (omega arith)) ∙ ap (λ (l : List ℕ). getD l (j - a) 0) e ∙ getD-range core a n (j - a) (omega arith))
+    rw z at (sym (getD-range k a n (j - a) (omega arith)) ∙ ap (λ (l : List ℕ). getD l (j - a) 0) e
+    ∙ getD-range core a n (j - a) (omega arith))
 
 pub outside-beside : (j a n : ℕ) → (a ≤ j → j < a + n → ⊥) → Beside j a n
 outside-beside j a n h = by-lt j a (λ l. inl l) (λ l. by-lt j (a + n) (λ g. absurd (h l g)) (λ g. inr g))

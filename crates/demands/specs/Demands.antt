@@ -37,8 +37,8 @@ pub record Prepared (s : State) : Type 0 where
 abbrev pub Outside : Area → ℕ → Type 0
 Outside area j = area .at .0 ≤ j → j < area .at .0 + area .size → ⊥
 
--- ---- Demand 1, of every call in every state. One outcome: "it is proved that two outcomes meeting it are equal". `Returned` is the form
--- of every exported contract.
+-- ---- Demand 1, of every call in every state. One outcome: "it is proved that two outcomes meeting it are equal". `Returned` is
+-- the form of every exported contract.
 abbrev pub Demand1One : Type 0
 Demand1One =
     (o : Outcome) (r q : ℕ) (d e core other : List ℕ) → Returned o r d core → Returned o q e other
@@ -62,8 +62,8 @@ Demand1Unchanged =
     (c : Call) (s : State) (f : Fault) → answerTo c s ≡ Refused f
     → (1 ≤ f .number) × (f .number ≤ mostOf c) × (f .number ≤ 12 → call c s ≡ s)
 
--- "Refusals 13 to 22 set the whole area to zero and mark the load broken": nothing else changes, in the core or on the desk, where the
--- stage of place p is the nine numbers from base p + 6 on. The area is the one that open was given: `Demand2Area`.
+-- "Refusals 13 to 22 set the whole area to zero and mark the load broken": nothing else changes, in the core or on the desk, where
+-- the stage of place p is the nine numbers from base p + 6 on. The area is the one that open was given: `Demand2Area`.
 pub record BrokenOff (p : ℕ) (area : Area) (s after : State) : Type 0 where
   pub inside : area .at .0 + area .size ≤ length (s .core)
   pub zeros : (j : ℕ) → area .at .0 ≤ j → j < area .at .0 + area .size → getD (after .core) j 0 ≡ 0
@@ -78,8 +78,8 @@ Demand1Broken =
     (s : State) (r p : ℕ) (block : List ℕ) (f : Fault) → answerTo (Feed r p block) s ≡ Refused f → 13 ≤ f .number
     → BrokenOff p (ownOf (placeIn (s .desk) p) .given .area) s (call (Feed r p block) s)
 
--- "A fresh desk is sound, and each call keeps it so", whatever core it is lent. A made desk has the core length that make was given; no
--- other call changes that, and none the length of the core.
+-- "A fresh desk is sound, and each call keeps it so", whatever core it is lent. A made desk has the core length that make was
+-- given; no other call changes that, and none the length of the core.
 pub record KeptSound (c : Call) (s : State) : Type 0 where
   pub kept : sound (s .desk) ≡ true → sound (call c s .desk) ≡ true
   pub for-core : coreLength (call c s .desk) ≡ coreThen (coreLength (s .desk)) c (answerTo c s)
@@ -139,8 +139,8 @@ Demand3Orders = (s : State) → Prepared s → (es fs : List Fed) → SameForEac
 abbrev pub Demand3Turns : Type 0
 Demand3Turns = (s : State) → Prepared s → (es : List Fed) → SameOutcome s es (inTurn loadNumber (placeCount + 1) es)
 
--- "Demand 3 speaks of demand 2's images": a load is opened, anything happens that does it no harm, and then feeds of any loads come. If it
--- was answered `done`, its area holds its image also where the feeds come in another order that keeps each load's own.
+-- "Demand 3 speaks of demand 2's images": a load is opened, anything happens that does it no harm, and then feeds of any loads
+-- come. If it was answered `done`, its area holds its image also where the feeds come in another order that keeps each load's own.
 abbrev pub Demand3Images : Type 0
 Demand3Images =
     (o : Opening) (between : List Event) (es fs : List Fed) (a : Absolute) (others : List Absolute)
@@ -149,8 +149,8 @@ Demand3Images =
     → SameForEach es fs
     → areaWords o (run event (between ++ feeds fs) (granted o)) ≡ imageSince o (between ++ feeds es)
 
--- ---- Demand 3, of the rooms: what open answers to room r, whatever area, lists and core it comes with. F and H are counted from the grants
--- and releases since the desk was last made; n is the core length that it was made with.
+-- ---- Demand 3, of the rooms: what open answers to room r, whatever area, lists and core it comes with. F and H are counted from
+-- the grants and releases since the desk was last made; n is the core length that it was made with.
 pub record Asked : Type 0 where
   pub area : Area
   pub ios : List ℕ
@@ -176,4 +176,5 @@ pub record PlacesGiven (ts : List Told) (n : ℕ) (desk : List ℕ) (r : ℕ) : 
 abbrev pub Demand3Rooms : Type 0
 Demand3Rooms =
     (s : State) (n : ℕ) (m : List ℕ) (es : List Event) (r : ℕ) → answerTo (Make n m) s ≡ Made → r < roomCount
-    → PlacesGiven (told es (call (Make n m) s)) (coreAfter n (told es (call (Make n m) s))) (run event es (call (Make n m) s) .desk) r
+    → PlacesGiven (told es (call (Make n m) s)) (coreAfter n (told es (call (Make n m) s)))
+    (run event es (call (Make n m) s) .desk) r

@@ -1,6 +1,6 @@
 -- Lives of loads, event by event: the hand deck in its room as 01 has it, two rooms interleaved, a load that breaks beside one that
--- completes, and a day in which programs run while others load. What each leads to is computed whole (`not-empty`, crate witness), so
--- that the demands are not vacuous.
+-- completes, and a day in which programs run while others load. What each leads to is computed whole (`not-empty`, crate witness),
+-- so that the demands are not vacuous.
 use Prim.Native.Nat.{ℕ}
 use mathlib.Core.Path.{_≡_}
 use mathlib.Core.List.{List, [], _∷_}
@@ -83,8 +83,8 @@ oneBroken =
     ∷ fed0 deckProgram ∷ fed0 deckProgram
     ∷ fed1 deckProgram ∷ fed0 deckTermination ∷ fed1 deckTermination ∷ []
 
--- room 1's program is loaded and stores into its own area while room 0 loads; a call of room 1 is lent a core of two words; a make is
--- given a map of no numbers; and room 1 gives its place back
+-- room 1's program is loaded and stores into its own area while room 0 loads; a call of room 1 is lent a core of two words; a make
+-- is given a map of no numbers; and room 1 gives its place back
 abbrev pub whileItLoads : List Event
 whileItLoads =
     fed0 deckLabel

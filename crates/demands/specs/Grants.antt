@@ -1,5 +1,5 @@
--- Who holds how many places, counted from the grants and releases since the desk was last made, not from the desk's numbers: "Say F places
--- are free and H rooms hold none".
+-- Who holds how many places, counted from the grants and releases since the desk was last made, not from the desk's numbers: "Say F
+-- places are free and H rooms hold none".
 use Prim.Native.Nat.{ℕ, zero, suc, _+_, _-_}
 use mathlib.Core.Bool.{Bool, false, cond}
 use mathlib.Core.List.{List, [], _∷_}
@@ -17,7 +17,8 @@ isOf r (Open q area ios tables) = eqb q r
 isOf r (Feed q k block) = eqb q r
 isOf r (Release n q k) = eqb q r
 
--- what room r holds after a call, if it held n places before: `opened` adds one, `released` takes one, and on a new desk it holds none
+-- what room r holds after a call, if it held n places before: `opened` adds one, `released` takes one, and on a new desk it holds
+-- none
 abbrev pub heldThen : ℕ → ℕ → Call → Answer → ℕ
 heldThen r n c (Refused f) = n
 heldThen r n c Made = 0

@@ -1,5 +1,5 @@
--- A history: what happens to one desk, and to the one core that we follow. And what can be told of it from the calls and their answers
--- alone.
+-- A history: what happens to one desk, and to the one core that we follow. And what can be told of it from the calls and their
+-- answers alone.
 use Prim.Native.Nat.{ℕ, _+_}
 use mathlib.Core.Bool.{Bool, true, false, not, cond, _&&_, _||_}
 use mathlib.Core.List.{List, [], _∷_}
@@ -36,11 +36,12 @@ unfoldable pub call : Call → State → State
 call (Make n m) s = record { desk = makeOf (s .desk) n m .desk; core = s .core }
 call (Open r area ios tables) s =
     record { desk = openOf (s .desk) (s .core) r area ios tables .desk; core = openOf (s .desk) (s .core) r area ios tables .core }
-call (Feed r p block) s = record { desk = feedOf (s .desk) (s .core) r p block .desk; core = feedOf (s .desk) (s .core) r p block .core }
+call (Feed r p block) s =
+    record { desk = feedOf (s .desk) (s .core) r p block .desk; core = feedOf (s .desk) (s .core) r p block .core }
 call (Release n r p) s = record { desk = releaseOf (s .desk) n r p .desk; core = s .core }
 
--- ---- what happens: a call on the desk that is lent the core that we follow; one that is lent another core; and a store from outside, such
--- as a running program makes: address and value. Nothing else writes to the desk.
+-- ---- what happens: a call on the desk that is lent the core that we follow; one that is lent another core; and a store from
+-- outside, such as a running program makes: address and value. Nothing else writes to the desk.
 pub data Event : Type 0 where
   Here : Call → Event
   Elsewhere : List ℕ → Call → Event
@@ -138,8 +139,8 @@ unfoldable pub ended : ℕ → ℕ → List Told → Bool
 ended r p [] = false
 ended r p (t ∷ ts) = endedBy r p (t .call) (t .answer) || ended r p ts
 
--- ---- what does a load no harm: any call that is lent its core; a call that is lent another one, if it is not the load's own feed; and a
--- store outside its area
+-- ---- what does a load no harm: any call that is lent its core; a call that is lent another one, if it is not the load's own feed;
+-- and a store outside its area
 abbrev pub feedsIt : ℕ → ℕ → Call → Bool
 feedsIt r p (Make n m) = false
 feedsIt r p (Open q area ios tables) = false

@@ -1,7 +1,7 @@
--- The image that a program file defines, from its blocks, the area and the two lists alone: the label's counts, the program blocks cut
--- into pieces, the stores in order, and of each word the last store that reaches it. No loader, no desk and no stage in it. Of the
--- modification blocks only the number matters here: their words hold the lengths of the tables, and a file whose lengths are not met
--- is refused with 16.
+-- The image that a program file defines, from its blocks, the area and the two lists alone: the label's counts, the program blocks
+-- cut into pieces, the stores in order, and of each word the last store that reaches it. No loader, no desk and no stage in it. Of
+-- the modification blocks only the number matters here: their words hold the lengths of the tables, and a file whose lengths are
+-- not met is refused with 16.
 use Prim.Native.Nat.{ℕ, zero, suc, _+_, _-_}
 use mathlib.Core.Bool.{Bool, false, cond, _&&_, _||_}
 use mathlib.Core.List.{List, [], _∷_, _++_, map}
@@ -36,8 +36,8 @@ use Rattle.group.specs.declared.Section.the-variants.{Segment as InSegment, Tab
 use Rattle.group.specs.Group.{Words, changedWords, programWords, indicatorBitsIn, wordsLie, addressOf}
 use Rattle.group.specs.Group.Words.{Become, Refuse}
 
--- ---- the pieces of a program block. A word says by its bits 35-34 what it heads: 10 a group, 01 a table section, zeros the segment section,
--- of four words.
+-- ---- the pieces of a program block. A word says by its bits 35-34 what it heads: 10 a group, 01 a table section, zeros the
+-- segment section, of four words.
 pub data Head : Type 0 where
   SegmentHead : Segment → Head
   TableHead : TableSection → Head
@@ -99,7 +99,8 @@ pub record Store : Type 0 where
   pub at : ℕ
   pub words : List ℕ
 
--- a group whose fields are refused, or whose words do not lie where they must, stores nothing; in a file that is loaded there is none
+-- a group whose fields are refused, or whose words do not lie where they must, stores nothing; in a file that is loaded there is
+-- none
 abbrev pub wordsOr : Words → List ℕ
 wordsOr (Become vs) = vs
 wordsOr (Refuse f) = []
@@ -108,7 +109,11 @@ wordsOr (Refuse f) = []
 unfoldable pub storeOf : Assignments → Section → List ℕ → ℕ → Group → Store
 storeOf a section block i g =
     cond (wordsLie section g)
-    (record { at = addressOf (a .area) section g .0; words = wordsOr (changedWords a (indicatorBitsIn block i g) 0 (programWords block i g)) })
+    (record {
+      at = addressOf (a .area) section g .0;
+      words = wordsOr
+          (changedWords a (indicatorBitsIn block i g) 0 (programWords block i g));
+    })
     (record { at = 0; words = [] })
 
 -- ---- the groups in order, each with the section that it stands in
@@ -139,8 +144,8 @@ unfoldable pub groupsFrom : List CoreTable → Section → List Piece → List S
 groupsFrom tables section [] = []
 groupsFrom tables section (p ∷ ps) = groupsBy tables section (p .block) (p .at) (p .head) (λ s. groupsFrom tables s ps)
 
--- "bit 17 set on the section's last group"; "After the last section's last group the rest of the block is disregarded": the groups up to
--- the n-th that is the last of its section
+-- "bit 17 set on the section's last group"; "After the last section's last group the rest of the block is disregarded": the groups
+-- up to the n-th that is the last of its section
 unfoldable pub upToLast : ℕ → List SectionGroup → List SectionGroup
 upToLast n [] = []
 upToLast n (g ∷ gs) = cond (eqb n 0) [] (g ∷ upToLast (cond (g .group .last) (n - 1) n) gs)
@@ -152,7 +157,8 @@ storeIn a g = storeOf a (g .section) (g .block) (g .at) (g .group)
 unfoldable pub storesFrom : Assignments → ℕ → Section → List Piece → List Store
 storesFrom a n section ps = map (storeIn a) (upToLast n (groupsFrom (a .tables) section ps))
 
--- ---- "Where groups overlap, the later word stands": the word at address j is that of the last store that reaches it, and zero where none does
+-- ---- "Where groups overlap, the later word stands": the word at address j is that of the last store that reaches it, and zero
+-- where none does
 abbrev pub reaches : Store → ℕ → Bool
 reaches s j = leb (s .at) j && ltb j (s .at + length (s .words))
 

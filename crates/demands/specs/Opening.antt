@@ -1,4 +1,5 @@
--- A load from its opening on: the state that open was called in, what it was given and the place that it answered; and what happened since.
+-- A load from its opening on: the state that open was called in, what it was given and the place that it answered; and what
+-- happened since.
 use Prim.Native.Nat.{ℕ}
 use mathlib.Core.Path.{_≡_}
 use mathlib.Core.Bool.{true, false}
@@ -33,7 +34,8 @@ since o es = told es (granted o)
 abbrev pub Stays : Opening → List Event → Type 0
 Stays o es = ended (o .room) (o .place) (since o es) ≡ false
 
--- no store from outside hit its area, and its own feeds were lent its core. Stores elsewhere, and any calls of others, do it no harm.
+-- no store from outside hit its area, and its own feeds were lent its core. Stores elsewhere, and any calls of others, do it no
+-- harm.
 abbrev pub Unharmed : Opening → List Event → Type 0
 Unharmed o es = every (harmless (o .room) (o .place) (o .area)) es ≡ true
 

@@ -1,4 +1,5 @@
--- Events one after another, of parts that have each their own: the order of a part's own events, its answers, and all parts in turn.
+-- Events one after another, of parts that have each their own: the order of a part's own events, its answers, and all parts in
+-- turn.
 use Prim.Native.Nat.{ℕ, zero, suc}
 use mathlib.Core.Bool.{cond}
 use mathlib.Core.List.{List, [], _∷_, _++_}

@@ -1,4 +1,5 @@
--- Examples that show that the demands are not vacuous: whole histories of loads on a desk of 3,653 numbers and a core of 4,096 words, by computing alone.
+-- Examples that show that the demands are not vacuous: whole histories of loads on a desk of 3,653 numbers and a core of 4,096
+-- words, by computing alone.
 use Prim.Native.Nat.{ℕ}
 use mathlib.Core.Path.{_≡_, refl}
 use mathlib.Core.List.{List, [], _∷_, flatMap}
@@ -25,7 +26,8 @@ use Rattle.lists.specs.HowKept.{numbersIn, tablesIn}
 use Rattle.lists.specs.Load.{iosIn, wordsIn, ranksIn, coreTables, ioNumbers, keptLists}
 use Rattle.lists.specs.HowChain.{chain, chainFrom}
 use Rattle.field.specs.Field.{valued, movedField, becomes, putBack, fieldStep}
-use Rattle.group.specs.Group.{halfStep, wordStep, changedWords, wordsLie, addressOf, indicatorsFit, groupFits, refusedGroup, storedGroup, groupOutcome, readOutcome, groupStep}
+use Rattle.group.specs.Group.{halfStep, wordStep, changedWords, wordsLie, addressOf, indicatorsFit, groupFits, refusedGroup}
+use Rattle.group.specs.Group.{storedGroup, groupOutcome, readOutcome, groupStep}
 use Rattle.stage.specs.Stage.{numbersOf, stageOf}
 use Rattle.stage.specs.Ranges.{labelCountsFit, bankFits, dueFits, stageFits}
 use Rattle.stage.specs.Record.{recordDue, isOver}
@@ -50,24 +52,25 @@ use Rattle.demands.specs.Image.{fileStart}
 use Rattle.demands.specs.Orders.{run}
 use Rattle.demands.specs.History.{State, answerTo, call, Event, event, Told, told, taken, starts, ended}
 use Rattle.demands.specs.Opening.{Opening, granted, imageSince, areaWords}
-use Rattle.demands.specs.Examples.{oldDesk, oldCore, old, oneRoom, twoRooms, make, answersIn, otherArea, open1, fed1, deckFeeds, deckLife, byTurns, oneBroken, whileItLoads, dayLife, NotEmpty}
+use Rattle.demands.specs.Examples.{oldDesk, oldCore, old, oneRoom, twoRooms, make, answersIn, otherArea, open1, fed1, deckFeeds}
+use Rattle.demands.specs.Examples.{deckLife, byTurns, oneBroken, whileItLoads, dayLife, NotEmpty}
 use Rattle.demands.proofs.Demands.{demand-2}
 
 -- a history, with every definition that computing it opens; a proof that unfolds it opens them all
 computed : List Event → List Told
-unfolding every everyTwo range tab splice cleared within apart characters spelt modification program termination sumOf verdict sealVerdict
-    isName isRest letterOrDigit
-    tableWordsIn tableWords tablesInOrder entriesOf countsOf withinLimits
-    labelOf finished programWordFits assignmentsFit bankOf segmentOf tableSectionOf groupOf inBank
-    bitsOf flatMap indicatorBits bitsBefore numberAt indicatorAt afterField afterWord afterAll listsObey tablesObey tablesOf numbersKept
-    wordsKept ranksKept wordsFrom sorted ranked numbersIn tablesIn chain chainFrom valued movedField becomes putBack fieldStep halfStep
-    wordStep changedWords wordsLie addressOf indicatorsFit groupFits refusedGroup storedGroup groupOutcome readOutcome groupStep numbersOf stageOf labelCountsFit bankFits dueFits stageFits
-    recordDue isOver afterLabel withLabel labelStep terminationStep banksFit withSegment segmentStep afterLast afterGroup itemStep closes
-    programFrom programStep stretchOf mapOf inCore stretchesApart mapObeys hit count free held heldEach idle atMost fair placeRefusal
-    lowestFree mapNumbers holders places placeIn ownOf stageIn listsIn iosIn wordsIn ranksIn coreTables ioNumbers keptLists areaIn countsFit loadFits heldFits placeFits areasApart
-    sound freed freshDesk makeOf besideOwn areaFits openedOwn openedPlace openedDesk opened grantOf openOf entryRefusal entered holds dueStep blockStep
-    loadIn staged settledOf takenOf checkedOf heldOf feedOf withWords blank deckLabel deckProgram deckTermination run answerTo call event told oldDesk oldCore
-    old answersIn taken starts ended releaseOf
+unfolding every everyTwo range tab splice cleared within apart characters spelt modification program termination sumOf verdict
+    sealVerdict isName isRest letterOrDigit tableWordsIn tableWords tablesInOrder entriesOf countsOf withinLimits labelOf finished
+    programWordFits assignmentsFit bankOf segmentOf tableSectionOf groupOf inBank bitsOf flatMap indicatorBits bitsBefore numberAt
+    indicatorAt afterField afterWord afterAll listsObey tablesObey tablesOf numbersKept wordsKept ranksKept wordsFrom sorted ranked
+    numbersIn tablesIn chain chainFrom valued movedField becomes putBack fieldStep halfStep wordStep changedWords wordsLie addressOf
+    indicatorsFit groupFits refusedGroup storedGroup groupOutcome readOutcome groupStep numbersOf stageOf labelCountsFit bankFits
+    dueFits stageFits recordDue isOver afterLabel withLabel labelStep terminationStep banksFit withSegment segmentStep afterLast
+    afterGroup itemStep closes programFrom programStep stretchOf mapOf inCore stretchesApart mapObeys hit count free held heldEach
+    idle atMost fair placeRefusal lowestFree mapNumbers holders places placeIn ownOf stageIn listsIn iosIn wordsIn ranksIn
+    coreTables ioNumbers keptLists areaIn countsFit loadFits heldFits placeFits areasApart sound freed freshDesk makeOf besideOwn
+    areaFits openedOwn openedPlace openedDesk opened grantOf openOf entryRefusal entered holds dueStep blockStep loadIn staged
+    settledOf takenOf checkedOf heldOf feedOf withWords blank deckLabel deckProgram deckTermination run answerTo call event told
+    oldDesk oldCore old answersIn taken starts ended releaseOf
 computed es = told es old
 
 -- ---- what the histories lead to, each by computing
