@@ -6,11 +6,11 @@ use mathlib.Core.List.{List, [], _∷_, _++_, map}
 use Rattle.word.specs.Lists.{every}
 use Rattle.word.proofs.Cases.{and-left, and-right, and-both}
 use Rattle.demands.specs.Orders.{run}
-use Rattle.demands.specs.History.{State, Event, event, told, toldBy, ended, harmless}
+use Rattle.demands.specs.History.{State, Event, event, told, toldBy, isGone, harmless}
 use Rattle.demands.specs.Opening.{Opening, granted, areaWords}
 use Rattle.demands.specs.Feeding.{Fed, feed, feeds}
 use Rattle.demands.specs.Demands.{Prepared, Demand2, Demand3Orders, Demand3Images}
-use Rattle.demands.proofs.Ready.{event-ended, event-ready}
+use Rattle.demands.proofs.Ready.{event-gone, event-ready}
 use Rattle.demands.proofs.Begun.{begun}
 
 run-on : (xs ys : List Event) (s : State) → run event (xs ++ ys) s ≡ run event ys (run event xs s)
@@ -30,11 +30,11 @@ feeds-safe o [] = refl
 feeds-safe o (e ∷ es) = feeds-safe o es
 
 -- before the feeds the state is ready, since the load was there until their end
-ready-on : (r p : ℕ) (xs ys : List Event) (s : State) → Prepared s → ended r p (told (xs ++ ys) s) ≡ false
+ready-on : (r p : ℕ) (xs ys : List Event) (s : State) → Prepared s → isGone r p (told (xs ++ ys) s) ≡ false
     → Prepared (run event xs s)
 unfolding run told
 ready-on r p [] ys s k q = k
-ready-on r p (x ∷ xs) ys s k q = ready-on r p xs ys (event x s) (event-ready r p x s _ k q) (event-ended r p x s _ q)
+ready-on r p (x ∷ xs) ys s k q = ready-on r p xs ys (event x s) (event-ready r p x s _ k q) (event-gone r p x s _ q)
 
 every-on : (f : Event → Bool) (xs ys : List Event) → every f xs ≡ true → every f ys ≡ true → every f (xs ++ ys) ≡ true
 unfolding every

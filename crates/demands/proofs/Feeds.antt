@@ -24,7 +24,7 @@ use Rattle.feed.specs.Feed.{takenOf, feedOf, loadIn}
 use Rattle.feed.proofs.Blocked.{block-laws}
 use Rattle.demands.specs.Orders.{run}
 use Rattle.demands.specs.History.{State, Call, answerTo, call, Event, lent, event, Told, toldBy, told, takenIn, taken}
-use Rattle.demands.specs.History.{startsIn, starts, endedBy, ended, feedsIt, isIn, harmless}
+use Rattle.demands.specs.History.{startsIn, starts, goneBy, isGone, feedsIt, isIn, harmless}
 use Rattle.demands.specs.History.Call.{Make, Open, Feed, Release}
 use Rattle.demands.specs.History.Event.{Here, Elsewhere, Store}
 use Rattle.demands.specs.Demands.{Prepared}
@@ -32,7 +32,7 @@ use Rattle.demands.proofs.Held.{areaOf, held-by}
 use Rattle.demands.proofs.Views.{View, view, view-by, view-kept}
 use Rattle.demands.proofs.Reach.{leftBy, feed-confined}
 use Rattle.demands.proofs.Outcomes.{make-sorted, feed-sorted}
-use Rattle.demands.proofs.Ready.{neither, event-sound, event-ended, event-ready}
+use Rattle.demands.proofs.Ready.{neither, event-sound, event-gone, event-ready}
 use Rattle.demands.proofs.Calls.{open-view, release-view}
 
 pub place-of : (p : ℕ) (s t : State) → view p t ≡ view p s → placeIn (t .desk) p ≡ placeIn (s .desk) p
@@ -49,14 +49,14 @@ pub record CallIdle (r p : ℕ) (c : Call) (s : State) : Type 0 where
   pub takes-none : (rest : List (List ℕ)) → takenIn r p c (answerTo c s) rest ≡ rest
   pub starts-none : (rest : List Absolute) → startsIn r p c (answerTo c s) rest ≡ rest
 
-abbrev CallSteps : ℕ → ℕ → Call → State → Type 0
-CallSteps r p c s =
+abbrev CallTakesIt : ℕ → ℕ → Call → State → Type 0
+CallTakesIt r p c s =
     (block : List ℕ) × (c ≡ Feed r p block) × (isOver (stageIn (placeIn (s .desk) p)) ≡ false)
     × (feedOf (s .desk) (s .core) r p block ≡ takenOf (s .desk) (s .core) p (loadIn (placeIn (s .desk) p))
     (stageIn (placeIn (s .desk) p)) block)
 
 module _ (r p : ℕ) (s : State) (ok : sound (s .desk) ≡ true) (held : holderOf (placeIn (s .desk) p) ≡ r + 1) where
-  own-sorted : (block : List ℕ) → CallIdle r p (Feed r p block) s ⊎ CallSteps r p (Feed r p block) s
+  own-sorted : (block : List ℕ) → CallIdle r p (Feed r p block) s ⊎ CallTakesIt r p (Feed r p block) s
   unfolding call answerTo
   own-sorted block =
       ⊎-elim
@@ -80,7 +80,7 @@ module _ (r p : ℕ) (s : State) (ok : sound (s .desk) ≡ true) (held : holderO
       (λ h. absurd (n (omega (arith, held-by (s .desk) q p h))))
       (λ h. refl))
 
-  feed-call : (q k : ℕ) (block : List ℕ) → CallIdle r p (Feed q k block) s ⊎ CallSteps r p (Feed q k block) s
+  feed-call : (q k : ℕ) (block : List ℕ) → CallIdle r p (Feed q k block) s ⊎ CallTakesIt r p (Feed q k block) s
   feed-call q k block =
       by-eq q r
       (λ e. by-eq k p
@@ -98,7 +98,7 @@ module _ (r p : ℕ) (s : State) (ok : sound (s .desk) ≡ true) (held : holderO
       }))
 
   -- a make that was not accepted changes nothing
-  pub make-view : (n : ℕ) (m : List ℕ) → endedBy r p (Make n m) (answerTo (Make n m) s) ≡ false
+  pub make-view : (n : ℕ) (m : List ℕ) → goneBy r p (Make n m) (answerTo (Make n m) s) ≡ false
       → view p (call (Make n m) s) ≡ view p s
   unfolding call answerTo
   make-view n m e =
@@ -107,7 +107,7 @@ module _ (r p : ℕ) (s : State) (ok : sound (s .desk) ≡ true) (held : holderO
       (λ x. absurd (true≢false (rw x at e)))
       (make-sorted (s .desk) n m)
 
-  pub sort-call : (c : Call) → endedBy r p c (answerTo c s) ≡ false → CallIdle r p c s ⊎ CallSteps r p c s
+  pub sort-call : (c : Call) → goneBy r p c (answerTo c s) ≡ false → CallIdle r p c s ⊎ CallTakesIt r p c s
   sort-call (Make n m) e = inl (record { same = make-view n m e; takes-none = λ l. refl; starts-none = λ l. refl })
   sort-call (Open q a ios tables) e =
       inl (record { same = open-view q a ios tables s p (λ z. omega arith); takes-none = λ l. refl; starts-none = λ l. refl })
@@ -121,8 +121,8 @@ pub record Idle (r p : ℕ) (e : Event) (s : State) : Type 0 where
   pub takes-none : (rest : List Told) → taken r p (toldBy e s rest) ≡ taken r p rest
   pub starts-none : (rest : List Told) → starts r p (toldBy e s rest) ≡ starts r p rest
 
-abbrev pub Steps : ℕ → ℕ → Event → State → Type 0
-Steps r p e s =
+abbrev pub TakesIt : ℕ → ℕ → Event → State → Type 0
+TakesIt r p e s =
     (block : List ℕ) × (e ≡ Here (Feed r p block)) × (isOver (stageIn (placeIn (s .desk) p)) ≡ false)
     × (feedOf (s .desk) (s .core) r p block ≡ takenOf (s .desk) (s .core) p (loadIn (placeIn (s .desk) p))
     (stageIn (placeIn (s .desk) p)) block)
@@ -151,14 +151,14 @@ own-feed r p block = rw (eq-eqb r r refl, eq-eqb p p refl)
 
 module _ (r p : ℕ) (area : Area) (s : State) (ok : sound (s .desk) ≡ true) (held : holderOf (placeIn (s .desk) p) ≡ r + 1)
     (its : areaOf (placeIn (s .desk) p) ≡ area) where
-  pub sort-event : (e : Event) (rest : List Told) → harmless r p area e ≡ true → ended r p (toldBy e s rest) ≡ false
-      → Idle r p e s ⊎ Steps r p e s
-  unfolding event taken starts ended
+  pub sort-event : (e : Event) (rest : List Told) → harmless r p area e ≡ true → isGone r p (toldBy e s rest) ≡ false
+      → Idle r p e s ⊎ TakesIt r p e s
+  unfolding event taken starts isGone
   sort-event (Here c) rest h q =
       ⊎-elim
       (λ x. inl (record { same = x .same; takes-none = λ l. x .takes-none _; starts-none = λ l. x .starts-none _ }))
       (λ x. inr (x .0, ap Here (x .1), x .2, x .3))
-      (sort-call r p s ok held c (neither (endedBy r p c (answerTo c s)) (ended r p rest) q .0))
+      (sort-call r p s ok held c (neither (goneBy r p c (answerTo c s)) (isGone r p rest) q .0))
   sort-event (Elsewhere other c) rest h q =
       let t = lent other s in
       ⊎-elim
@@ -169,7 +169,7 @@ module _ (r p : ℕ) (area : Area) (s : State) (ok : sound (s .desk) ≡ true) (
         starts-none = λ l. x .starts-none _;
       }))
       (λ x. absurd (true≢false (sym (own-feed r p (x .0)) ∙ ap (feedsIt r p) (sym (x .1)) ∙ not-true _ h)))
-      (sort-call r p t ok held c (neither (endedBy r p c (answerTo c t)) (ended r p rest) q .0))
+      (sort-call r p t ok held c (neither (goneBy r p c (answerTo c t)) (isGone r p rest) q .0))
   sort-event (Store j v) rest h q =
       inl (record {
         same = store-view p s j v
@@ -195,7 +195,7 @@ module _ (r p : ℕ) (area : Area) where
 
   pub quiet : (es : List Event) (s : State) → Prepared s → holderOf (placeIn (s .desk) p) ≡ r + 1
       → areaOf (placeIn (s .desk) p) ≡ area
-      → isOver (stageIn (placeIn (s .desk) p)) ≡ true → every (harmless r p area) es ≡ true → ended r p (told es s) ≡ false
+      → isOver (stageIn (placeIn (s .desk) p)) ≡ true → every (harmless r p area) es ≡ true → isGone r p (told es s) ≡ false
       → Quiet r p es s
   unfolding told run
   quiet [] s k h a o f q = record { none = unfold taken in refl; no-start = unfold starts in refl; same = refl }
@@ -203,7 +203,7 @@ module _ (r p : ℕ) (area : Area) where
       ⊎-elim
       (λ i. let z = place-of p s (event e s) (i .same) in
       let n = quiet es (event e s) (event-ready r p e s _ k q) (rw z h) (rw z a) (rw z o) (all-tail e es f)
-      (event-ended r p e s _ q) in
+      (event-gone r p e s _ q) in
       record {
         none = i .takes-none _ ∙ n .none;
         no-start = i .starts-none _ ∙ n .no-start;

@@ -39,7 +39,7 @@ use Rattle.demands.specs.Image.{Piece, pieces, noSection, storesFrom, st
 use Rattle.demands.specs.Taking.{TakesBy, Takes}
 use Rattle.demands.proofs.Stores.{storeAll, AllInside, stores-image}
 use Rattle.demands.proofs.Heads.{no-stores}
-use Rattle.demands.proofs.Running.{Comes, given, Stands, Reads, program-leads}
+use Rattle.demands.proofs.Running.{Comes, given, Awaits, Reads, program-leads}
 
 -- a list without its first element
 drop-one : {A : Type 0} (n : ℕ) (b : A) (bs : List A) → drop (1 + n) (b ∷ bs) ≡ drop n bs
@@ -103,7 +103,7 @@ module _ (x : Load) (after : List ℕ) where
     run : (s : Stage) (core : List ℕ) (blocks : List (List ℕ)) → Takes x s core blocks Complete after
         → Reads x channels after s core (pieces blocks)
     unfolding Takes blockStep
-    run s core [] h = λ section st. let z : Stands x channels Complete section = rw (h .0) at st in absurd z
+    run s core [] h = λ section st. let z : Awaits x channels Complete section = rw (h .0) at st in absurd z
     run s core (block ∷ blocks) h =
         when (λ (o : StepOutcome). Then blocks o → Reads x channels after s core (pieces (block ∷ blocks)))
         (ofRecord (recordDue s) block)

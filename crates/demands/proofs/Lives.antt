@@ -26,7 +26,7 @@ use Rattle.feed.proofs.Blocked.{block-laws}
 use Rattle.feed.proofs.Laws.{Fit, Holds, Alike}
 use Rattle.demands.specs.Image.{lastBlock, fileStart}
 use Rattle.demands.specs.Orders.{run}
-use Rattle.demands.specs.History.{State, answerTo, call, Event, event, told, takenIn, taken, startsIn, starts, ended}
+use Rattle.demands.specs.History.{State, answerTo, call, Event, event, told, takenIn, taken, startsIn, starts, isGone}
 use Rattle.demands.specs.History.{harmless}
 use Rattle.demands.specs.History.Call.{Feed}
 use Rattle.demands.specs.History.Event.{Here}
@@ -35,7 +35,7 @@ use Rattle.demands.specs.Demands.{Prepared}
 use Rattle.demands.proofs.Held.{areaOf, held-inside, held-fit, held-place}
 use Rattle.demands.proofs.Views.{view, words-held, range-inside, alike-range, staged-own, staged-stage, staged-load}
 use Rattle.demands.proofs.Reach.{leftBy}
-use Rattle.demands.proofs.Ready.{event-ended, event-ready}
+use Rattle.demands.proofs.Ready.{event-gone, event-ready}
 use Rattle.demands.proofs.Feeds.{cond-same, place-of, all-head, all-tail, sort-event, Quiet, quiet}
 
 -- ---- a load that is answered `done`: what it would take by itself, from waiting for g with the core as it is
@@ -66,7 +66,7 @@ module _ (r p : ℕ) (x : Load) (a : Absolute) (others : List Absolute) where
   Life es =
       (s : State) (core : List ℕ) (g : Stage) → Prepared s → holderOf (placeIn (s .desk) p) ≡ r + 1
       → loadIn (placeIn (s .desk) p) ≡ x → stageIn (placeIn (s .desk) p) ≡ g → Holds x core → Alike x (s .core) core
-      → every (harmless r p (x .area)) es ≡ true → ended r p (told es s) ≡ false → starts r p (told es s) ≡ a ∷ others
+      → every (harmless r p (x .area)) es ≡ true → isGone r p (told es s) ≡ false → starts r p (told es s) ≡ a ∷ others
       → Ends x g core (taken r p (told es s)) (run event es s) a others
 
   -- the block is taken
@@ -122,7 +122,7 @@ module _ (r p : ℕ) (x : Load) (a : Absolute) (others : List Absolute) where
     -- with what the feed answered and left
     abbrev Ending : Outcome → Type 0
     Ending o =
-        ended r p (told es (leftBy o)) ≡ false
+        isGone r p (told es (leftBy o)) ≡ false
         → startsIn r p (Feed r p block) (o .answer) (starts r p (told es (leftBy o))) ≡ a ∷ others
         → Ends x g core (takenIn r p (Feed r p block) (o .answer) (taken r p (told es (leftBy o))))
         (run event es (leftBy o)) a others
@@ -139,10 +139,10 @@ module _ (r p : ℕ) (x : Load) (a : Absolute) (others : List Absolute) where
       area-n : areaOf (placeIn (staged (s .desk) p t) p) ≡ x .area
       area-n = ap (λ (o : Place). o .given .area) (staged-own (s .desk) (k .desk) p in-p t) ∙ area-is
 
-      quiet-n : isOver t ≡ true → ended r p (told es n) ≡ false → Quiet r p es n
+      quiet-n : isOver t ≡ true → isGone r p (told es n) ≡ false → Quiet r p es n
       quiet-n o q = quiet r p (x .area) es n ready holder-n area-n (rw (staged-stage (s .desk) (k .desk) p in-p t) o) safe q
 
-      next-n : Holds x alone → Alike x m alone → ended r p (told es n) ≡ false → starts r p (told es n) ≡ a ∷ others
+      next-n : Holds x alone → Alike x m alone → isGone r p (told es n) ≡ false → starts r p (told es n) ≡ a ∷ others
           → Ends x t alone (taken r p (told es n)) (run event es n) a others
       next-n h z =
           next n alone t ready holder-n (staged-load (s .desk) (k .desk) p in-p t ∙ lx)
@@ -201,13 +201,13 @@ module _ (r p : ℕ) (x : Load) (a : Absolute) (others : List Absolute) where
 
     -- the feed leaves the state ready
     ready-after : Prepared (call (Feed r p block) s)
-    unfolding ended event
+    unfolding isGone event
     ready-after = event-ready r p (Here (Feed r p block)) s [] k refl
 
-    fed-ends : ended r p (told (Here (Feed r p block) ∷ es) s) ≡ false → starts r p (told (Here (Feed r p block) ∷ es) s) ≡ a
+    fed-ends : isGone r p (told (Here (Feed r p block) ∷ es) s) ≡ false → starts r p (told (Here (Feed r p block) ∷ es) s) ≡ a
         ∷ others
         → Ends x g core (taken r p (told (Here (Feed r p block) ∷ es) s)) (run event (Here (Feed r p block) ∷ es) s) a others
-    unfolding told ended starts taken run event call answerTo
+    unfolding told isGone starts taken run event call answerTo
     fed-ends = subst Ending (sym out) (ending _ refl (subst (λ (o : Outcome). Prepared (leftBy o)) out ready-after))
 
   -- the area's words are as they were where the view is
@@ -220,7 +220,7 @@ module _ (r p : ℕ) (x : Load) (a : Absolute) (others : List Absolute) where
 
   abbrev EndsWith : List Event → State → List ℕ → Stage → Event → Type 0
   EndsWith es s core g e =
-      ended r p (told (e ∷ es) s) ≡ false → starts r p (told (e ∷ es) s) ≡ a ∷ others
+      isGone r p (told (e ∷ es) s) ≡ false → starts r p (told (e ∷ es) s) ≡ a ∷ others
       → Ends x g core (taken r p (told (e ∷ es) s)) (run event (e ∷ es) s) a others
 
   pub lives : (es : List Event) → Life es
@@ -231,7 +231,7 @@ module _ (r p : ℕ) (x : Load) (a : Absolute) (others : List Absolute) where
       ⊎-elim
       (λ i. let o = place-of p s (event e s) (i .same) in
       rw (i .takes-none _) (lives es (event e s) core g (event-ready r p e s _ k q) (rw o h) (rw o lx) (rw o sg) hc
-      (kept-alike s (event e s) core (i .same) h lx al) tail (event-ended r p e s _ q) (sym (i .starts-none _) ∙ z)))
+      (kept-alike s (event e s) core (i .same) h lx al) tail (event-gone r p e s _ q) (sym (i .starts-none _) ∙ z)))
       (λ w. subst (EndsWith es s core g) (sym (w .1))
       (fed-ends es (lives es) s core g k h lx sg hc al (w .0) (rw sg at (w .2)) tail (w .3)) q z)
       (sort-event r p (x .area) s (k .desk) h (ap (λ (y : Load). y .area) lx) e _ (all-head r p (x .area) e es f) q)

@@ -28,7 +28,7 @@ use Rattle.feed.specs.Feed.{loadIn, settledOf, takenOf}
 use Rattle.feed.proofs.Blocked.{block-laws}
 use Rattle.feed.proofs.Fed.{holds-place, feed-outcomes, feed-sound, feed-long}
 use Rattle.feed.proofs.Held.{held-inside, held-fit}
-use Rattle.demands.specs.History.{State, Call, answerTo, call, Event, lent, event, Told, toldBy, endedBy, ended}
+use Rattle.demands.specs.History.{State, Call, answerTo, call, Event, lent, event, Told, toldBy, goneBy, isGone}
 use Rattle.demands.specs.History.Call.{Make, Open, Feed, Release}
 use Rattle.demands.specs.History.Event.{Here, Elsewhere, Store}
 use Rattle.demands.specs.Grants.{coreThen}
@@ -134,30 +134,30 @@ pub neither : (b c : Bool) → (b || c) ≡ false → (b ≡ false) × (c ≡ fa
 neither true c q = absurd (true≢false q)
 neither false c q = (refl, q)
 
-call-same : (r p n : ℕ) (c : Call) (a : Answer) → endedBy r p c a ≡ false → coreThen n c a ≡ n
+call-same : (r p n : ℕ) (c : Call) (a : Answer) → goneBy r p c a ≡ false → coreThen n c a ≡ n
 call-same r p n (Make k m) a q = rw q
 call-same r p n (Open q a ios tables) b z = refl
 call-same r p n (Feed q k block) b z = refl
 call-same r p n (Release m q k) b z = refl
 
-pub event-ended : (r p : ℕ) (e : Event) (s : State) (rest : List Told) → ended r p (toldBy e s rest) ≡ false
-    → ended r p rest ≡ false
-unfolding ended
-event-ended r p (Here c) s rest q = neither (endedBy r p c (answerTo c s)) (ended r p rest) q .1
-event-ended r p (Elsewhere other c) s rest q = neither (endedBy r p c (answerTo c (lent other s))) (ended r p rest) q .1
-event-ended r p (Store j v) s rest q = q
+pub event-gone : (r p : ℕ) (e : Event) (s : State) (rest : List Told) → isGone r p (toldBy e s rest) ≡ false
+    → isGone r p rest ≡ false
+unfolding isGone
+event-gone r p (Here c) s rest q = neither (goneBy r p c (answerTo c s)) (isGone r p rest) q .1
+event-gone r p (Elsewhere other c) s rest q = neither (goneBy r p c (answerTo c (lent other s))) (isGone r p rest) q .1
+event-gone r p (Store j v) s rest q = q
 
-event-core : (r p : ℕ) (e : Event) (s : State) (rest : List Told) → ended r p (toldBy e s rest) ≡ false
+event-core : (r p : ℕ) (e : Event) (s : State) (rest : List Told) → isGone r p (toldBy e s rest) ≡ false
     → coreLength (event e s .desk) ≡ coreLength (s .desk)
-unfolding event ended
+unfolding event isGone
 event-core r p (Here c) s rest q =
-    call-core c s ∙ call-same r p _ c (answerTo c s) (neither (endedBy r p c (answerTo c s)) (ended r p rest) q .0)
+    call-core c s ∙ call-same r p _ c (answerTo c s) (neither (goneBy r p c (answerTo c s)) (isGone r p rest) q .0)
 event-core r p (Elsewhere other c) s rest q =
     let t = lent other s in
-    call-core c t ∙ call-same r p _ c (answerTo c t) (neither (endedBy r p c (answerTo c t)) (ended r p rest) q .0)
+    call-core c t ∙ call-same r p _ c (answerTo c t) (neither (goneBy r p c (answerTo c t)) (isGone r p rest) q .0)
 event-core r p (Store j v) s rest q = refl
 
-pub event-ready : (r p : ℕ) (e : Event) (s : State) (rest : List Told) → Prepared s → ended r p (toldBy e s rest) ≡ false
+pub event-ready : (r p : ℕ) (e : Event) (s : State) (rest : List Told) → Prepared s → isGone r p (toldBy e s rest) ≡ false
     → Prepared (event e s)
 event-ready r p e s rest k q = record {
   desk = event-sound e s (k .desk);

@@ -85,16 +85,16 @@ pub record Housing (x : Load) (channels : ℕ) (c : LabelCounts) (own section : 
   pub same : section ≡ own
   pub room : InArea (x .area) own
 
-abbrev pub Stands : Load → ℕ → Stage → Section → Type 0
-Stands x channels Label section = ⊥
-Stands x channels (Entry c exact b) section = ⊥
-Stands x channels (Program c segment-due) section = c .channels ≡ channels
-Stands x channels (Program c (SegmentGroup g)) section = Housing x channels c (InSegment g) section
-Stands x channels (Program c (section-due t b)) section = c .channels ≡ channels
-Stands x channels (Program c (SectionGroup t b)) section = Housing x channels c (tableSection (x .tables) t) section
-Stands x channels (Termination b) section = Unit {0}
-Stands x channels Complete section = ⊥
-Stands x channels Broken section = ⊥
+abbrev pub Awaits : Load → ℕ → Stage → Section → Type 0
+Awaits x channels Label section = ⊥
+Awaits x channels (Entry c exact b) section = ⊥
+Awaits x channels (Program c segment-due) section = c .channels ≡ channels
+Awaits x channels (Program c (SegmentGroup g)) section = Housing x channels c (InSegment g) section
+Awaits x channels (Program c (section-due t b)) section = c .channels ≡ channels
+Awaits x channels (Program c (SectionGroup t b)) section = Housing x channels c (tableSection (x .tables) t) section
+Awaits x channels (Termination b) section = Unit {0}
+Awaits x channels Complete section = ⊥
+Awaits x channels Broken section = ⊥
 
 -- ---- a head that is accepted says a section that lies in the area
 bank-room : (area : Area) (b : Bank) → bankFits area b ≡ true → b .at .0 + b .count ≤ area .size
@@ -120,7 +120,7 @@ table-room area ts t h q =
 
 -- where s is due, the pieces ps store what is still to come; `after` is the core after all
 abbrev pub Reads : Load → ℕ → List ℕ → Stage → List ℕ → List Piece → Type 0
-Reads x channels after s core ps = (section : Section) → Stands x channels s section
+Reads x channels after s core ps = (section : Section) → Awaits x channels s section
     → Comes (x .area) core (storesFrom (given x channels) (leftIn s) section ps) after
 
 -- ---- a block, from any of its places on: t is what is due after it, `rest` the pieces of the blocks after it
@@ -130,19 +130,19 @@ module _ (x : Load) (channels : ℕ) (tables : every (tableInside (x .area)) (x 
   a = given x channels
 
   -- where an outcome leads to t, the rest decides
-  abbrev pub Leads : StepOutcome → Type 0 → Type 0
-  Leads o P = o .step ≡ More t → Reads x channels after t (o .core) rest → P
+  abbrev pub LeadsTo : StepOutcome → Type 0 → Type 0
+  LeadsTo o P = o .step ≡ More t → Reads x channels after t (o .core) rest → P
 
-  stays : (s : Stage) (core : List ℕ) → Leads (record { step = More s; core = core }) (Reads x channels after s core rest)
+  stays : (s : Stage) (core : List ℕ) → LeadsTo (record { step = More s; core = core }) (Reads x channels after s core rest)
   stays s core q k = let e : s ≡ t = cc in rw e k
 
-  refuses : (P : Type 0) (f : Fault) (core : List ℕ) → Leads (record { step = Refused f; core = core }) P
+  refuses : (P : Type 0) (f : Fault) (core : List ℕ) → LeadsTo (record { step = Refused f; core = core }) P
   refuses P f core q k = let z : _≡_ {A = ℕ} 0 1 = cc in absurd (omega arith)
 
   -- the item at place i, and then n items at most
   module _ (n i : ℕ) (core : List ℕ) (more : closes block i ≡ false)
       (ih : (d : LabelCounts) (u : Due) (p : ℕ) (core′ : List ℕ)
-      → Leads (programFrom n x d u block p core′) (Reads x channels after (Program d u) core′ (piecesFrom n block p ++ rest))) where
+      → LeadsTo (programFrom n x d u block p core′) (Reads x channels after (Program d u) core′ (piecesFrom n block p ++ rest))) where
     abbrev then : Item → List ℕ → StepOutcome
     then item core′ = followed item core′ (λ d u p core″. programFrom n x d u block p core″)
 
@@ -152,10 +152,10 @@ module _ (x : Load) (channels : ℕ) (tables : every (tableInside (x .area)) (x 
     -- ---- a group
     module _ (c : LabelCounts) (same : Due) (least : ℕ) (ibank : Bank) (section : Section) (q : c .channels ≡ channels)
         (room : InArea (x .area) section)
-        (left : leftIn (Program c same) ≡ suc (c .sections)) (stands : Stands x channels (Program c same) section) where
+        (left : leftIn (Program c same) ≡ suc (c .sections)) (stands : Awaits x channels (Program c same) section) where
       -- m sections are to end after it
       abbrev Goes : ℕ → List ℕ → ℕ → Item → Type 0
-      Goes p core′ m item = Leads (then item core′)
+      Goes p core′ m item = LeadsTo (then item core′)
           (Comes (x .area) core′ (storesFrom a m section (piecesFrom n block p ++ rest)) after)
 
       over : (p : ℕ) (core′ : List ℕ) → c .sections ≡ 0 → Goes p core′ (c .sections) (Stop (More (Termination ibank)))
@@ -188,7 +188,7 @@ module _ (x : Load) (channels : ℕ) (tables : every (tableInside (x .area)) (x 
             let m = rw e at (changed-many (assignments x c) (indicatorBitsIn block i g) 0 (programWords block i g)) in
             record { first = l .low; last = omega (arith, m, l .high, length-range-most block (i + 1) (g .program)) }
 
-        stored-leads : Leads (then (afterGroup c same least ibank (group-answer (i + 1 + g .words) (g .last)))
+        stored-leads : LeadsTo (then (afterGroup c same least ibank (group-answer (i + 1 + g .words) (g .last)))
             (splice core (to .0) vs))
             (Comes (x .area) core (storesFrom a (suc (c .sections)) section ps) after)
         unfolding afterGroup
@@ -196,13 +196,13 @@ module _ (x : Load) (channels : ℕ) (tables : every (tableInside (x .area)) (x 
             rw (stores-group block i a (c .sections) section n rest more g (head-group block i g (h .read)), store-is)
             (comes-on (x .area) core after store _ store-inside (goes (i + 1 + g .words) (splice core (to .0) vs) (g .last) r k))
 
-      group-leads : Leads (then (afterGroup c same least ibank (groupStep (assignments x c) section block i core .answer))
+      group-leads : LeadsTo (then (afterGroup c same least ibank (groupStep (assignments x c) section block i core .answer))
           (groupStep (assignments x c) section block i core .core))
           (Comes (x .area) core (storesFrom a (suc (c .sections)) section ps) after)
       unfolding afterGroup
       group-leads =
           group-outcomes (assignments x c) section block i core
-          (λ (o : GroupOutcome). Leads (then (afterGroup c same least ibank (o .answer)) (o .core))
+          (λ (o : GroupOutcome). LeadsTo (then (afterGroup c same least ibank (o .answer)) (o .core))
           (Comes (x .area) core (storesFrom a (suc (c .sections)) section ps) after))
           (λ f. refuses _ f _)
           (λ g to f h. refuses _ f _)
@@ -211,7 +211,7 @@ module _ (x : Load) (channels : ℕ) (tables : every (tableInside (x .area)) (x 
     -- ---- the segment's head
     module _ (c : LabelCounts) where
       abbrev Heads : Item → Type 0
-      Heads item = Leads (then item core) (Reads x channels after (Program c segment-due) core ps)
+      Heads item = LeadsTo (then item core) (Reads x channels after (Program c segment-due) core ps)
 
       segment-read-leads : (r : SegmentRead) → segmentOf (getD block i 0) (getD block (i + 1) 0) ≡ r
           → Heads (withSegment (x .area) (x .tables) c (i + 4) r)
@@ -235,7 +235,7 @@ module _ (x : Load) (channels : ℕ) (tables : every (tableInside (x .area)) (x 
     -- ---- a table section's head
     module _ (c : LabelCounts) (least : ℕ) (ibank : Bank) where
       abbrev Tables : Item → Type 0
-      Tables item = Leads (then item core) (Reads x channels after (Program c (section-due (record { 0 = least }) ibank)) core ps)
+      Tables item = LeadsTo (then item core) (Reads x channels after (Program c (section-due (record { 0 = least }) ibank)) core ps)
 
       section-read-leads : (r : TableSectionRead) → tableSectionOf (getD block i 0) ≡ r
           → Tables (withSection (x .tables) c least ibank (i + 1) r)
@@ -258,7 +258,7 @@ module _ (x : Load) (channels : ℕ) (tables : every (tableInside (x .area)) (x 
 
     -- ---- the item, by what is due
     item-leads : (c : LabelCounts) (due : Due)
-        → Leads (then (itemStep x c due block i core .item) (itemStep x c due block i core .core))
+        → LeadsTo (then (itemStep x c due block i core .item) (itemStep x c due block i core .core))
         (Reads x channels after (Program c due) core ps)
     unfolding itemStep
     item-leads c segment-due r k section st = segment-leads c r k section st
@@ -273,11 +273,11 @@ module _ (x : Load) (channels : ℕ) (tables : every (tableInside (x .area)) (x 
         (record { count = st .count; same = refl; room = st .room }) r k)
 
   pub program-leads : (n : ℕ) (c : LabelCounts) (due : Due) (i : ℕ) (core : List ℕ)
-      → Leads (programFrom n x c due block i core) (Reads x channels after (Program c due) core (piecesFrom n block i ++ rest))
+      → LeadsTo (programFrom n x c due block i core) (Reads x channels after (Program c due) core (piecesFrom n block i ++ rest))
   unfolding programFrom
   program-leads zero c due i core = rw (no-fuel block i) (stays (Program c due) core)
   program-leads (suc n) c due i core =
-      when (λ (o : StepOutcome). Leads o (Reads x channels after (Program c due) core (piecesFrom (suc n) block i ++ rest)))
+      when (λ (o : StepOutcome). LeadsTo o (Reads x channels after (Program c due) core (piecesFrom (suc n) block i ++ rest)))
       (closes block i)
       (λ q. rw (no-pieces block i (suc n) q) (stays (Program c due) core))
       (λ q. item-leads n i core q (λ d u p core′. program-leads n d u p core′) c due)

@@ -129,15 +129,15 @@ isMade More = false
 isMade (Done a) = false
 isMade Released = false
 
-abbrev pub endedBy : ℕ → ℕ → Call → Answer → Bool
-endedBy r p (Make n m) answer = isMade answer
-endedBy r p (Open q area ios tables) answer = false
-endedBy r p (Feed q k block) answer = false
-endedBy r p (Release n q k) answer = eqb q r && (eqb k p && isReleased answer)
+abbrev pub goneBy : ℕ → ℕ → Call → Answer → Bool
+goneBy r p (Make n m) answer = isMade answer
+goneBy r p (Open q area ios tables) answer = false
+goneBy r p (Feed q k block) answer = false
+goneBy r p (Release n q k) answer = eqb q r && (eqb k p && isReleased answer)
 
-unfoldable pub ended : ℕ → ℕ → List Told → Bool
-ended r p [] = false
-ended r p (t ∷ ts) = endedBy r p (t .call) (t .answer) || ended r p ts
+unfoldable pub isGone : ℕ → ℕ → List Told → Bool
+isGone r p [] = false
+isGone r p (t ∷ ts) = goneBy r p (t .call) (t .answer) || isGone r p ts
 
 -- ---- what does a load no harm: any call that is lent its core; a call that is lent another one, if it is not the load's own feed;
 -- and a store outside its area

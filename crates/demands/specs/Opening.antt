@@ -9,7 +9,7 @@ use Rattle.word.specs.declared.Area.{Area}
 use Rattle.lists.specs.Obey.{tablesOf}
 use Rattle.calls.specs.declared.Answer.the-variants.{Opened}
 use Rattle.demands.specs.Image.{imageOf}
-use Rattle.demands.specs.History.{State, answerTo, call, Event, Told, told, taken, ended, harmless}
+use Rattle.demands.specs.History.{State, answerTo, call, Event, Told, told, taken, isGone, harmless}
 use Rattle.demands.specs.History.Call.{Open}
 
 pub record Opening : Type 0 where
@@ -32,7 +32,7 @@ since o es = told es (granted o)
 
 -- the load is still there after them: its place was not released, and no new desk was made
 abbrev pub Stays : Opening → List Event → Type 0
-Stays o es = ended (o .room) (o .place) (since o es) ≡ false
+Stays o es = isGone (o .room) (o .place) (since o es) ≡ false
 
 -- no store from outside hit its area, and its own feeds were lent its core. Stores elsewhere, and any calls of others, do it no
 -- harm.

@@ -50,7 +50,7 @@ use Rattle.hand_deck.specs.Blocks.{withWords, blank, deckLabel, deckProgram, de
 use Rattle.demands.specs.HandDeck.{deckGiven}
 use Rattle.demands.specs.Image.{fileStart}
 use Rattle.demands.specs.Orders.{run}
-use Rattle.demands.specs.History.{State, answerTo, call, Event, event, Told, told, taken, starts, ended}
+use Rattle.demands.specs.History.{State, answerTo, call, Event, event, Told, told, taken, starts, isGone}
 use Rattle.demands.specs.Opening.{Opening, granted, imageSince, areaWords}
 use Rattle.demands.specs.Examples.{oldDesk, oldCore, old, oneRoom, twoRooms, make, answersIn, otherArea, open1, fed1, deckFeeds}
 use Rattle.demands.specs.Examples.{deckLife, byTurns, oneBroken, whileItLoads, dayLife, NotEmpty}
@@ -70,7 +70,7 @@ unfolding every everyTwo range tab splice cleared within apart characters spelt 
     coreTables ioNumbers keptLists areaIn countsFit loadFits heldFits placeFits areasApart sound freed freshDesk makeOf besideOwn
     areaFits openedOwn openedPlace openedDesk opened grantOf openOf entryRefusal entered holds dueStep blockStep loadIn staged
     settledOf takenOf checkedOf heldOf feedOf withWords blank deckLabel deckProgram deckTermination run answerTo call event told
-    oldDesk oldCore old answersIn taken starts ended releaseOf
+    oldDesk oldCore old answersIn taken starts isGone releaseOf
 computed es = told es old
 
 -- ---- what the histories lead to, each by computing
