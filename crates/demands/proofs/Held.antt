@@ -16,7 +16,7 @@ use Rattle.layout.proofs.Places.{holder-at, holds-holder}
 use Rattle.desk.specs.Sound.{areasApart, sound}
 use Rattle.desk.proofs.Facts.{sound-says, sound-long}
 use Rattle.feed.specs.Feed.{loadIn}
-use Rattle.feed.proofs.Laws.{Fit}
+use Rattle.feed.proofs.Laws.{FitToFeed}
 use Rattle.feed.proofs.Held as feeding
 
 abbrev pub areaOf : List ℕ → Area
@@ -41,7 +41,7 @@ module _ (d : List ℕ) (s : sound d ≡ true) where
     unfolding loadIn
     held-inside = feeding.held-inside d s p held-place at-holder
 
-    pub held-fit : Fit (loadIn (placeIn d p)) (stageIn (placeIn d p))
+    pub held-fit : FitToFeed (loadIn (placeIn d p)) (stageIn (placeIn d p))
     held-fit = feeding.held-fit d s p held-place at-holder
 
 -- ---- two that are held share no word

@@ -23,7 +23,8 @@ use Rattle.calls.specs.Outcome.{Outcome}
 use Rattle.feed.specs.Block.{blockStep}
 use Rattle.feed.specs.Feed.{loadIn, staged, settledOf, takenOf, feedOf}
 use Rattle.feed.proofs.Blocked.{block-laws}
-use Rattle.feed.proofs.Laws.{Fit, Holds, Alike}
+use Rattle.group.proofs.Acts.{Alike}
+use Rattle.feed.proofs.Laws.{FitToFeed, Holds}
 use Rattle.demands.specs.Image.{lastBlock, fileStart}
 use Rattle.demands.specs.Orders.{run}
 use Rattle.demands.specs.History.{State, answerTo, call, Event, event, told, takenIn, taken, startsIn, starts, isGone}
@@ -65,7 +66,7 @@ module _ (r p : ℕ) (x : Load) (a : Absolute) (others : List Absolute) where
   abbrev Life : List Event → Type 0
   Life es =
       (s : State) (core : List ℕ) (g : Stage) → Prepared s → holderOf (placeIn (s .desk) p) ≡ r + 1
-      → loadIn (placeIn (s .desk) p) ≡ x → stageIn (placeIn (s .desk) p) ≡ g → Holds x core → Alike x (s .core) core
+      → loadIn (placeIn (s .desk) p) ≡ x → stageIn (placeIn (s .desk) p) ≡ g → Holds x core → Alike (x .area) (s .core) core
       → every (harmless r p (x .area)) es ≡ true → isGone r p (told es s) ≡ false → starts r p (told es s) ≡ a ∷ others
       → Ends x g core (taken r p (told es s)) (run event es s) a others
 
@@ -73,7 +74,7 @@ module _ (r p : ℕ) (x : Load) (a : Absolute) (others : List Absolute) where
   module _ (es : List Event) (next : Life es) (s : State) (core : List ℕ) (g : Stage) (k : Prepared s)
       (h : holderOf (placeIn (s .desk) p) ≡ r + 1)
       (lx : loadIn (placeIn (s .desk) p) ≡ x) (sg : stageIn (placeIn (s .desk) p) ≡ g) (hc : Holds x core)
-      (al : Alike x (s .core) core)
+      (al : Alike (x .area) (s .core) core)
       (block : List ℕ) (over : isOver g ≡ false) (safe : every (harmless r p (x .area)) es ≡ true)
       (fed : feedOf (s .desk) (s .core) r p block ≡ takenOf (s .desk) (s .core) p (loadIn (placeIn (s .desk) p))
       (stageIn (placeIn (s .desk) p)) block) where
@@ -83,7 +84,7 @@ module _ (r p : ℕ) (x : Load) (a : Absolute) (others : List Absolute) where
     in-p : p < 12
     in-p = held-place (s .desk) (k .desk) p held
 
-    fit : Fit x g
+    fit : FitToFeed x g
     fit = rw (lx, sg) at (held-fit (s .desk) (k .desk) p held)
 
     area-is : areaOf (placeIn (s .desk) p) ≡ x .area
@@ -105,7 +106,7 @@ module _ (r p : ℕ) (x : Load) (a : Absolute) (others : List Absolute) where
     alone-long : length alone ≡ length core
     alone-long = block-laws .long x g block core fit hc
 
-    after-alike : Alike x after alone
+    after-alike : Alike (x .area) after alone
     after-alike = block-laws .same-words x g block (s .core) core fit inside hc al
 
     alone-holds : Holds x alone
@@ -142,7 +143,7 @@ module _ (r p : ℕ) (x : Load) (a : Absolute) (others : List Absolute) where
       quiet-n : isOver t ≡ true → isGone r p (told es n) ≡ false → Quiet r p es n
       quiet-n o q = quiet r p (x .area) es n ready holder-n area-n (rw (staged-stage (s .desk) (k .desk) p in-p t) o) safe q
 
-      next-n : Holds x alone → Alike x m alone → isGone r p (told es n) ≡ false → starts r p (told es n) ≡ a ∷ others
+      next-n : Holds x alone → Alike (x .area) m alone → isGone r p (told es n) ≡ false → starts r p (told es n) ≡ a ∷ others
           → Ends x t alone (taken r p (told es n)) (run event es n) a others
       next-n h z =
           next n alone t ready holder-n (staged-load (s .desk) (k .desk) p in-p t ∙ lx)
@@ -212,7 +213,7 @@ module _ (r p : ℕ) (x : Load) (a : Absolute) (others : List Absolute) where
 
   -- the area's words are as they were where the view is
   kept-alike : (s t : State) (core : List ℕ) → view p t ≡ view p s → holderOf (placeIn (s .desk) p) ≡ r + 1
-      → loadIn (placeIn (s .desk) p) ≡ x → Alike x (s .core) core → Alike x (t .core) core
+      → loadIn (placeIn (s .desk) p) ≡ x → Alike (x .area) (s .core) core → Alike (x .area) (t .core) core
   unfolding loadIn
   kept-alike s t core v h lx al j b e =
       let i : areaOf (placeIn (s .desk) p) ≡ x .area = ap (λ (y : Load). y .area) lx in

@@ -27,9 +27,10 @@ use Rattle.lists.specs.Load.{Load}
 use Rattle.sections.specs.Program.{StepOutcome, programStep}
 use Rattle.sections.proofs.Turns.{Stands}
 use Rattle.sections.proofs.Blocks.{program-fits, program-not-done, program-faults, program-length, program-area, program-same, program-words, program-alike}
+use Rattle.group.proofs.Acts.{Alike}
 use Rattle.group.proofs.Stored.{StoredWords, stored-none}
 use Rattle.feed.specs.Block.{storesNothing, dueStep, blockStep}
-use Rattle.feed.proofs.Laws.{Fit, Holds, Alike, BlockLaws}
+use Rattle.feed.proofs.Laws.{FitToFeed, Holds, BlockLaws}
 
 -- a record whose block is read whole stores nothing; a program block is read word by word. P speaks of the outcome as a function of the core.
 module _ (x : Load) (block : List ℕ) (P : (List ℕ → StepOutcome) → Type 0) (none : (r : Step) → P (storesNothing r)) where
@@ -61,7 +62,7 @@ module _ (x : Load) (block core : List ℕ) where
       by-record true = k
       by-record false = n
 
-  due-fits : (s t : Stage) → Fit x s → dueStep x s block core .step ≡ More t → stageFits (x .area) (x .tables) (length (x .ios)) t ≡ true
+  due-fits : (s t : Stage) → FitToFeed x s → dueStep x s block core .step ≡ More t → stageFits (x .area) (x .tables) (length (x .ios)) t ≡ true
   unfolding dueStep
   due-fits Label t f q = label-fits (x .area) (x .tables) (x .ios) block t q
   due-fits (Entry c exact b) t f q = entry-fits (x .area) (x .tables) (length (x .ios)) c exact b block t (f .stage) q
@@ -94,7 +95,7 @@ module _ (x : Load) (block core : List ℕ) where
   due-starts Complete a q = let z : _≡_ {A = ℕ} 0 1 = cc in absurd (omega arith)
   due-starts Broken a q = let z : _≡_ {A = ℕ} 0 1 = cc in absurd (omega arith)
 
-standing : (x : Load) (s : Stage) (c : LabelCounts) (due : Due) (core : List ℕ) → s ≡ Program c due → Fit x s → Holds x core → Stands x (Program c due) core
+standing : (x : Load) (s : Stage) (c : LabelCounts) (due : Due) (core : List ℕ) → s ≡ Program c due → FitToFeed x s → Holds x core → Stands x (Program c due) core
 standing x s c due core e f h = record { inside = h; tables = f .tables; stage = rw e at (f .stage) }
 
 pub block-laws : BlockLaws
@@ -109,7 +110,7 @@ block-laws = record {
       (λ c due e. program-area x block j b c due core (standing x s c due core e f h));
   same-step = λ x s block core other f h k. block-cases x block (λ (g : List ℕ → StepOutcome). g core .step ≡ g other .step) (λ r. refl) s
       (λ c due e. program-same x block c due core other (standing x s c due core e f h) (standing x s c due other e f k));
-  same-words = λ x s block core other f h k a. block-cases x block (λ (g : List ℕ → StepOutcome). Alike x (g core .core) (g other .core)) (λ r. a) s
+  same-words = λ x s block core other f h k a. block-cases x block (λ (g : List ℕ → StepOutcome). Alike (x .area) (g core .core) (g other .core)) (λ r. a) s
       (λ c due e. program-alike x block c due core other (standing x s c due core e f h) (standing x s c due other e f k) a);
   words = λ x s block core f h w. block-cases x block (λ (g : List ℕ → StepOutcome). StoredWords core (g core .core)) (λ r. stored-none core) s
       (λ c due e. program-words x block w c due core (standing x s c due core e f h));

@@ -16,10 +16,10 @@ use Rattle.desk.proofs.Facts.{held-readable, held-facts}
 use Rattle.lists.specs.Load.{Load}
 use Rattle.sections.specs.Waits.{Waits, KeptWaits}
 use Rattle.feed.specs.Feed.{loadIn}
-use Rattle.feed.proofs.Laws.{Fit}
+use Rattle.feed.proofs.Laws.{FitToFeed}
 
 -- a load that waits for a block fits
-pub fit-waiting : (x : Load) (s : Stage) (block core : List ℕ) → Waits x s block core → Fit x s
+pub fit-waiting : (x : Load) (s : Stage) (block core : List ℕ) → Waits x s block core → FitToFeed x s
 fit-waiting x s block core w = record { tables = w .tables; stage = w .stage }
 
 module _ (d : List ℕ) (s : sound d ≡ true) (p : ℕ) (h : p < 12) (z : holderIn d p ≡ 0 → ⊥) where
@@ -34,7 +34,7 @@ module _ (d : List ℕ) (s : sound d ≡ true) (p : ℕ) (h : p < 12) (z : holde
   unfolding loadIn tablesObey
   tables-inside = and-left _ _ (facts .obey)
 
-  pub held-fit : Fit (loadIn (placeIn d p)) (stageIn (placeIn d p))
+  pub held-fit : FitToFeed (loadIn (placeIn d p)) (stageIn (placeIn d p))
   held-fit = record {
     tables = tables-inside;
     stage = unfold loadIn in (rw (io-length (givenIn d p) (listsHeld d p)) (facts .stage));

@@ -12,6 +12,7 @@ use Rattle.word.specs.declared.Fault.{Fault}
 use Rattle.word.proofs.Stretch.{Beside}
 use Rattle.program.specs.Start.{startOf}
 use Rattle.lists.specs.Obey.{tableInside}
+use Rattle.group.proofs.Acts.{Alike}
 use Rattle.group.proofs.Stored.{StoredWords}
 use Rattle.stage.specs.declared.Stage.{Stage}
 use Rattle.stage.specs.Ranges.{stageFits}
@@ -20,7 +21,7 @@ use Rattle.lists.specs.Load.{Load}
 use Rattle.feed.specs.Block.{blockStep}
 
 -- the stage of a load is in range, and its tables lie in the area
-pub record Fit (x : Load) (s : Stage) : Type 0 where
+pub record FitToFeed (x : Load) (s : Stage) : Type 0 where
   pub tables : every (tableInside (x .area)) (x .tables) ≡ true
   pub stage : stageFits (x .area) (x .tables) (length (x .ios)) s ≡ true
 
@@ -28,24 +29,20 @@ pub record Fit (x : Load) (s : Stage) : Type 0 where
 abbrev pub Holds : Load → List ℕ → Type 0
 Holds x core = x .area .at .0 + x .area .size ≤ length core
 
--- two cores have the same words in the area
-abbrev pub Alike : Load → List ℕ → List ℕ → Type 0
-Alike x core other = (j : ℕ) → x .area .at .0 ≤ j → j < x .area .at .0 + x .area .size → getD core j 0 ≡ getD other j 0
-
 pub record BlockLaws : Type 0 where
-  pub fits : (x : Load) (s t : Stage) (block core : List ℕ) → Fit x s → blockStep x s block core .step ≡ More t
+  pub fits : (x : Load) (s t : Stage) (block core : List ℕ) → FitToFeed x s → blockStep x s block core .step ≡ More t
       → stageFits (x .area) (x .tables) (length (x .ios)) t ≡ true
   pub faults : (x : Load) (s : Stage) (block core : List ℕ) (f : Fault) → blockStep x s block core .step ≡ Refused f
       → (13 ≤ f .number) × (f .number ≤ 22)
-  pub long : (x : Load) (s : Stage) (block core : List ℕ) → Fit x s → Holds x core → length (blockStep x s block core .core) ≡ length core
-  pub beside : (x : Load) (s : Stage) (block core : List ℕ) → Fit x s → Holds x core
+  pub long : (x : Load) (s : Stage) (block core : List ℕ) → FitToFeed x s → Holds x core → length (blockStep x s block core .core) ≡ length core
+  pub beside : (x : Load) (s : Stage) (block core : List ℕ) → FitToFeed x s → Holds x core
       → (j : ℕ) → Beside j (x .area .at .0) (x .area .size) → getD (blockStep x s block core .core) j 0 ≡ getD core j 0
-  pub same-step : (x : Load) (s : Stage) (block core other : List ℕ) → Fit x s → Holds x core → Holds x other
+  pub same-step : (x : Load) (s : Stage) (block core other : List ℕ) → FitToFeed x s → Holds x core → Holds x other
       → blockStep x s block core .step ≡ blockStep x s block other .step
-  pub same-words : (x : Load) (s : Stage) (block core other : List ℕ) → Fit x s → Holds x core → Holds x other → Alike x core other
-      → Alike x (blockStep x s block core .core) (blockStep x s block other .core)
+  pub same-words : (x : Load) (s : Stage) (block core other : List ℕ) → FitToFeed x s → Holds x core → Holds x other → Alike (x .area) core other
+      → Alike (x .area) (blockStep x s block core .core) (blockStep x s block other .core)
   -- what is stored is words below 2^36, where the block's are
-  pub words : (x : Load) (s : Stage) (block core : List ℕ) → Fit x s → Holds x core → every isWord block ≡ true
+  pub words : (x : Load) (s : Stage) (block core : List ℕ) → FitToFeed x s → Holds x core → every isWord block ≡ true
       → StoredWords core (blockStep x s block core .core)
   pub starts : (x : Load) (s : Stage) (block core : List ℕ) (a : Absolute) → blockStep x s block core .step ≡ Done a
       → a ≡ absoluteOf (x .area) (startOf block)
