@@ -48,16 +48,20 @@
    A slice of length 0 is not dereferenced, so its pointer may be NULL. All other arguments may be any number whatever: a wrong one
    is refused.
 
-   What done says, that the area holds the program's image, is proved for a load that meets two conditions from open to done:
+   What done says, that the area holds the program's image, is proved for a load that meets three conditions from open to done:
 
-     - each of its own feeds was lent the core that its open was lent;
-     - nothing from outside was stored in its area, and nothing but calls wrote to the desk.
+     - nothing but calls wrote to the desk;
+     - each of its own feeds was lent the core that its open was lent (a feed that was refused for another core's length, too);
+     - nothing from outside was stored in its area.
 
-   Whatever else happens does no harm: programs may run and store in other areas, other rooms may open, feed and release, calls may
-   be refused, lent another core even. Where a store hits the area, or a feed is lent another core, nothing is promised, and no call
-   can tell. The area holds the image from done on, until something is stored there.
+   Short of a new make and its own release nothing else does harm: programs may run and store in other areas, other rooms may open,
+   feed and release, calls may be refused, and other loads may be lent another core. The load's feeds are then answered, and its area
+   is left, as if they alone had come. Where a store hits the area, or one of its own feeds is lent another core, nothing is
+   promised, and no call can tell. The area holds the image from done on, until something is stored there, the place is released or
+   a new desk is made.
 
-   What open and the refusals 5 and 6 say of places holds in any case: it hangs on the desk alone, not on any core.
+   What open says of places, refusals 5 and 6 among it, holds whatever cores were lent and whatever was stored, as long as nothing
+   but calls wrote to the desk since make. (A core of another length meets 2 first.)
 
 
    THREADS, COPIES, STACK, COST
@@ -265,7 +269,9 @@ uint64_t clamp_open(uint64_t *desk, uint64_t desk_len,
 
      CLAMP_MORE, 0        the block is accepted. Its words are stored in the area, and the next block is due.
      CLAMP_DONE, start    the termination block is accepted and the load is complete: the area holds the program's image, and start
-                          is the absolute address at which it begins. The place and the area are the room's until released.
+                          is the absolute address at which it begins. The place and the area are the room's until released. If
+                          since open something from outside was stored in the area, or one of the load's own feeds was lent
+                          another core, nothing is promised of the area (WHAT IS TAKEN ON TRUST).
      1, 0                 the desk is not of its length, or cannot be right
      2, 0                 core_len is not what the desk was made with
      4, 0                 room is over 7

@@ -2,7 +2,7 @@
 -- zeros.
 use Prim.Native.Nat.{ℕ, _+_, _≤_, _<_}
 use mathlib.Core.Path.{_≡_, refl, sym, ap, subst, _∙_}
-use mathlib.Core.Bool.{Bool, true, false, false≢true}
+use mathlib.Core.Bool.{true, false≢true}
 use mathlib.Core.List.{List}
 use mathlib.Core.Logic.{⊎-elim}
 use lib.ListN.{length, getD, getD-replicate}
@@ -16,14 +16,14 @@ use Rattle.lists.proofs.Keep.{lists-obey}
 use Rattle.stage.specs.declared.Stage.the-variants.{Label}
 use Rattle.layout.specs.Layout.{placeIn, holderOf, stageIn, holders}
 use Rattle.calls.specs.Answer.{valueOf}
-use Rattle.calls.specs.declared.Answer.{Answer}
-use Rattle.calls.specs.declared.Answer.the-variants.{Refused, Made, Opened, More, Done, Released}
+use Rattle.calls.specs.declared.Answer.the-variants.{Opened}
 use Rattle.calls.specs.Outcome.{Outcome}
 use Rattle.calls.specs.Open.{openOf, opened}
 use Rattle.feed.specs.Feed.{loadIn}
 use Rattle.demands.specs.History.{State, answerTo, call}
-use Rattle.demands.specs.Opening.{Opening, IsGranted, granted}
-use Rattle.demands.specs.Demands.{Prepared}
+use Rattle.demands.specs.Grants.{isOpened}
+use Rattle.demands.specs.Opening.{Opening, IsGranted, afterOpen}
+use Rattle.demands.proofs.Prepared.{Prepared}
 use Rattle.demands.proofs.Views.{cleared-words}
 use Rattle.demands.proofs.Reach.{leftBy}
 use Rattle.demands.proofs.Loaded.{opened-load, opened-stage, opened-holder}
@@ -45,14 +45,6 @@ cleared-zero : (core : List ℕ) (a n : ℕ) → a + n ≤ length core → (k : 
 cleared-zero core a n h k l =
     sym (getD-range (cleared core a n) a n k l) ∙ ap (λ (m : List ℕ). getD m k 0) (cleared-words core a n h)
     ∙ getD-replicate n k 0 0 l
-
-abbrev isOpened : Answer → Bool
-isOpened (Refused f) = false
-isOpened Made = false
-isOpened (Opened p) = true
-isOpened More = false
-isOpened (Done a) = false
-isOpened Released = false
 
 module _ (s : State) (r : ℕ) (area : Area) (ios tables : List ℕ) where
   abbrev Starts : ℕ → Outcome → Type 0
@@ -83,6 +75,6 @@ module _ (s : State) (r : ℕ) (area : Area) (ios tables : List ℕ) where
       (subst (λ (k : ℕ). Starts k (opened (s .desk) (s .core) r area ios tables)) q (granted-begun (x .0))))
       (open-sorted (s .desk) (s .core) r area ios tables)
 
-pub begun : (o : Opening) → IsGranted o → Begun (o .room) (o .area) (o .ios) (o .tables) (o .place) (granted o)
+pub begun : (o : Opening) → IsGranted o → Begun (o .room) (o .area) (o .ios) (o .tables) (o .place) (afterOpen o)
 unfolding answerTo call
 begun o e = open-begun (o .before) (o .room) (o .area) (o .ios) (o .tables) (o .place) e

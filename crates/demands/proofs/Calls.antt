@@ -23,7 +23,7 @@ use Rattle.calls.proofs.Opened.{given-free, opened-replaced, opened-sound}
 use Rattle.calls.proofs.Freed.{freed-other}
 use Rattle.demands.specs.History.{State, answerTo, call, isReleased}
 use Rattle.demands.specs.History.Call.{Open, Release}
-use Rattle.demands.specs.Demands.{Prepared}
+use Rattle.demands.proofs.Prepared.{Prepared}
 use Rattle.demands.proofs.Held.{held-by, held-apart}
 use Rattle.demands.proofs.Views.{view, view-by, outside-beside}
 use Rattle.demands.proofs.Reach.{leftBy}

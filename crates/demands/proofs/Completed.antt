@@ -8,7 +8,7 @@ use Rattle.stage.specs.declared.Stage.the-variants.{Label}
 use Rattle.layout.specs.declared.Place.{Place}
 use Rattle.layout.specs.Layout.{placeIn, ownOf}
 use Rattle.feed.specs.Feed.{loadIn}
-use Rattle.demands.specs.Opening.{Opening, granted}
+use Rattle.demands.specs.Opening.{Opening, afterOpen}
 use Rattle.demands.specs.Demands.{Demand2, Demand2Area}
 use Rattle.demands.proofs.Imaged.{image-is}
 use Rattle.demands.proofs.Begun.{begun}
@@ -19,13 +19,13 @@ pub demand-2 : Demand2
 demand-2 o es a others grant stays safe done =
     let b = begun o grant in
     let x : Load = record { area = o .area; tables = tablesOf (o .tables); ios = o .ios } in
-    let y = lives (o .room) (o .place) x a others es (granted o) (granted o .core) Label
+    let y = lives (o .room) (o .place) x a others es (afterOpen o) (afterOpen o .core) Label
     (b .ready) (b .holder) (b .load) (b .stage) (b .inside) (λ j h e. refl) safe stays done in
-    (y .area ∙ image-is x (granted o .core) (y .left) _ (b .inside) (b .tables-inside) (b .zeros) (y .takes), (y .start, y .once))
+    (y .area ∙ image-is x (afterOpen o .core) (y .left) _ (b .inside) (b .tables-inside) (b .zeros) (y .takes), (y .start, y .once))
 
 pub demand-2-area : Demand2Area
 unfolding loadIn ownOf
 demand-2-area o es grant stays =
     let b = begun o grant in
-    let k = own-kept (o .room) (o .place) es (granted o) (b .ready .desk) (b .holder) stays in
+    let k = own-kept (o .room) (o .place) es (afterOpen o) (b .ready .desk) (b .holder) stays in
     (ap (λ (q : Place). q .given .area) k ∙ ap (λ (y : Load). y .area) (b .load), ap (λ (q : Place). q .holder) k ∙ b .holder)

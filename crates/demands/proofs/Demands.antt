@@ -1,12 +1,16 @@
 -- The demands, proved: each has the type that specs/Demands.antt states for it.
 use Rattle.feed.proofs.Blocked.{block-laws}
 use Rattle.feed.proofs.Fed.{feed-sound}
-use Rattle.demands.specs.Demands.{Demand1One, Demand1Number, Demand1Unchanged, Demand1Broken, Demand1Sound, Demand1Words}
-use Rattle.demands.specs.Demands.{Demand2, Demand2Area, Demand2Outside, Demand3Orders, Demand3Turns, Demand3Images}
+use Rattle.demands.specs.Demands.{Demand1One, Demand1Number, Demand1Unchanged, Demand1Broken, Demand1Sound, Demand1Blind}
+use Rattle.demands.specs.Demands.{Demand1Words}
+use Rattle.demands.specs.Demands.{Demand2, Demand2Alone, Demand2Area, Demand2Outside, Demand3Orders, Demand3Turns}
+use Rattle.demands.specs.Demands.{Demand3Images}
 use Rattle.demands.specs.Demands.{Demand3Rooms}
 use Rattle.demands.proofs.Refused as refused
 use Rattle.demands.proofs.Ready as ready
+use Rattle.demands.proofs.Blind as blind
 use Rattle.demands.proofs.Completed as completed
+use Rattle.demands.proofs.Alone as alone
 use Rattle.demands.proofs.Untouched as untouched
 use Rattle.demands.proofs.Frames as frames
 use Rattle.demands.proofs.AnyOrder as any-order
@@ -27,11 +31,17 @@ demand-1-broken = refused.broken
 pub demand-1-sound : Demand1Sound
 demand-1-sound = ready.sound-kept
 
+pub demand-1-blind : Demand1Blind
+demand-1-blind = blind.blind
+
 pub demand-1-words : Demand1Words
 demand-1-words = ready.words-stored
 
 pub demand-2 : Demand2
 demand-2 = completed.demand-2
+
+pub demand-2-alone : Demand2Alone
+demand-2-alone = alone.demand-2-alone
 
 pub demand-2-area : Demand2Area
 demand-2-area = completed.demand-2-area

@@ -26,8 +26,8 @@ use Rattle.demands.specs.Orders.{run}
 use Rattle.demands.specs.History.{State, Call, answerTo, call, Event, lent, event, Told, toldBy, told, takenIn, taken}
 use Rattle.demands.specs.History.{startsIn, starts, goneBy, isGone, feedsIt, isIn, harmless}
 use Rattle.demands.specs.History.Call.{Make, Open, Feed, Release}
-use Rattle.demands.specs.History.Event.{Here, Elsewhere, Store}
-use Rattle.demands.specs.Demands.{Prepared}
+use Rattle.demands.specs.History.Event.{Here, Elsewhere, OutsideStore}
+use Rattle.demands.proofs.Prepared.{Prepared}
 use Rattle.demands.proofs.Held.{areaOf, held-by}
 use Rattle.demands.proofs.Views.{View, view, view-by, view-kept}
 use Rattle.demands.proofs.Reach.{leftBy, feed-confined}
@@ -134,19 +134,20 @@ unfolding event
 elsewhere-view p s other c v = view-by s _ p (place-of p (lent other s) (call c (lent other s)) v) refl (λ h j a b. refl)
 
 -- a store outside the area
-store-view : (p : ℕ) (s : State) (j v : ℕ) → isIn (areaOf (placeIn (s .desk) p)) j ≡ false → view p (event (Store j v) s) ≡ view p s
+store-view : (p : ℕ) (s : State) (j v : ℕ) → isIn (areaOf (placeIn (s .desk) p)) j ≡ false
+    → view p (event (OutsideStore j v) s) ≡ view p s
 unfolding event
 store-view p s j v out =
     let area = areaOf (placeIn (s .desk) p) in
-    let apart : (i : ℕ) → area .at .0 ≤ i → i < area .at .0 + area .size → i ≡ j → ⊥ =
+    let away : (i : ℕ) → area .at .0 ≤ i → i < area .at .0 + area .size → i ≡ j → ⊥ =
     λ i a b z. true≢false (rw (le-leb (area .at .0) j (omega arith), lt-ltb j (area .at .0 + area .size) (omega arith)) at out) in
-    view-by s _ p refl (length-set (s .core) j v) (λ h i a b. getD-set-other (s .core) j i v 0 (λ z. apart i a b (omega arith)))
+    view-by s _ p refl (length-set (s .core) j v) (λ h i a b. getD-set-other (s .core) j i v 0 (λ z. away i a b (omega arith)))
 
-not-true : (b : Bool) → not b ≡ true → b ≡ false
+pub not-true : (b : Bool) → not b ≡ true → b ≡ false
 not-true true q = absurd (false≢true q)
 not-true false q = refl
 
-own-feed : (r p : ℕ) (block : List ℕ) → feedsIt r p (Feed r p block) ≡ true
+pub own-feed : (r p : ℕ) (block : List ℕ) → feedsIt r p (Feed r p block) ≡ true
 own-feed r p block = rw (eq-eqb r r refl, eq-eqb p p refl)
 
 module _ (r p : ℕ) (area : Area) (s : State) (ok : sound (s .desk) ≡ true) (held : holderOf (placeIn (s .desk) p) ≡ r + 1)
@@ -170,7 +171,7 @@ module _ (r p : ℕ) (area : Area) (s : State) (ok : sound (s .desk) ≡ true) (
       }))
       (λ x. absurd (true≢false (sym (own-feed r p (x .0)) ∙ ap (feedsIt r p) (sym (x .1)) ∙ not-true _ h)))
       (sort-call r p t ok held c (neither (goneBy r p c (answerTo c t)) (isGone r p rest) q .0))
-  sort-event (Store j v) rest h q =
+  sort-event (OutsideStore j v) rest h q =
       inl (record {
         same = store-view p s j v
             (rw its (not-true (isIn area j) h));

@@ -14,7 +14,7 @@ use Rattle.feed.proofs.Blocked.{block-laws}
 use Rattle.demands.specs.Orders.{run}
 use Rattle.demands.specs.History.{State, Call, answerTo, call, Event, lent, event, told, toldBy, Told, goneBy, isGone}
 use Rattle.demands.specs.History.Call.{Make, Open, Feed, Release}
-use Rattle.demands.specs.History.Event.{Here, Elsewhere, Store}
+use Rattle.demands.specs.History.Event.{Here, Elsewhere, OutsideStore}
 use Rattle.demands.proofs.Reach.{feed-confined}
 use Rattle.demands.proofs.Ready.{neither, event-sound, event-gone}
 use Rattle.demands.proofs.Calls.{open-view, release-view}
@@ -31,13 +31,14 @@ module _ (r p : ℕ) (s : State) (ok : sound (s .desk) ≡ true) (held : holderO
   call-own (Release n q k) e = ap ownOf (place-of p s _ (release-view n q k s r p held e))
 
 -- ---- any event, and any number of them
-event-own : (r p : ℕ) (e : Event) (s : State) (rest : List Told) → sound (s .desk) ≡ true → holderOf (placeIn (s .desk) p) ≡ r + 1
+pub event-own : (r p : ℕ) (e : Event) (s : State) (rest : List Told) → sound (s .desk) ≡ true
+    → holderOf (placeIn (s .desk) p) ≡ r + 1
     → isGone r p (toldBy e s rest) ≡ false → ownOf (placeIn (event e s .desk) p) ≡ ownOf (placeIn (s .desk) p)
 unfolding event isGone
 event-own r p (Here c) s rest ok h q = call-own r p s ok h c (neither (goneBy r p c (answerTo c s)) (isGone r p rest) q .0)
 event-own r p (Elsewhere other c) s rest ok h q =
     let t = lent other s in call-own r p t ok h c (neither (goneBy r p c (answerTo c t)) (isGone r p rest) q .0)
-event-own r p (Store j v) s rest ok h q = refl
+event-own r p (OutsideStore j v) s rest ok h q = refl
 
 pub holder-of : (l k : List ℕ) → ownOf l ≡ ownOf k → holderOf l ≡ holderOf k
 unfolding ownOf

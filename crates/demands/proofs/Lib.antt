@@ -1,6 +1,8 @@
+pub mod Prepared
 pub mod Outcomes
 pub mod Granted
 pub mod Ready
+pub mod Blind
 pub mod Counting
 pub mod Served
 pub mod Stores
@@ -18,6 +20,7 @@ pub mod Loaded
 pub mod Calls
 pub mod Feeds
 pub mod Kept
+pub mod Alone
 pub mod Lives
 pub mod Begun
 pub mod Completed

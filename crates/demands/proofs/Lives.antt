@@ -32,7 +32,7 @@ use Rattle.demands.specs.History.{harmless}
 use Rattle.demands.specs.History.Call.{Feed}
 use Rattle.demands.specs.History.Event.{Here}
 use Rattle.demands.specs.Taking.{Takes}
-use Rattle.demands.specs.Demands.{Prepared}
+use Rattle.demands.proofs.Prepared.{Prepared}
 use Rattle.demands.proofs.Held.{areaOf, held-inside, held-fit, held-place}
 use Rattle.demands.proofs.Views.{view, words-held, range-inside, alike-range, staged-own, staged-stage, staged-load}
 use Rattle.demands.proofs.Reach.{leftBy}

@@ -89,7 +89,7 @@ module _ (laws : BlockLaws) (s : State) (p : ℕ) (block : List ℕ) where
 
 -- ---- two states with the same view of a place, fed the same
 module _ {X : Type 0} (R : X → X → Type 0) {x y z w : X} where
-  both-when : (b c : Bool) → b ≡ c → (b ≡ true → R x z) → (b ≡ false → R y w) → R (cond b x y) (cond c z w)
+  pub both-when : (b c : Bool) → b ≡ c → (b ≡ true → R x z) → (b ≡ false → R y w) → R (cond b x y) (cond c z w)
   both-when true true q f g = f refl
   both-when true false q f g = absurd (true≢false q)
   both-when false true q f g = absurd (false≢true q)

@@ -30,9 +30,10 @@ use Rattle.feed.proofs.Fed.{holds-place, feed-outcomes, feed-sound, feed-long}
 use Rattle.feed.proofs.Held.{held-inside, held-fit}
 use Rattle.demands.specs.History.{State, Call, answerTo, call, Event, lent, event, Told, toldBy, goneBy, isGone}
 use Rattle.demands.specs.History.Call.{Make, Open, Feed, Release}
-use Rattle.demands.specs.History.Event.{Here, Elsewhere, Store}
+use Rattle.demands.specs.History.Event.{Here, Elsewhere, OutsideStore}
 use Rattle.demands.specs.Grants.{coreThen}
-use Rattle.demands.specs.Demands.{Prepared, KeptSound, Demand1Sound, Demand1Words}
+use Rattle.demands.specs.Demands.{KeptSound, Demand1Sound, Demand1Words}
+use Rattle.demands.proofs.Prepared.{Prepared}
 use Rattle.demands.proofs.Outcomes.{Granted, make-sorted, open-sorted}
 use Rattle.demands.proofs.Granted.{call-core}
 
@@ -121,13 +122,13 @@ pub event-sound : (e : Event) (s : State) → sound (s .desk) ≡ true → sound
 unfolding event
 event-sound (Here c) s k = call-sound c s k
 event-sound (Elsewhere other c) s k = call-sound c (lent other s) k
-event-sound (Store j v) s k = k
+event-sound (OutsideStore j v) s k = k
 
 event-long : (e : Event) (s : State) → length (event e s .core) ≡ length (s .core)
 unfolding event
 event-long (Here c) s = call-long c s
 event-long (Elsewhere other c) s = refl
-event-long (Store j v) s = length-set (s .core) j v
+event-long (OutsideStore j v) s = length-set (s .core) j v
 
 -- as long as a load is there, no desk was made, so that the desk keeps its core length
 pub neither : (b c : Bool) → (b || c) ≡ false → (b ≡ false) × (c ≡ false)
@@ -145,7 +146,7 @@ pub event-gone : (r p : ℕ) (e : Event) (s : State) (rest : List Told) → isGo
 unfolding isGone
 event-gone r p (Here c) s rest q = neither (goneBy r p c (answerTo c s)) (isGone r p rest) q .1
 event-gone r p (Elsewhere other c) s rest q = neither (goneBy r p c (answerTo c (lent other s))) (isGone r p rest) q .1
-event-gone r p (Store j v) s rest q = q
+event-gone r p (OutsideStore j v) s rest q = q
 
 event-core : (r p : ℕ) (e : Event) (s : State) (rest : List Told) → isGone r p (toldBy e s rest) ≡ false
     → coreLength (event e s .desk) ≡ coreLength (s .desk)
@@ -155,7 +156,7 @@ event-core r p (Here c) s rest q =
 event-core r p (Elsewhere other c) s rest q =
     let t = lent other s in
     call-core c t ∙ call-same r p _ c (answerTo c t) (neither (goneBy r p c (answerTo c t)) (isGone r p rest) q .0)
-event-core r p (Store j v) s rest q = refl
+event-core r p (OutsideStore j v) s rest q = refl
 
 pub event-ready : (r p : ℕ) (e : Event) (s : State) (rest : List Told) → Prepared s → isGone r p (toldBy e s rest) ≡ false
     → Prepared (event e s)

@@ -42,7 +42,7 @@ use Rattle.feed.proofs.Wiped.{getD-cleared-in}
 use Rattle.demands.specs.History.{State, Call, answerTo, call}
 use Rattle.demands.specs.History.Call.{Make, Open, Feed, Release}
 use Rattle.demands.specs.Demands.{BrokenOff, Demand1One, Demand1Number, Demand1Unchanged, Demand1Broken}
-use Rattle.demands.proofs.Views.{outside-beside, staged-stage}
+use Rattle.demands.proofs.Views.{outside-area, outside-beside, staged-stage}
 use Rattle.demands.proofs.Reach.{leftBy}
 
 pub one : Demand1One
@@ -172,7 +172,7 @@ module _ (s : State) (r p : ℕ) (block : List ℕ) where
         let n = stage-length Broken in record {
           inside = in-core;
           zeros = λ j a b. getD-cleared-in (s .core) _ _ j in-core a b;
-          beside = λ j o. getD-cleared-beside (s .core) _ _ j in-core (outside-beside j _ _ o);
+          beside = λ j o. getD-cleared-beside (s .core) _ _ j in-core (outside-beside j _ _ (outside-area area j o));
           core-long = length-cleared (s .core) _ _ in-core;
           stage = staged-stage (s .desk) ok p (k .0) Broken;
           others = unfold staged in (λ i o. getD-splice-beside (s .desk) (base p + 6) (numbersOf Broken) i in-desk

@@ -142,7 +142,8 @@ module _ (x : Load) (channels : ℕ) (tables : every (tableInside (x .area)) (x 
   -- the item at place i, and then n items at most
   module _ (n i : ℕ) (core : List ℕ) (more : closes block i ≡ false)
       (ih : (d : LabelCounts) (u : Due) (p : ℕ) (core′ : List ℕ)
-      → LeadsTo (programFrom n x d u block p core′) (Reads x channels after (Program d u) core′ (piecesFrom n block p ++ rest))) where
+      → LeadsTo (programFrom n x d u block p core′)
+      (Reads x channels after (Program d u) core′ (piecesFrom n block p ++ rest))) where
     abbrev then : Item → List ℕ → StepOutcome
     then item core′ = followed item core′ (λ d u p core″. programFrom n x d u block p core″)
 

@@ -1,35 +1,45 @@
 -- Demand 3, of the rooms: whatever happens after a desk was made, the grants and releases give each room what it holds by the desk,
 -- and so F, H and refusals 5 and 6.
-use Prim.Native.Nat.{ℕ, _≤_, _<_}
+use Prim.Native.Nat.{ℕ, _+_, _≤_, _<_}
 use mathlib.Core.Path.{_≡_, refl, sym, ap, subst, _∙_}
-use mathlib.Core.Bool.{true}
+use mathlib.Core.Bool.{true, false≢true}
 use mathlib.Core.List.{List, [], _∷_}
+use mathlib.Core.Logic.{⊎-elim}
 use native.Mathlib.Omega.{arith}
-use lib.ListN.{length}
+use lib.ListN.{length, getD}
 use lib.Dec.{eqb}
 use borrow.Author.Tests.{ne-eqb}
 use Rattle.word.specs.Fault.{fault}
-use Rattle.word.proofs.Cases.{both}
-use Rattle.rooms.specs.Rooms.{free, held, idle, Fair, placeRefusal}
+use Rattle.word.specs.Lists.{every}
+use Rattle.word.specs.declared.Area.{Area}
+use Rattle.word.proofs.Cases.{and-both, both}
+use Rattle.word.proofs.Every.{every-by}
+use Rattle.map.specs.Map.{mapOf, none}
+use Rattle.rooms.specs.Rooms.{free, held, idle, Fair, lowestFree, placeRefusal}
+use Rattle.rooms.proofs.Count.{count-some}
 use Rattle.rooms.proofs.Rooms.{none-denied}
 use Rattle.lists.specs.Obey.{listsObey}
-use Rattle.layout.specs.Layout.{coreLength, holders}
-use Rattle.desk.specs.Sound.{sound}
+use Rattle.layout.specs.Layout.{coreLength, mapNumbers, placeIn, places, holderOf, holders}
+use Rattle.layout.proofs.Places.{holder-at, length-holders, getD-holders, holds-inside, holds-holder}
+use Rattle.desk.specs.Sound.{areaIn, sound}
 use Rattle.desk.proofs.Facts.{sound-fair}
+use Rattle.desk.proofs.Tested.{places-length, places-at}
 use Rattle.calls.specs.Answer.{codeOf}
-use Rattle.calls.specs.declared.Answer.the-variants.{Refused, Made}
+use Rattle.calls.specs.declared.Answer.the-variants.{Refused, Made, Opened, Released}
 use Rattle.calls.specs.Outcome.{Outcome}
-use Rattle.calls.specs.Open.{areaFits, opened, grantOf, openOf}
+use Rattle.calls.specs.Open.{besideOwn, areaFits, opened, grantOf, openOf}
+use Rattle.calls.specs.Release.{releaseOf}
 use Rattle.calls.proofs.Entry.{entered-on, entered-cases}
 use Rattle.calls.proofs.Made.{make-sound, make-core}
 use Rattle.demands.specs.Orders.{run}
-use Rattle.demands.specs.History.{State, answerTo, call, Event, lent, event, Told, told}
+use Rattle.demands.specs.History.{State, answerTo, call, Event, lent, event, Told, told, isReleased}
 use Rattle.demands.specs.History.Call.{Make, Open}
-use Rattle.demands.specs.History.Event.{Here, Elsewhere, Store}
+use Rattle.demands.specs.History.Event.{Here, Elsewhere, OutsideStore}
 use Rattle.demands.specs.Grants.{heldAfter, heldBy, freePlaces, idleRooms, coreAfter}
-use Rattle.demands.specs.Demands.{Asked, Refuses, PlacesGiven, Demand3Rooms}
+use Rattle.demands.specs.Demands.{Asked, openAnswer, Refuses, PlacesGiven, Demand3Rooms}
 use Rattle.demands.proofs.Counting.{free-told, idle-told, place-free, gives-five, gives-six, given-five, given-six}
 use Rattle.demands.proofs.Granted.{call-held, call-core}
+use Rattle.demands.proofs.Outcomes.{release-sorted}
 use Rattle.demands.proofs.Ready.{event-sound}
 
 -- ---- what a room holds by the desk, and the desk's core length, are what is counted
@@ -42,7 +52,7 @@ run-held r (Here c ∷ es) s =
 run-held r (Elsewhere other c ∷ es) s =
     let t = event (Elsewhere other c) s in
     ap (λ (n : ℕ). heldAfter r n (told es t)) (sym (call-held c (lent other s) r)) ∙ run-held r es t
-run-held r (Store j v ∷ es) s = run-held r es (event (Store j v) s)
+run-held r (OutsideStore j v ∷ es) s = run-held r es (event (OutsideStore j v) s)
 
 run-core : (es : List Event) (s : State) → coreAfter (coreLength (s .desk)) (told es s) ≡ coreLength (run event es s .desk)
 unfolding run told event coreAfter
@@ -51,7 +61,7 @@ run-core (Here c ∷ es) s = ap (λ (n : ℕ). coreAfter n (told es (call c s)))
 run-core (Elsewhere other c ∷ es) s =
     let t = event (Elsewhere other c) s in
     ap (λ (n : ℕ). coreAfter n (told es t)) (sym (call-core c (lent other s))) ∙ run-core es t
-run-core (Store j v ∷ es) s = run-core es (event (Store j v) s)
+run-core (OutsideStore j v ∷ es) s = run-core es (event (OutsideStore j v) s)
 
 run-sound : (es : List Event) (s : State) → sound (s .desk) ≡ true → sound (run event es s .desk) ≡ true
 unfolding run
@@ -81,6 +91,48 @@ module _ (d : List ℕ) (ok : sound d ≡ true) (r : ℕ) (room : r < 8) (q : As
       ap (λ (o : Outcome). o .answer)
       (entered-on d (length (q .core)) r (q .core) _ (record { desk = ok; core = long; room = room }))
       ∙ rw (e, ne-eqb n 0 (λ z. omega arith))
+
+-- ---- a room that holds nothing: nothing of its own is in the way of an area in its stretch
+module _ (d : List ℕ) (r : ℕ) (none-held : held r (holders d) ≡ 0) where
+  not-own : (p : ℕ) → p < 12 → holderOf (placeIn d p) ≡ r + 1 → ⊥
+  unfolding held
+  not-own p h e =
+      omega (
+        arith,
+        none-held,
+        count-some (r + 1) (holders d) p (omega (arith, length-holders d))
+            (getD-holders d p h ∙ holder-at d p ∙ e),
+      )
+
+  all-beside : (a : Area) → every (besideOwn r a) (places d) ≡ true
+  unfolding besideOwn
+  all-beside a =
+      every-by [] (besideOwn r a) (places d)
+      (λ p h. let k : p < 12 = omega (arith, places-length d) in
+      rw (places-at d p k, ne-eqb (holderOf (placeIn d p)) (r + 1) (not-own p k)))
+
+  area-fits : (a : Area) → areaIn (getD (mapOf (mapNumbers d)) r none) a ≡ true → areaFits d r a ≡ true
+  unfolding areaFits
+  area-fits a q = and-both (areaIn (getD (mapOf (mapNumbers d)) r none) a) (every (besideOwn r a) (places d)) q (all-beside a)
+
+  gives-place : sound d ≡ true → r < 8 → (q : Asked) → length (q .core) ≡ coreLength d
+      → areaIn (getD (mapOf (mapNumbers d)) r none) (q .area) ≡ true → listsObey (q .area) (q .ios) (q .tables) ≡ true
+      → openAnswer d r q ≡ Opened (lowestFree (holders d))
+  unfolding answerTo openOf grantOf opened
+  gives-place ok room q long fits obeys =
+      ap (λ (o : Outcome). o .answer)
+      (entered-on d (length (q .core)) r (q .core) _ (record { desk = ok; core = long; room = room }))
+      ∙ rw (none-denied (holders d) r none-held, area-fits (q .area) fits, obeys)
+
+-- ---- a place is given back by a room that holds it
+gives-back : (d : List ℕ) (k r p : ℕ) → releaseOf d k r p .answer ≡ Released → 1 ≤ held r (holders d)
+unfolding held
+gives-back d k r p e =
+    ⊎-elim
+    (λ x. absurd (false≢true (ap (λ (o : Outcome). isReleased (o .answer)) (sym (x .1)) ∙ ap isReleased e)))
+    (λ x. let i = holds-inside d r p (x .1) in
+    count-some (r + 1) (holders d) p (omega (arith, length-holders d)) (getD-holders d p i ∙ holds-holder d r p (x .1)))
+    (release-sorted d k r p)
 
 -- ---- what the counts say, where they are the desk's
 module _ (ts : List Told) (d : List ℕ) (ok : sound d ≡ true) (agree : (r : ℕ) → heldBy r ts ≡ held r (holders d)) (r : ℕ)
@@ -117,6 +169,8 @@ module _ (ts : List Told) (d : List ℕ) (ok : sound d ≡ true) (agree : (r : �
     six-given = λ q n z k.
         so-refused d ok r room q n 6 (omega arith) (gives-six r l (sym (agree r) ∙ z) (omega (arith, free-is, idle-is)));
     most = omega (arith, agree r, fair .two r room);
+    given = λ q n z fits obeys. (lowestFree l, gives-place d r (sym (agree r) ∙ z) ok room q n fits obeys);
+    freed = unfold answerTo in (λ k p e. omega (arith, agree r, gives-back d k r p e));
   }
 
 -- ---- whatever happens after a desk was made

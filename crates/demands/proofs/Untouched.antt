@@ -16,7 +16,7 @@ use Rattle.demands.specs.History.{State, call}
 use Rattle.demands.specs.History.Call.{Open, Release}
 use Rattle.demands.specs.Demands.{Outside, Demand2Outside}
 use Rattle.demands.proofs.Held.{areaOf}
-use Rattle.demands.proofs.Views.{extent, extent-free, extent-held, outside-beside}
+use Rattle.demands.proofs.Views.{extent, extent-free, extent-held, outside-area, outside-beside}
 use Rattle.demands.proofs.Reach.{feed-confined}
 use Rattle.demands.proofs.Outcomes.{open-sorted}
 use Rattle.demands.proofs.Ready.{area-inside}
@@ -28,14 +28,14 @@ open-outside s j r area ios tables h =
     ⊎-elim
     (λ x. ap (λ (o : Outcome). getD (o .core) j 0) (x .1))
     (λ x. ap (λ (o : Outcome). getD (o .core) j 0) (x .1)
-    ∙ getD-cleared-beside (s .core) _ _ j (area-inside s r area ios tables (x .0)) (outside-beside j _ _ h))
+    ∙ getD-cleared-beside (s .core) _ _ j (area-inside s r area ios tables (x .0)) (outside-beside j _ _ (outside-area area j h)))
     (open-sorted (s .desk) (s .core) r area ios tables)
 
 outside-extent : (l : List ℕ) (j : ℕ) → Outside (areaOf l) j → Beside j (areaOf l .at .0) (extent l)
 outside-extent l j h =
     by-eq (holderOf l) 0
     (λ z. outside-beside j _ _ (λ a b. omega (arith, extent-free l z)))
-    (λ z. rw (extent-held l z) (outside-beside j _ _ h))
+    (λ z. rw (extent-held l z) (outside-beside j _ _ (outside-area (areaOf l) j h)))
 
 release-outside : (s : State) (n r p : ℕ) → call (Release n r p) s .core ≡ s .core
 unfolding call

@@ -2,15 +2,16 @@
 -- one load's alone.
 use Prim.Native.Nat.{ℕ, _+_, _-_, _≤_, _<_}
 use mathlib.Core.Path.{_≡_, refl, sym, ap, ap₂, _∙_}
-use mathlib.Core.Bool.{true, cond}
+use mathlib.Core.Bool.{true, false, cond, true≢false}
 use mathlib.Core.List.{List}
 use mathlib.Core.Logic.{inl, inr}
 use native.Mathlib.Omega.{arith}
 use lib.ListN.{length, getD, replicate, length-replicate}
 use lib.Seq.{ext-getD}
 use lib.Dec.{eqb}
-use borrow.Author.Tests.{eq-eqb, ne-eqb}
+use borrow.Author.Tests.{eq-eqb, ne-eqb, le-leb, lt-ltb}
 use Rattle.word.specs.Lists.{range, splice, cleared}
+use Rattle.word.specs.declared.Area.{Area}
 use Rattle.word.proofs.Cases.{by-eq, by-lt}
 use Rattle.word.proofs.Lists.{length-range, length-range-min, length-range-most, getD-range, getD-splice-out, range-splice-before}
 use Rattle.word.proofs.Lists.{range-splice-after, range-splice-same}
@@ -25,7 +26,7 @@ use Rattle.layout.proofs.Places.{place-length, written-length, place-written, p
 use Rattle.desk.specs.Sound.{sound}
 use Rattle.desk.proofs.Facts.{sound-long}
 use Rattle.feed.specs.Feed.{loadIn, staged}
-use Rattle.demands.specs.History.{State}
+use Rattle.demands.specs.History.{State, isIn}
 use Rattle.demands.proofs.Held.{areaOf, held-apart}
 
 -- ---- the view of a load
@@ -84,6 +85,10 @@ alike-range k core a n e j h g =
     let z : a + (j - a) ≡ j = omega arith in
     rw z at (sym (getD-range k a n (j - a) (omega arith)) ∙ ap (λ (l : List ℕ). getD l (j - a) 0) e
     ∙ getD-range core a n (j - a) (omega arith))
+
+-- a word outside an area
+pub outside-area : (area : Area) (j : ℕ) → isIn area j ≡ false → area .at .0 ≤ j → j < area .at .0 + area .size → ⊥
+outside-area area j q a b = true≢false (rw (le-leb (area .at .0) j a, lt-ltb j (area .at .0 + area .size) b) at q)
 
 pub outside-beside : (j a n : ℕ) → (a ≤ j → j < a + n → ⊥) → Beside j a n
 outside-beside j a n h = by-lt j a (λ l. inl l) (λ l. by-lt j (a + n) (λ g. absurd (h l g)) (λ g. inr g))

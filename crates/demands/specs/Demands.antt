@@ -1,5 +1,6 @@
 -- What the house holds the loader to, as statements. Each is a type; the theorem that it holds has its name in small letters
 -- (proofs/Demands.antt). They speak of `makeOf`, `openOf`, `feedOf` and `releaseOf`, which are the contracts of the four calls.
+-- That they are not empty is stated beside the histories that show it: `NotEmpty` in Examples.antt.
 use Prim.Native.Nat.{ℕ, _+_, _≤_, _<_}
 use mathlib.Core.Path.{_≡_}
 use mathlib.Core.Bool.{true, false}
@@ -12,30 +13,28 @@ use Rattle.word.specs.Word.{wordLimit}
 use Rattle.word.specs.declared.Absolute.{Absolute}
 use Rattle.word.specs.declared.Area.{Area}
 use Rattle.word.specs.declared.Fault.{Fault}
+use Rattle.map.specs.Map.{mapOf, none}
+use Rattle.lists.specs.Obey.{listsObey}
 use Rattle.stage.specs.declared.Stage.the-variants.{Broken}
-use Rattle.layout.specs.Layout.{stageAt, listsAt, coreLength, base, placeIn, ownOf, stageIn}
-use Rattle.desk.specs.Sound.{sound}
+use Rattle.layout.specs.Layout.{stageAt, listsAt, coreLength, mapNumbers, base, placeIn, ownOf, stageIn}
+use Rattle.desk.specs.Sound.{areaIn, sound}
 use Rattle.calls.specs.Answer.{packed, Small}
 use Rattle.calls.specs.declared.Answer.{Answer}
-use Rattle.calls.specs.declared.Answer.the-variants.{Refused, Made}
+use Rattle.calls.specs.declared.Answer.the-variants.{Refused, Made, Opened, Released}
 use Rattle.calls.specs.Outcome.{Outcome}
 use Rattle.clamp.specs.Returned.{Returned}
 use Rattle.demands.specs.Image.{fileStart}
 use Rattle.demands.specs.Orders.{run, only, answersOf, inTurn}
-use Rattle.demands.specs.History.{State, Call, answerTo, call, Event, event, Told, told, taken, starts}
+use Rattle.demands.specs.History.{State, Call, answerTo, call, Event, lent, event, Told, told, taken, starts, answersFor}
+use Rattle.demands.specs.History.{isIn}
 use Rattle.demands.specs.History.Call.{Make, Open, Feed, Release}
-use Rattle.demands.specs.Opening.{Opening, IsGranted, granted, since, Stays, Unharmed, imageSince, areaWords}
-use Rattle.demands.specs.Feeding.{Fed, feed, fedAnswer, loadNumber, feeds}
+use Rattle.demands.specs.Opening.{Opening, IsGranted, afterOpen, since, Stays, Unharmed, ownEvents, imageSince, areaWords}
+use Rattle.demands.specs.Feeding.{Fed, feed, fedAnswer, placeNumber, fedEvents}
 use Rattle.demands.specs.Grants.{heldBy, freePlaces, idleRooms, coreThen, coreAfter}
-
--- a sound desk, and a core of its length
-pub record Prepared (s : State) : Type 0 where
-  pub desk : sound (s .desk) ≡ true
-  pub core : length (s .core) ≡ coreLength (s .desk)
 
 -- a core word outside an area
 abbrev pub Outside : Area → ℕ → Type 0
-Outside area j = area .at .0 ≤ j → j < area .at .0 + area .size → ⊥
+Outside area j = isIn area j ≡ false
 
 -- ---- Demand 1, of every call in every state. One outcome: "it is proved that two outcomes meeting it are equal". `Returned` is
 -- the form of every exported contract.
@@ -50,7 +49,7 @@ Demand1Number =
     ((c : Call) (s : State) → Small (answerTo c s))
     × ((a b : Answer) → Small a → Small b → packed a ≡ packed b → a ≡ b)
 
--- "Refusals 1 to 12 change nothing", and each call has its own refusals
+-- "Refusals 1 to 12 change nothing", and no call is refused with a number over its greatest one
 abbrev pub mostOf : Call → ℕ
 mostOf (Make n m) = 3
 mostOf (Open r area ios tables) = 8
@@ -90,6 +89,12 @@ Demand1Sound =
     ((s : State) (n : ℕ) (m : List ℕ) → answerTo (Make n m) s ≡ Made → sound (call (Make n m) s .desk) ≡ true)
     × ((c : Call) (s : State) → KeptSound c s)
 
+-- no call reads a core word: lent another core of the same length, it gives the same answer and leaves the same desk
+abbrev pub Demand1Blind : Type 0
+Demand1Blind =
+    (c : Call) (s : State) (other : List ℕ) → length other ≡ length (s .core)
+    → (answerTo c (lent other s) ≡ answerTo c s) × (call c (lent other s) .desk ≡ call c s .desk)
+
 -- every number that a call stores in the core is a word, below 2^36, whatever the core held
 abbrev pub Demand1Words : Type 0
 Demand1Words =
@@ -102,15 +107,22 @@ abbrev pub Demand2 : Type 0
 Demand2 =
     (o : Opening) (es : List Event) (a : Absolute) (others : List Absolute) → IsGranted o → Stays o es → Unharmed o es
     → starts (o .room) (o .place) (since o es) ≡ a ∷ others
-    → (areaWords o (run event es (granted o)) ≡ imageSince o es)
+    → (areaWords o (run event es (afterOpen o)) ≡ imageSince o es)
     × ((a ≡ fileStart (o .area) (taken (o .room) (o .place) (since o es))) × (others ≡ []))
+
+-- nothing that happened made a difference to it, done or not: its feeds were answered, and its area is, as if they alone had come
+abbrev pub Demand2Alone : Type 0
+Demand2Alone =
+    (o : Opening) (es : List Event) → IsGranted o → Stays o es → Unharmed o es
+    → (answersFor (o .room) (o .place) (since o es) ≡ answersFor (o .room) (o .place) (since o (ownEvents o es)))
+    × (areaWords o (run event es (afterOpen o)) ≡ areaWords o (run event (ownEvents o es) (afterOpen o)))
 
 -- the desk says of the load's place what open was given, whatever happened, harm or not, as long as the load is there
 abbrev pub Demand2Area : Type 0
 Demand2Area =
     (o : Opening) (es : List Event) → IsGranted o → Stays o es
-    → (ownOf (placeIn (run event es (granted o) .desk) (o .place)) .given .area ≡ o .area)
-    × (ownOf (placeIn (run event es (granted o) .desk) (o .place)) .holder ≡ o .room + 1)
+    → (ownOf (placeIn (run event es (afterOpen o) .desk) (o .place)) .given .area ≡ o .area)
+    × (ownOf (placeIn (run event es (afterOpen o) .desk) (o .place)) .holder ≡ o .room + 1)
 
 -- a load's own calls change no core word outside its area: open, its feeds, its release
 abbrev pub Demand2Outside : Type 0
@@ -122,32 +134,32 @@ Demand2Outside =
     → getD (call (Feed r p block) s .core) j 0 ≡ getD (s .core) j 0)
     × ((n r p : ℕ) → call (Release n r p) s .core ≡ s .core)
 
--- ---- Demand 3, of the feeds. Two orders that keep each load's own
+-- ---- Demand 3, of the feeds, in any state. Two orders that keep each load's own
 abbrev pub SameForEach : List Fed → List Fed → Type 0
-SameForEach es fs = (p : ℕ) → only loadNumber p es ≡ only loadNumber p fs
+SameForEach es fs = (p : ℕ) → only placeNumber p es ≡ only placeNumber p fs
 
 -- give the same desk and core, and each load the same answers
 abbrev pub SameOutcome : State → List Fed → List Fed → Type 0
 SameOutcome s es fs =
     (run feed es s ≡ run feed fs s)
-    × ((p : ℕ) → answersOf loadNumber feed fedAnswer p es s ≡ answersOf loadNumber feed fedAnswer p fs s)
+    × ((p : ℕ) → answersOf placeNumber feed fedAnswer p es s ≡ answersOf placeNumber feed fedAnswer p fs s)
 
 abbrev pub Demand3Orders : Type 0
-Demand3Orders = (s : State) → Prepared s → (es fs : List Fed) → SameForEach es fs → SameOutcome s es fs
+Demand3Orders = (s : State) (es fs : List Fed) → SameForEach es fs → SameOutcome s es fs
 
 -- and so does one load after another
 abbrev pub Demand3Turns : Type 0
-Demand3Turns = (s : State) → Prepared s → (es : List Fed) → SameOutcome s es (inTurn loadNumber (placeCount + 1) es)
+Demand3Turns = (s : State) (es : List Fed) → SameOutcome s es (inTurn placeNumber (placeCount + 1) es)
 
 -- "Demand 3 speaks of demand 2's images": a load is opened, anything happens that does it no harm, and then feeds of any loads
 -- come. If it was answered `done`, its area holds its image also where the feeds come in another order that keeps each load's own.
 abbrev pub Demand3Images : Type 0
 Demand3Images =
     (o : Opening) (between : List Event) (es fs : List Fed) (a : Absolute) (others : List Absolute)
-    → IsGranted o → Stays o (between ++ feeds es) → Unharmed o between
-    → starts (o .room) (o .place) (since o (between ++ feeds es)) ≡ a ∷ others
+    → IsGranted o → Stays o (between ++ fedEvents es) → Unharmed o between
+    → starts (o .room) (o .place) (since o (between ++ fedEvents es)) ≡ a ∷ others
     → SameForEach es fs
-    → areaWords o (run event (between ++ feeds fs) (granted o)) ≡ imageSince o (between ++ feeds es)
+    → areaWords o (run event (between ++ fedEvents fs) (afterOpen o)) ≡ imageSince o (between ++ fedEvents es)
 
 -- ---- Demand 3, of the rooms: what open answers to room r, whatever area, lists and core it comes with. F and H are counted from
 -- the grants and releases since the desk was last made; n is the core length that it was made with.
@@ -157,8 +169,11 @@ pub record Asked : Type 0 where
   pub tables : List ℕ
   pub core : List ℕ
 
+abbrev pub openAnswer : List ℕ → ℕ → Asked → Answer
+openAnswer desk r q = answerTo (Open r (q .area) (q .ios) (q .tables)) (record { desk = desk; core = q .core })
+
 abbrev pub Refuses : List ℕ → ℕ → Asked → ℕ → Type 0
-Refuses desk r q k = answerTo (Open r (q .area) (q .ios) (q .tables)) (record { desk = desk; core = q .core }) ≡ Refused (fault k)
+Refuses desk r q f = openAnswer desk r q ≡ Refused (fault f)
 
 pub record PlacesGiven (ts : List Told) (n : ℕ) (desk : List ℕ) (r : ℕ) : Type 0 where
   -- "A room that holds nothing is never refused for want of a place", and one is free for it
@@ -171,6 +186,12 @@ pub record PlacesGiven (ts : List Told) (n : ℕ) (desk : List ℕ) (r : ℕ) : 
   pub six-given : (q : Asked) → length (q .core) ≡ n → heldBy r ts ≡ 1 → freePlaces ts ≤ idleRooms ts → Refuses desk r q 6
   -- and no room holds over two
   pub most : heldBy r ts ≤ 2
+  -- a room that holds nothing is given a place for any area in its stretch and lists that obey
+  pub given : (q : Asked) → length (q .core) ≡ n → heldBy r ts ≡ 0
+      → areaIn (getD (mapOf (mapNumbers desk)) r none) (q .area) ≡ true → listsObey (q .area) (q .ios) (q .tables) ≡ true
+      → (p : ℕ) × (openAnswer desk r q ≡ Opened p)
+  -- a place is given back only by a room that holds one
+  pub freed : (k p : ℕ) → answerTo (Release k r p) (record { desk = desk; core = [] }) ≡ Released → 1 ≤ heldBy r ts
 
 -- after any make that was accepted, whatever happened then, further makes among it
 abbrev pub Demand3Rooms : Type 0

@@ -22,10 +22,10 @@ feed e s = call (fedCall e) s
 abbrev pub fedAnswer : Fed → State → Answer
 fedAnswer e s = answerTo (fedCall e) s
 
--- the load that a feed names, 0 to 11; all numbers that name none are one
-abbrev pub loadNumber : Fed → ℕ
-loadNumber e = min (e .place) placeCount
+-- the place that a feed names, 0 to 11; 12 stands for every number over 11
+abbrev pub placeNumber : Fed → ℕ
+placeNumber e = min (e .place) placeCount
 
 -- as events
-abbrev pub feeds : List Fed → List Event
-feeds = map (λ (e : Fed). Here (fedCall e))
+abbrev pub fedEvents : List Fed → List Event
+fedEvents = map (λ (e : Fed). Here (fedCall e))

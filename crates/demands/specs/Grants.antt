@@ -1,31 +1,30 @@
 -- Who holds how many places, counted from the grants and releases since the desk was last made, not from the desk's numbers: "Say F
 -- places are free and H rooms hold none".
 use Prim.Native.Nat.{ℕ, zero, suc, _+_, _-_}
-use mathlib.Core.Bool.{Bool, false, cond}
+use mathlib.Core.Bool.{Bool, true, false, cond, _&&_}
 use mathlib.Core.List.{List, [], _∷_}
 use lib.Dec.{eqb}
 use Rattle.word.specs.Limits.{roomCount, placeCount}
 use Rattle.calls.specs.declared.Answer.{Answer}
 use Rattle.calls.specs.declared.Answer.the-variants.{Refused, Made, Opened, More, Done, Released}
-use Rattle.demands.specs.History.{Call, Told, isMade}
+use Rattle.demands.specs.History.{Call, Told, isMade, isReleased}
 use Rattle.demands.specs.History.Call.{Make, Open, Feed, Release}
 
--- a call of room r
-abbrev pub isOf : ℕ → Call → Bool
-isOf r (Make n m) = false
-isOf r (Open q area ios tables) = eqb q r
-isOf r (Feed q k block) = eqb q r
-isOf r (Release n q k) = eqb q r
+abbrev pub isOpened : Answer → Bool
+isOpened (Refused f) = false
+isOpened Made = false
+isOpened (Opened p) = true
+isOpened More = false
+isOpened (Done a) = false
+isOpened Released = false
 
 -- what room r holds after a call, if it held n places before: `opened` adds one, `released` takes one, and on a new desk it holds
--- none
+-- none. That no release is lost where it holds none already is `freed` of PlacesGiven.
 abbrev pub heldThen : ℕ → ℕ → Call → Answer → ℕ
-heldThen r n c (Refused f) = n
-heldThen r n c Made = 0
-heldThen r n c (Opened p) = cond (isOf r c) (n + 1) n
-heldThen r n c More = n
-heldThen r n c (Done a) = n
-heldThen r n c Released = cond (isOf r c) (n - 1) n
+heldThen r n (Make k m) answer = cond (isMade answer) 0 n
+heldThen r n (Open q area ios tables) answer = cond (isOpened answer && eqb q r) (n + 1) n
+heldThen r n (Feed q p block) answer = n
+heldThen r n (Release k q p) answer = cond (isReleased answer && eqb q r) (n - 1) n
 
 unfoldable pub heldAfter : ℕ → ℕ → List Told → ℕ
 heldAfter r n [] = n

@@ -41,11 +41,12 @@ call (Feed r p block) s =
 call (Release n r p) s = record { desk = releaseOf (s .desk) n r p .desk; core = s .core }
 
 -- ---- what happens: a call on the desk that is lent the core that we follow; one that is lent another core; and a store from
--- outside, such as a running program makes: address and value. Nothing else writes to the desk.
+-- outside, such as a running program makes: address and value. Nothing else writes to the desk. Make and release are lent no core:
+-- for them the first two are the same.
 pub data Event : Type 0 where
   Here : Call → Event
   Elsewhere : List ℕ → Call → Event
-  Store : ℕ → ℕ → Event
+  OutsideStore : ℕ → ℕ → Event
 
 -- our desk beside another core
 abbrev pub lent : List ℕ → State → State
@@ -55,7 +56,7 @@ lent other s = record { desk = s .desk; core = other }
 unfoldable pub event : Event → State → State
 event (Here c) s = call c s
 event (Elsewhere other c) s = record { desk = call c (lent other s) .desk; core = s .core }
-event (Store j v) s = record { desk = s .desk; core = set (s .core) j v }
+event (OutsideStore j v) s = record { desk = s .desk; core = set (s .core) j v }
 
 -- ---- the calls with their answers
 pub record Told : Type 0 where
@@ -65,7 +66,7 @@ pub record Told : Type 0 where
 abbrev pub toldBy : Event → State → List Told → List Told
 toldBy (Here c) s rest = record { call = c; answer = answerTo c s } ∷ rest
 toldBy (Elsewhere other c) s rest = record { call = c; answer = answerTo c (lent other s) } ∷ rest
-toldBy (Store j v) s rest = rest
+toldBy (OutsideStore j v) s rest = rest
 
 unfoldable pub told : List Event → State → List Told
 told [] s = []
@@ -139,18 +140,32 @@ unfoldable pub isGone : ℕ → ℕ → List Told → Bool
 isGone r p [] = false
 isGone r p (t ∷ ts) = goneBy r p (t .call) (t .answer) || isGone r p ts
 
--- ---- what does a load no harm: any call that is lent its core; a call that is lent another one, if it is not the load's own feed;
--- and a store outside its area
+-- ---- the load's own feeds that were lent its core, and the answers to its feeds
 abbrev pub feedsIt : ℕ → ℕ → Call → Bool
 feedsIt r p (Make n m) = false
 feedsIt r p (Open q area ios tables) = false
 feedsIt r p (Feed q k block) = eqb q r && eqb k p
 feedsIt r p (Release n q k) = false
 
+abbrev pub isOwnFeed : ℕ → ℕ → Event → Bool
+isOwnFeed r p (Here c) = feedsIt r p c
+isOwnFeed r p (Elsewhere other c) = false
+isOwnFeed r p (OutsideStore j v) = false
+
+unfoldable pub ownFeeds : ℕ → ℕ → List Event → List Event
+ownFeeds r p [] = []
+ownFeeds r p (e ∷ es) = cond (isOwnFeed r p e) (e ∷ ownFeeds r p es) (ownFeeds r p es)
+
+unfoldable pub answersFor : ℕ → ℕ → List Told → List Answer
+answersFor r p [] = []
+answersFor r p (t ∷ ts) = cond (feedsIt r p (t .call)) (t .answer ∷ answersFor r p ts) (answersFor r p ts)
+
+-- ---- what does a load no harm: any call that is lent its core (whether the load is still there after it, `isGone` says); a call
+-- that is lent another one, if it is not the load's own feed; and a store outside its area
 abbrev pub isIn : Area → ℕ → Bool
 isIn area j = leb (area .at .0) j && ltb j (area .at .0 + area .size)
 
 abbrev pub harmless : ℕ → ℕ → Area → Event → Bool
 harmless r p area (Here c) = true
 harmless r p area (Elsewhere other c) = not (feedsIt r p c)
-harmless r p area (Store j v) = not (isIn area j)
+harmless r p area (OutsideStore j v) = not (isIn area j)

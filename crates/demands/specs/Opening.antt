@@ -9,7 +9,7 @@ use Rattle.word.specs.declared.Area.{Area}
 use Rattle.lists.specs.Obey.{tablesOf}
 use Rattle.calls.specs.declared.Answer.the-variants.{Opened}
 use Rattle.demands.specs.Image.{imageOf}
-use Rattle.demands.specs.History.{State, answerTo, call, Event, Told, told, taken, isGone, harmless}
+use Rattle.demands.specs.History.{State, answerTo, call, Event, Told, told, taken, isGone, ownFeeds, harmless}
 use Rattle.demands.specs.History.Call.{Open}
 
 pub record Opening : Type 0 where
@@ -23,12 +23,12 @@ pub record Opening : Type 0 where
 abbrev pub IsGranted : Opening → Type 0
 IsGranted o = answerTo (Open (o .room) (o .area) (o .ios) (o .tables)) (o .before) ≡ Opened (o .place)
 
-abbrev pub granted : Opening → State
-granted o = call (Open (o .room) (o .area) (o .ios) (o .tables)) (o .before)
+abbrev pub afterOpen : Opening → State
+afterOpen o = call (Open (o .room) (o .area) (o .ios) (o .tables)) (o .before)
 
 -- the calls and answers since
 abbrev pub since : Opening → List Event → List Told
-since o es = told es (granted o)
+since o es = told es (afterOpen o)
 
 -- the load is still there after them: its place was not released, and no new desk was made
 abbrev pub Stays : Opening → List Event → Type 0
@@ -38,6 +38,10 @@ Stays o es = isGone (o .room) (o .place) (since o es) ≡ false
 -- harm.
 abbrev pub Unharmed : Opening → List Event → Type 0
 Unharmed o es = every (harmless (o .room) (o .place) (o .area)) es ≡ true
+
+-- its own feeds alone
+abbrev pub ownEvents : Opening → List Event → List Event
+ownEvents o es = ownFeeds (o .room) (o .place) es
 
 -- the image of the blocks that the load accepted
 abbrev pub imageSince : Opening → List Event → List ℕ

@@ -5,7 +5,7 @@ use mathlib.Core.Bool.{cond}
 use mathlib.Core.List.{List, [], _∷_, _++_}
 use lib.Dec.{eqb}
 
--- what is done to a list of events
+-- the state after a list of events, one step each
 unfoldable pub run {ℓ} : {S E : Type ℓ} → (E → S → S) → List E → S → S
 run step [] s = s
 run step (e ∷ es) s = run step es (step e s)

@@ -51,7 +51,7 @@ use Rattle.demands.specs.HandDeck.{deckGiven}
 use Rattle.demands.specs.Image.{fileStart}
 use Rattle.demands.specs.Orders.{run}
 use Rattle.demands.specs.History.{State, answerTo, call, Event, event, Told, told, taken, starts, isGone}
-use Rattle.demands.specs.Opening.{Opening, granted, imageSince, areaWords}
+use Rattle.demands.specs.Opening.{Opening, afterOpen, imageSince, areaWords}
 use Rattle.demands.specs.Examples.{oldDesk, oldCore, old, oneRoom, twoRooms, make, answersIn, otherArea, open1, fed1, deckFeeds}
 use Rattle.demands.specs.Examples.{deckLife, byTurns, oneBroken, whileItLoads, dayLife, NotEmpty}
 use Rattle.demands.proofs.Demands.{demand-2}
@@ -85,6 +85,7 @@ not-empty = record {
   broken-left = refl;
   day = refl;
   day-left = refl;
+  crowd = refl;
 }
 
 -- ---- so Demand 2 speaks of them: what it asks is computed, and the image is what it then says
@@ -94,7 +95,7 @@ opening s = record { before = s; room = 0; area = deckGiven .area; ios = []; tab
 abbrev pub deckOpening : Opening
 deckOpening = opening (run event (make oneRoom ∷ []) old)
 
-pub deck-demand : (areaWords deckOpening (run event deckFeeds (granted deckOpening)) ≡ imageSince deckOpening deckFeeds)
+pub deck-demand : (areaWords deckOpening (run event deckFeeds (afterOpen deckOpening)) ≡ imageSince deckOpening deckFeeds)
     × (record { 0 = 512 } ≡ fileStart (deckGiven .area) deckFile)
 unfolding computed
 deck-demand =
@@ -108,6 +109,6 @@ dayOpening = opening (run event (make twoRooms ∷ []) old)
 abbrev pub afterOpening : List Event
 afterOpening = open1 ∷ fed1 deckLabel ∷ fed1 deckProgram ∷ fed1 deckTermination ∷ whileItLoads
 
-pub day-demand : areaWords dayOpening (run event afterOpening (granted dayOpening)) ≡ imageSince dayOpening afterOpening
+pub day-demand : areaWords dayOpening (run event afterOpening (afterOpen dayOpening)) ≡ imageSince dayOpening afterOpening
 unfolding computed
 day-demand = demand-2 dayOpening afterOpening (record { 0 = 512 }) [] refl refl refl refl .0
