@@ -1,2 +1,4 @@
 pub mod Opens
 pub mod Worked
+pub mod Refused
+pub mod Split

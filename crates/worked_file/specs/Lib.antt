@@ -1,4 +1,6 @@
 pub mod Blocks
 pub mod Image
 pub mod Lives
+pub mod Refused
+pub mod Split
 pub mod Worked

@@ -1,17 +1,24 @@
--- What holds of the worked file. Each statement is proved under the same name in small letters in proofs/Worked.antt, by computing
--- from the definitions alone: `WorkedImage` by `worked-image`.
+-- What holds of the worked file, of the faulty ones and of the split one. Each statement is proved under the same name in small
+-- letters in proofs/, by computing from the definitions alone: `WorkedImage` by `worked-image`.
+use Prim.Native.Nat.{ℕ}
 use mathlib.Core.Path.{_≡_}
-use mathlib.Core.List.{[], _∷_, _++_}
-use lib.ListN.{replicate}
-use Rattle.word.specs.Lists.{splice}
+use mathlib.Core.List.{List, [], _∷_, _++_, map}
+use lib.ListN.{length, replicate}
+use Rattle.word.specs.Fault.{fault}
+use Rattle.word.specs.Lists.{splice, cleared}
 use Rattle.stage.specs.declared.Stage.the-variants.{Label, Complete}
-use Rattle.calls.specs.declared.Answer.the-variants.{Opened, More, Done}
+use Rattle.calls.specs.declared.Answer.the-variants.{Opened, More, Done, Refused}
 use Rattle.demands.specs.Image.{imageOf, fileStart}
 use Rattle.demands.specs.Taking.{Takes}
-use Rattle.demands.specs.Examples.{oldCore}
-use Rattle.worked_file.specs.Blocks.{workedGiven, workedFile}
+use Rattle.demands.specs.History.{Call, State}
+use Rattle.demands.specs.Examples.{oldCore, oneRoom, madeWith}
+use Rattle.worked_file.specs.Blocks.{workedIos, workedTables, workedGiven, workedFile}
 use Rattle.worked_file.specs.Image.{workedImage}
-use Rattle.worked_file.specs.Lives.{answersTo, coreAfter}
+use Rattle.worked_file.specs.Lives.{life, answersTo, coreAfter, statesFrom}
+use Rattle.worked_file.specs.Refused.{answerIn, coreIn, refusal, faultyFiles}
+use Rattle.worked_file.specs.Split.{splitTables, splitGiven, splitLabel, firstEntries, otherEntries, splitFile, splitImage}
+
+-- ---- the worked file
 
 -- the image that demand 2 speaks of is the one that was worked out by hand
 abbrev pub WorkedImage : Type 0
@@ -26,8 +33,39 @@ abbrev pub WorkedTaken : Type 0
 WorkedTaken = Takes workedGiven Label (replicate 0o2200 0) workedFile Complete (replicate 0o2000 0 ++ workedImage)
 
 -- a load on a desk is answered so, and every other word of the core is as it was
+abbrev pub workedLife : List Call
+workedLife = life (workedGiven .area) workedIos workedTables workedFile
+
 abbrev pub WorkedAnswers : Type 0
-WorkedAnswers = answersTo workedFile ≡ Opened 0 ∷ More ∷ More ∷ More ∷ More ∷ Done (record { 0 = 0o2001 }) ∷ []
+WorkedAnswers = answersTo workedLife ≡ Opened 0 ∷ More ∷ More ∷ More ∷ More ∷ Done (record { 0 = 0o2001 }) ∷ []
 
 abbrev pub WorkedCore : Type 0
-WorkedCore = coreAfter workedFile ≡ splice oldCore 0o2000 workedImage
+WorkedCore = coreAfter workedLife ≡ splice oldCore 0o2000 workedImage
+
+-- ---- the faulty files
+
+abbrev pub workedStates : List State
+workedStates = statesFrom workedLife (madeWith oneRoom)
+
+-- each is refused in the block that has the fault, with its number
+abbrev pub FaultyAnswers : Type 0
+FaultyAnswers = map (answerIn workedStates) faultyFiles ≡ map refusal faultyFiles
+
+-- and then the whole area is zero, and every other word of the core as it was
+abbrev pub FaultyCores : Type 0
+FaultyCores = map (coreIn workedStates) faultyFiles ≡ replicate (length faultyFiles) (cleared oldCore 0o2000 0o200)
+
+-- ---- the file whose last entry is split across two blocks
+
+-- it is taken to its end, and its area holds its image
+abbrev pub SplitImage : Type 0
+SplitImage = imageOf (splitGiven .area) (splitGiven .tables) [] splitFile ≡ splitImage
+
+abbrev pub SplitTaken : Type 0
+SplitTaken = Takes splitGiven Label (replicate 0o2127 0) splitFile Complete (replicate 0o2000 0 ++ splitImage)
+
+-- with another length in the second block, that block is refused with 16
+abbrev pub SplitAnswers : Type 0
+SplitAnswers =
+    answersTo (life (splitGiven .area) [] splitTables (splitLabel ∷ firstEntries ∷ otherEntries ∷ []))
+    ≡ Opened 0 ∷ More ∷ More ∷ Refused (fault 16) ∷ []

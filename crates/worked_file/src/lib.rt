@@ -1,3 +1,3 @@
-// A worked file that pins the definitions, and what belongs to it: its words in specs/Blocks.antt, its image in specs/Image.antt,
-// files that are refused in specs/Refused.antt, and what holds of them all in specs/Worked.antt. No code: the tests load the same
-// words.
+// A worked file that pins the definitions, word by word (specs/Blocks.antt), with its image worked out by hand (specs/Image.antt);
+// a file for each refusal from 13 on (specs/Refused.antt); a file whose last entry is split across two blocks (specs/Split.antt).
+// What holds of them is stated in specs/Worked.antt and proved in proofs/. No code: the tests and the example load the same words.

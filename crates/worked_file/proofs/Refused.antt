@@ -1,0 +1,12 @@
+-- The faulty files, by computing.
+use mathlib.Core.Path.{refl}
+use Rattle.worked_file.specs.Worked.{FaultyAnswers, FaultyCores}
+use Rattle.worked_file.proofs.Opens.{opens}
+
+pub faulty-answers : FaultyAnswers
+unfolding opens
+faulty-answers = refl
+
+pub faulty-cores : FaultyCores
+unfolding opens
+faulty-cores = refl

@@ -1,0 +1,85 @@
+-- A file with an entry that is split across two modification blocks: 85 core tables have three entry words each, 255 in all, and a
+-- block holds 254. So the minimum length of the last table, number 84, is word 1 of the second block. The label's bit 35 is set,
+-- so that every length must be just the minimum.
+use Prim.Native.Nat.{ℕ, _+_, _/_, _%_}
+use mathlib.Core.Bool.{cond}
+use mathlib.Core.List.{List, [], _∷_, _++_, flatMap}
+use lib.ListN.{replicate}
+use lib.Dec.{eqb}
+use Rattle.word.specs.Lists.{tab}
+use Rattle.lists.specs.Obey.{tablesOf}
+use Rattle.lists.specs.Load.{Load}
+use Rattle.hand_deck.specs.Blocks.{withWords, blank}
+use Rattle.worked_file.specs.Blocks.{named}
+
+abbrev pub splitCount : ℕ
+splitCount = 85
+
+-- table 84 has two words, each other table has one
+abbrev pub splitLength : ℕ → ℕ
+splitLength t = cond (eqb t 84) 2 1
+
+-- the tables, address and length of each, fill the area after its first word, which is the IBANK
+abbrev pub splitTables : List ℕ
+splitTables = flatMap (λ t. (0o2001 + t) ∷ splitLength t ∷ []) (tab (λ t. t) splitCount)
+
+abbrev pub splitGiven : Load
+splitGiven = record { area = record { at = record { 0 = 0o2000 }; size = 87 }; tables = tablesOf splitTables; ios = [] }
+
+-- the name SPLIT; bit 35 of word 3 and one table word; type 12 with 85 (octal 125) entries; one table section
+unfoldable pub splitLabel : List ℕ
+splitLabel = withWords (
+    named 0 0o302521163105
+    ∷ named 1 0o050505050505
+    ∷ named 2 0o100000000000
+    ∷ named 3 0o400001000125
+    ∷ named 4 0o600000000125
+    ∷ named 253 0o000001000001
+    ∷ named 254 0o000000575143
+    ∷ named 255 0o302521163105
+    ∷ []) blank
+
+-- entry word k, counted from 0: of each entry the tags TAG and LTAG, and the minimum length
+abbrev pub splitEntry : ℕ → ℕ
+splitEntry k = cond (eqb (k % 3) 0) 0o310614050505 (cond (eqb (k % 3) 1) 0o213106140505 (splitLength (k / 3)))
+
+-- *MODRC, 254 entry words, the checksum
+unfoldable pub firstEntries : List ℕ
+firstEntries = 0o502224112710 ∷ tab splitEntry 254 ++ (0o000000775522 ∷ [])
+
+-- *MODRC, the last entry word, the checksum
+unfoldable pub lastEntries : List ℕ
+lastEntries = withWords (named 0 0o502224112710 ∷ named 1 0o000000000002 ∷ named 255 0o000000615136 ∷ []) blank
+
+-- the same with a minimum length that is not the last table's
+unfoldable pub otherEntries : List ℕ
+otherEntries = withWords (named 1 0o000000000001 ∷ named 255 0o000000615135 ∷ []) lastEntries
+
+unfoldable pub splitProgram : List ℕ
+splitProgram = withWords (
+    -- *PRORC; IBANK: 1 word at 0; no DBANK
+    named 0 0o502527242710
+    ∷ named 1 0o000001000000
+    -- a group: 10 00000010 00000001 1 0, address 0
+    ∷ named 5 0o401001400000
+    -- left 0 0 0 1010100 000001: address of table 84 plus 1. Right 0 0 1 1010100 000000: its length plus 0
+    ∷ named 6 0o012401032400
+    -- indicators: 1010 1010
+    ∷ named 7 0o524000000000
+    -- a table section: 2 words, table 84 (octal 124); its group has one word, which goes to word 1 of the table
+    ∷ named 8 0o200002000124
+    ∷ named 9 0o401001600001
+    ∷ named 10 0o123456701234
+    ∷ named 255 0o000001165506
+    ∷ []) blank
+
+-- *TRMRC; the start is word 0
+unfoldable pub splitTermination : List ℕ
+splitTermination = withWords (named 0 0o503127222710 ∷ named 255 0o000000726037 ∷ []) blank
+
+abbrev pub splitFile : List (List ℕ)
+splitFile = splitLabel ∷ firstEntries ∷ lastEntries ∷ splitProgram ∷ splitTermination ∷ []
+
+-- table 84 is at 2001 + 124 = 2125, in octal. The first word has 2125 + 1 and 2; the last is the table's word 1
+unfoldable pub splitImage : List ℕ
+splitImage = 0o002126000002 ∷ replicate 85 0 ++ (0o123456701234 ∷ [])
