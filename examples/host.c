@@ -1,6 +1,7 @@
 /* host.c: a small host with tapes. Two rooms hold two loads each, of one program at four addresses, and the host feeds the four in
    turn, block by block. One tape is misread once and read again. One load is assigned a channel that does not exist, and is
-   refused. One tape is cut off. The host says how each load ended, and why, and prints the areas of those that are complete.
+   refused. One tape is cut off. The host says how each load ended, and why, and prints the areas of those that are complete. Then
+   room 0 loads another program, the worked file of worked_file.h, which has something of all that the loader carries.
 
    Build it with the header and the library that `make lib` puts into build/:
 
@@ -16,18 +17,16 @@
 #include <string.h>
 
 #include "clamp.h"
+#include "worked_file.h"
 
 enum { CORE_WORDS = 4096, BLOCK_WORDS = 256, BLOCKS = 4, LOADS = 4, AGAIN_MOST = 3 };
-enum { AREA_WORDS = 12, TABLE_AT = 8, TABLE_WORDS = 4 };
+enum { AREA_WORDS = 12, TABLE_WORDS = 4 };
+
+#define COUNT(array) (sizeof(array) / sizeof(array)[0])
 
 /* The program file, in octal; words that are not named are zero, and seal sets the checksums. It has one channel reference
    and one core table of at least two words. */
-struct word {
-  unsigned block, at;
-  uint64_t value;
-};
-
-static const struct word program[] = {
+static const struct file_word program[] = {
     /* the label: the name SQUARES, DIRECT ROC simple, two modification tables, one segment, one table section */
     {0, 0, 0302632062712},
     {0, 1, 0300505050505},
@@ -70,30 +69,53 @@ static const struct word program[] = {
     {3, 1, 0000000000001},
 };
 
-/* A tape: how many blocks it has, the next to be read, and which is misread the first time (none: BLOCKS). */
+/* A tape: how many blocks it has, where they stand, the next to be read, and which is misread the first time; where none is, one
+   past the last. */
 struct tape {
-  unsigned blocks, next, misread;
+  unsigned count;
+  uint64_t (*blocks)[BLOCK_WORDS];
+  unsigned next, misread;
 };
 
-/* A load: the room, its area, the channel that it is assigned, and its tape; then the place that open gives, the last answer, which
-   keeps the reason of a refusal, how often its block was read again, whether the place is held, and whether no block will follow. */
+/* A load: the room, its area, the two lists, and its tape; then the place that open gives, the last answer, which keeps the reason
+   of a refusal, how often its block was read again, whether the place is held, and whether no block will follow. */
 struct load {
-  uint64_t room, area, channel;
+  uint64_t room, area, size;
+  const uint64_t *io;
+  uint64_t io_length;
+  const uint64_t *tables;
+  uint64_t tables_length;
   struct tape tape;
   uint64_t place, answer;
   unsigned again;
   int held, ended;
 };
 
-static struct load loads[LOADS] = {
-    {0, 0001000, 3, {BLOCKS, 0, 2}, 0, 0, 0, 0, 0},
-    {1, 0005000, 14, {BLOCKS, 0, BLOCKS}, 0, 0, 0, 0, 0},
-    {0, 0002000, 16, {BLOCKS, 0, BLOCKS}, 0, 0, 0, 0, 0},
-    {1, 0006000, 5, {2, 0, BLOCKS}, 0, 0, 0, 0, 0},
-};
-static uint64_t blocks[BLOCKS][BLOCK_WORDS];
+static uint64_t squares[BLOCKS][BLOCK_WORDS], worked[WORKED_BLOCKS][BLOCK_WORDS];
 static uint64_t core[CORE_WORDS];
 static uint64_t *desk;
+
+/* Each has one channel, and its table in the last words of its area. */
+#define LISTS(channel, table)                                                                                                      \
+  .io = (const uint64_t[]){channel}, .io_length = 1, .tables = (const uint64_t[]){table, TABLE_WORDS}, .tables_length = 2
+
+static struct load loads[LOADS] = {
+    {.room = 0, .area = 01000, .size = AREA_WORDS, LISTS(3, 01010), .tape = {BLOCKS, squares, 0, 2}},
+    {.room = 1, .area = 05000, .size = AREA_WORDS, LISTS(14, 05010), .tape = {BLOCKS, squares, 0, BLOCKS}},
+    {.room = 0, .area = 02000, .size = AREA_WORDS, LISTS(16, 02010), .tape = {BLOCKS, squares, 0, BLOCKS}},
+    {.room = 1, .area = 06000, .size = AREA_WORDS, LISTS(5, 06010), .tape = {2, squares, 0, BLOCKS}},
+};
+
+static struct load another = {
+    .room = 0,
+    .area = WORKED_AREA,
+    .size = WORKED_SIZE,
+    .io = worked_io,
+    .io_length = COUNT(worked_io),
+    .tables = worked_tables,
+    .tables_length = COUNT(worked_tables),
+    .tape = {WORKED_BLOCKS, worked, 0, WORKED_BLOCKS},
+};
 
 /* The checksum: the sum of the other words, its upper half added to its lower. It is word 254 of a label and word 255 elsewhere. */
 static void seal(uint64_t *block, unsigned at) {
@@ -104,21 +126,26 @@ static void seal(uint64_t *block, unsigned at) {
   block[at] = (sum >> 18 & 0777777) + (sum & 0777777);
 }
 
-static void write_blocks(void) {
-  for (unsigned i = 0; i < sizeof program / sizeof program[0]; i++)
-    blocks[program[i].block][program[i].at] = program[i].value;
+static void write_words(uint64_t (*blocks)[BLOCK_WORDS], const struct file_word *words, size_t count) {
+  for (size_t i = 0; i < count; i++)
+    blocks[words[i].block][words[i].at] = words[i].value;
+}
+
+static void write_files(void) {
+  write_words(squares, program, COUNT(program));
   for (unsigned i = 0; i < BLOCKS; i++)
-    seal(blocks[i], i == 0 ? 254 : 255);
+    seal(squares[i], i == 0 ? 254 : 255);
+  write_words(worked, worked_file, COUNT(worked_file)); /* which has its checksums */
 }
 
 /* The next block of the tape; 0 at the tape's end. */
 static int read_block(struct tape *tape, uint64_t *block) {
-  if (tape->next == tape->blocks)
+  if (tape->next == tape->count)
     return 0;
-  memcpy(block, blocks[tape->next], sizeof blocks[0]);
+  memcpy(block, tape->blocks[tape->next], sizeof tape->blocks[0]);
   if (tape->next == tape->misread) {
     block[100] ^= 1;
-    tape->misread = BLOCKS;
+    tape->misread = tape->count;
   }
   tape->next++;
   return 1;
@@ -138,16 +165,17 @@ static void print_answer(uint64_t answer) {
   printf("\n");
 }
 
-static void print_area(uint64_t area) {
-  for (uint64_t at = area; at < area + AREA_WORDS; at++)
-    printf("%06" PRIo64 ": %012" PRIo64 "\n", at, core[at]);
+/* The words of an area that are not zero. */
+static void print_area(uint64_t area, uint64_t size) {
+  for (uint64_t at = area; at < area + size; at++)
+    if (core[at] != 0)
+      printf("%06" PRIo64 ": %012" PRIo64 "\n", at, core[at]);
 }
 
 /* Opens a load; one that is refused has ended. */
 static void open_load(struct load *load) {
-  const uint64_t io[1] = {load->channel}, tables[2] = {load->area + TABLE_AT, TABLE_WORDS};
-  load->answer =
-      clamp_open(desk, CLAMP_DESK_WORDS, core, CORE_WORDS, load->room, load->area, AREA_WORDS, io, 1, tables, 2);
+  load->answer = clamp_open(desk, CLAMP_DESK_WORDS, core, CORE_WORDS, load->room, load->area, load->size, load->io, load->io_length,
+                            load->tables, load->tables_length);
   load->place = CLAMP_VALUE(load->answer);
   load->held = CLAMP_CODE(load->answer) == CLAMP_OPENED;
   load->ended = !load->held;
@@ -183,15 +211,31 @@ static void close_load(const struct load *load) {
   else
     printf("the tape ended before the load was complete\n");
   if (CLAMP_CODE(load->answer) == CLAMP_DONE)
-    print_area(load->area);
+    print_area(load->area, load->size);
   if (load->held)
     print_answer(clamp_release(desk, CLAMP_DESK_WORDS, CORE_WORDS, load->room, load->place));
+}
+
+/* Opens these loads, feeds them in turn until no block will follow, and closes them. */
+static void run_loads(struct load *run, unsigned count) {
+  unsigned waiting = count;
+  for (unsigned i = 0; i < count; i++)
+    open_load(&run[i]);
+  while (waiting > 0) {
+    waiting = 0;
+    for (unsigned i = 0; i < count; i++)
+      if (!run[i].ended) {
+        feed_load(&run[i]);
+        waiting++;
+      }
+  }
+  for (unsigned i = 0; i < count; i++)
+    close_load(&run[i]);
 }
 
 int main(void) {
   static const uint64_t map[16] = {0, 2048, 2048, 2048}; /* rooms 0 and 1 have half of the core each, the others no words */
   uint64_t answer;
-  unsigned waiting = LOADS;
   if (clamp_desk_words() != CLAMP_DESK_WORDS) {
     fprintf(stderr, "host: clamp.h is not this library's\n");
     return 1;
@@ -201,25 +245,15 @@ int main(void) {
     fprintf(stderr, "host: no memory for a desk\n");
     return 1;
   }
-  write_blocks();
+  write_files();
   answer = clamp_make(desk, CLAMP_DESK_WORDS, CORE_WORDS, map, 16);
   print_answer(answer);
   if (CLAMP_IS_REFUSAL(answer)) {
     free(desk);
     return 1;
   }
-  for (unsigned i = 0; i < LOADS; i++)
-    open_load(&loads[i]);
-  while (waiting > 0) {
-    waiting = 0;
-    for (unsigned i = 0; i < LOADS; i++)
-      if (!loads[i].ended) {
-        feed_load(&loads[i]);
-        waiting++;
-      }
-  }
-  for (unsigned i = 0; i < LOADS; i++)
-    close_load(&loads[i]);
+  run_loads(loads, LOADS);
+  run_loads(&another, 1);
   free(desk);
   return 0;
 }
