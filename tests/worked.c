@@ -1,6 +1,5 @@
-/* worked.c: the worked file and the faulty files of crates/worked_file, through the library and the second loader. Answers and
-   cores must be those that the theorems of that crate say. tests/worked writes worked_words.h, the words of the definitions, and
-   runs it. */
+/* worked.c: the files of crates/worked_file through the library and the second loader. Answers and cores must be those that the
+   theorems of that crate say. tests/worked writes worked_words.h, the words of the definitions, and runs this. */
 
 #include <stdio.h>
 #include <string.h>
@@ -19,12 +18,26 @@ struct faulty {
 
 #define COUNT(array) (sizeof(array) / sizeof(array)[0])
 
-enum { CORE_WORDS = 4096, OLD_WORD = 5, FAULTS = 12 };
+enum { CORE_WORDS = 4096, OLD_WORD = 5, FAULTS = 12, BLOCKS = 5, IDENTIFIER_WORD = 0, CHECKSUM_WORD = 255 };
+
+/* The file with 85 core tables; what the blocks are that the definitions name one after another. */
+enum { SPLIT_AREA = 02000, SPLIT_TABLES = 85, SPLIT_SIZE = SPLIT_TABLES + 2 };
+enum { SPLIT_LABEL, SPLIT_LAST_ENTRIES, SPLIT_OTHER_ENTRIES, SPLIT_PROGRAM, SPLIT_TERMINATION };
+
+typedef uint64_t block_words[WORDS_IN_BLOCK];
+
+/* What a load is opened with. */
+struct given {
+  struct run area;
+  const uint64_t *io, *tables;
+  uint64_t io_length, tables_length;
+};
+
+static const struct given worked = {{WORKED_AREA, WORKED_SIZE}, spec_io, spec_tables, COUNT(spec_io), COUNT(spec_tables)};
 
 static unsigned long passed, failed;
 static uint64_t desk[CLAMP_DESK_WORDS], core[CORE_WORDS], mirror[CORE_WORDS];
 static struct reader reader;
-static uint64_t blocks[WORKED_BLOCKS][WORDS_IN_BLOCK], image[WORKED_SIZE];
 
 static void check(bool ok, const char *what, unsigned which) {
   if (ok) {
@@ -34,6 +47,70 @@ static void check(bool ok, const char *what, unsigned which) {
   failed++;
   printf("not so: %s %u\n", what, which);
 }
+
+static void write_words(block_words *blocks, const struct file_word *words, size_t count) {
+  for (size_t i = 0; i < count; i++)
+    blocks[words[i].block][words[i].at] = words[i].value;
+}
+
+/* ---- both loaders */
+
+/* A fresh desk and core for each, all of it room 0's, and the load opened at place 0. */
+static void open_both(const struct given *given) {
+  static const uint64_t map[MAP_LENGTH] = {0, CORE_WORDS};
+  for (unsigned i = 0; i < CORE_WORDS; i++)
+    core[i] = mirror[i] = OLD_WORD;
+  check(clamp_make(desk, CLAMP_DESK_WORDS, CORE_WORDS, map, MAP_LENGTH) == told(MADE, 0), "made", 0);
+  check(reader_make(&reader, CORE_WORDS, map, MAP_LENGTH) == told(MADE, 0), "made by the second loader", 0);
+  check(clamp_open(desk, CLAMP_DESK_WORDS, core, CORE_WORDS, 0, given->area.start, given->area.length, given->io, given->io_length,
+                   given->tables, given->tables_length) == told(OPENED, 0),
+        "opened", 0);
+  check(reader_open(&reader, mirror, CORE_WORDS, 0, given->area.start, given->area.length, given->io, given->io_length,
+                    given->tables, given->tables_length) == told(OPENED, 0),
+        "opened by the second loader", 0);
+}
+
+static void feed_both(const uint64_t *block, uint64_t answer, unsigned which) {
+  check(clamp_feed(desk, CLAMP_DESK_WORDS, core, CORE_WORDS, 0, 0, block, WORDS_IN_BLOCK) == answer, "the answer to block", which);
+  check(reader_feed(&reader, mirror, CORE_WORDS, 0, 0, block, WORDS_IN_BLOCK) == answer, "the second loader's to block", which);
+}
+
+/* The area of this core holds these words, and every other word is as it was. */
+static void check_core(const uint64_t *words, struct run area, const uint64_t *image, const char *what) {
+  unsigned i = 0;
+  while (i < CORE_WORDS && words[i] == (i - area.start < area.length ? image[i - area.start] : OLD_WORD))
+    i++;
+  check(i == CORE_WORDS, what, i);
+}
+
+static void check_cores(struct run area, const uint64_t *image) {
+  check_core(core, area, image, "core word");
+  check_core(mirror, area, image, "the second loader's core word");
+}
+
+/* Five blocks to the end; the start is this word of the area. */
+static void check_file(const struct given *given, const block_words *blocks, uint64_t start, const uint64_t *image) {
+  open_both(given);
+  for (unsigned i = 0; i + 1 < BLOCKS; i++)
+    feed_both(blocks[i], told(MORE, 0), i);
+  feed_both(blocks[BLOCKS - 1], told(DONE, given->area.start + start), BLOCKS - 1);
+  check_cores(given->area, image);
+}
+
+/* Every block before this one is accepted, it is refused, and so is what comes after it. */
+static void check_refused(const struct given *given, const block_words *blocks, unsigned which, const uint64_t *block,
+                          unsigned number) {
+  static const uint64_t zeros[WORKED_SIZE];
+  open_both(given);
+  for (unsigned i = 0; i < which; i++)
+    feed_both(blocks[i], told(MORE, 0), i);
+  feed_both(block, told(number, 0), which);
+  check_cores(given->area, zeros);
+  for (unsigned i = which + 1; i < BLOCKS; i++)
+    feed_both(blocks[i], REFUSED(ENDED), i);
+}
+
+/* ---- the worked file and the faulty ones */
 
 /* The two lists and the file of examples/worked_file.h are those of the definitions. */
 static void check_example(void) {
@@ -47,72 +124,60 @@ static void check_example(void) {
           "the files agree in named word", i);
 }
 
-/* A fresh desk and core for each loader, all of it room 0's, and the load opened at place 0. */
-static void open_both(void) {
-  static const uint64_t map[MAP_LENGTH] = {0, CORE_WORDS};
-  for (unsigned i = 0; i < CORE_WORDS; i++)
-    core[i] = mirror[i] = OLD_WORD;
-  check(clamp_make(desk, CLAMP_DESK_WORDS, CORE_WORDS, map, MAP_LENGTH) == told(MADE, 0), "made", 0);
-  check(reader_make(&reader, CORE_WORDS, map, MAP_LENGTH) == told(MADE, 0), "made by the second loader", 0);
-  check(clamp_open(desk, CLAMP_DESK_WORDS, core, CORE_WORDS, 0, WORKED_AREA, WORKED_SIZE, spec_io, COUNT(spec_io), spec_tables,
-                   COUNT(spec_tables)) == told(OPENED, 0),
-        "opened", 0);
-  check(reader_open(&reader, mirror, CORE_WORDS, 0, WORKED_AREA, WORKED_SIZE, spec_io, COUNT(spec_io), spec_tables,
-                    COUNT(spec_tables)) == told(OPENED, 0),
-        "opened by the second loader", 0);
+static void check_worked_files(void) {
+  static block_words blocks[BLOCKS];
+  static uint64_t image[WORKED_SIZE];
+  write_words(blocks, spec_file, COUNT(spec_file));
+  for (unsigned i = 0; i < COUNT(spec_image); i++)
+    image[spec_image[i].at] = spec_image[i].value;
+  check_file(&worked, blocks, 1, image);
+  check(COUNT(spec_faults) == FAULTS, "there are as many faulty files", FAULTS);
+  for (unsigned i = 0; i < COUNT(spec_faults); i++) {
+    const struct faulty *faulty = &spec_faults[i];
+    block_words block;
+    memcpy(block, blocks[faulty->block], sizeof block);
+    for (unsigned k = 0; k < COUNT(faulty->words) && faulty->words[k].value != 0; k++)
+      block[faulty->words[k].at] = faulty->words[k].value;
+    check_refused(&worked, blocks, faulty->block, block, faulty->number);
+  }
 }
 
-static void feed_both(const uint64_t *block, uint64_t answer, unsigned which) {
-  check(clamp_feed(desk, CLAMP_DESK_WORDS, core, CORE_WORDS, 0, 0, block, WORDS_IN_BLOCK) == answer, "the answer to block", which);
-  check(reader_feed(&reader, mirror, CORE_WORDS, 0, 0, block, WORDS_IN_BLOCK) == answer, "the second loader's to block", which);
+/* ---- the file whose last entry is split across two modification blocks */
+
+static uint64_t split_length(unsigned table) {
+  return table == SPLIT_TABLES - 1 ? 2 : 1;
 }
 
-/* The area of this core holds these words, and every other word is as it was. */
-static void check_core(const uint64_t *words, const uint64_t *area, const char *what) {
-  unsigned i = 0;
-  while (i < CORE_WORDS && words[i] == (i >= WORKED_AREA && i < WORKED_AREA + WORKED_SIZE ? area[i - WORKED_AREA] : OLD_WORD))
-    i++;
-  check(i == CORE_WORDS, what, i);
-}
-
-static void check_cores(const uint64_t *area) {
-  check_core(core, area, "core word");
-  check_core(mirror, area, "the second loader's core word");
-}
-
-static void check_worked_file(void) {
-  open_both();
-  for (unsigned i = 0; i < WORKED_BLOCKS; i++)
-    feed_both(blocks[i], i + 1 < WORKED_BLOCKS ? told(MORE, 0) : told(DONE, WORKED_AREA + 1), i);
-  check_cores(image);
-}
-
-/* Every block before the faulty one is accepted, and none after it. */
-static void check_faulty_file(const struct faulty *faulty) {
-  static const uint64_t zeros[WORKED_SIZE];
-  uint64_t block[WORDS_IN_BLOCK];
-  memcpy(block, blocks[faulty->block], sizeof block);
-  for (unsigned i = 0; i < COUNT(faulty->words) && faulty->words[i].value != 0; i++)
-    block[faulty->words[i].at] = faulty->words[i].value;
-  open_both();
-  for (unsigned i = 0; i < faulty->block; i++)
-    feed_both(blocks[i], told(MORE, 0), i);
-  feed_both(block, told(faulty->number, 0), faulty->block);
-  check_cores(zeros);
-  for (unsigned i = faulty->block + 1; i < WORKED_BLOCKS; i++)
-    feed_both(blocks[i], REFUSED(ENDED), i);
+/* The first modification block is made here, without its tags, which are disregarded. */
+static void check_split_file(void) {
+  static block_words named[BLOCKS], blocks[BLOCKS], other;
+  static const uint64_t image[SPLIT_SIZE] = {[0] = 0002126000002, [SPLIT_SIZE - 1] = 0123456701234};
+  uint64_t tables[2 * SPLIT_TABLES];
+  struct given split = {{SPLIT_AREA, SPLIT_SIZE}, NULL, tables, 0, COUNT(tables)};
+  write_words(named, split_words, COUNT(split_words));
+  memcpy(blocks[0], named[SPLIT_LABEL], sizeof other);
+  memcpy(blocks[2], named[SPLIT_LAST_ENTRIES], sizeof other);
+  memcpy(blocks[3], named[SPLIT_PROGRAM], sizeof other);
+  memcpy(blocks[4], named[SPLIT_TERMINATION], sizeof other);
+  blocks[1][IDENTIFIER_WORD] = blocks[2][IDENTIFIER_WORD];
+  for (unsigned t = 0; t < SPLIT_TABLES; t++) {
+    tables[2 * t] = SPLIT_AREA + 1 + t;
+    tables[2 * t + 1] = split_length(t);
+    if (t + 1 < SPLIT_TABLES)
+      blocks[1][3 * t + 3] = split_length(t);
+  }
+  blocks[1][CHECKSUM_WORD] = reader_checksum(blocks[1], CHECKSUM_WORD);
+  check_file(&split, blocks, 0, image);
+  memcpy(other, blocks[2], sizeof other);
+  other[1] = named[SPLIT_OTHER_ENTRIES][1];
+  other[CHECKSUM_WORD] = named[SPLIT_OTHER_ENTRIES][CHECKSUM_WORD];
+  check_refused(&split, blocks, 2, other, REFUSED_ASSIGNMENTS);
 }
 
 int main(void) {
   check_example();
-  check(COUNT(spec_faults) == FAULTS, "there are as many faulty files", FAULTS);
-  for (unsigned i = 0; i < COUNT(spec_file); i++)
-    blocks[spec_file[i].block][spec_file[i].at] = spec_file[i].value;
-  for (unsigned i = 0; i < COUNT(spec_image); i++)
-    image[spec_image[i].at] = spec_image[i].value;
-  check_worked_file();
-  for (unsigned i = 0; i < COUNT(spec_faults); i++)
-    check_faulty_file(&spec_faults[i]);
+  check_worked_files();
+  check_split_file();
   printf("%lu passed, %lu failed\n", passed, failed);
   return failed != 0;
 }
