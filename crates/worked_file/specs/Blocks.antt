@@ -105,26 +105,27 @@ workedProgram = withWords (
     ∷ named 6 0o600004777777
     -- A1 left 123456: no change. Right 775777: type 000, 64,511; bits 17-16 stay set
     ∷ named 7 0o123456775777
-    -- A2 left 777417: type 100, bits 25-22 = 0000, the jump switch; all other bits are set. Right 000002: type 111, reference 2,
-    -- TAPEA
+    -- A2 left 777417: type 100, bits 25-22 = 0000, the jump switch; all other bits are set. Right 000002: type 111, TAPEA
     ∷ named 8 0o777417000002
-    -- A3 left 000003: type 111, reference 3, TAPEB. Right 654321: no change
+    -- A3 left 000003: type 111, TAPEB. Right 654321: no change
     ∷ named 9 0o000003654321
     -- A4 left 000020: type 100, bits 25-22 = 0001, the channel. Right 000000: type 000, 0
     ∷ named 10 0o000020000000
-    -- the indicators of A, 31 bits and 5 spare ones, the last of which is set: 1000 0 | 0 1000 | 1100 1111 | 1111 0 | 1100 1000
-    -- | 00001
+    -- the indicators of A, a left and a right one for each word, 31 bits, and 5 spare ones, the last of which is set:
+    -- A0 1000, 0; A1 0, 1000; A2 1100, 1111; A3 1111, 0; A4 1100, 1000; 00001
     ∷ named 11 0o404317754401
     -- group B: 10 00001000 00000110 0 0, address 5: 8 words, 6 of them program words; IBANK
     ∷ named 12 0o404006000005
-    -- B0 type 001, 0 M aaaaaaa lllllll, plus and minus. Left 0 0 0000000 0000010: address of table 0 plus length of table 2, bit
-    -- 35 set. Right 0 1 0000010 0000000: address of table 2 minus length of table 0, bit 16 set
+    -- B0 type 001, 0 M aaaaaaa lllllll, plus and minus; bits 35 and 16 are set.
+    -- Left 0 0 0000000 0000010: address of table 0 plus length of table 2. Right 0 1 0000010 0000000: address of table 2 minus
+    -- length of table 0
     ∷ named 13 0o400002240400
-    -- B1 the other way round. Left 0 1 0000001 0000010: address of table 1 minus length of table 2. Right 0 0 0000010 0000001:
-    -- address of table 2 plus length of table 1, which is empty
+    -- B1 the other way round.
+    -- Left 0 1 0000001 0000010: address of table 1 minus length of table 2. Right 0 0 0000010 0000001: address of table 2 plus
+    -- length of table 1, which is empty
     ∷ named 14 0o040202000401
-    -- B2 type 010 short, 0 M L nnnnnnn cccccc, of an address. Left 0 0 0 0000000 111111: table 0 plus 63. Right 0 1 0 0000010
-    -- 000001: table 2 minus 1
+    -- B2 type 010 short, 0 M L nnnnnnn cccccc, of an address.
+    -- Left 0 0 0 0000000 111111: table 0 plus 63. Right 0 1 0 0000010 000001: table 2 minus 1
     ∷ named 15 0o000077040201
     -- B3 the other way round. Left 0 1 0 0000010 111111: table 2 minus 63. Right 0 0 0 0000001 000000: table 1 plus 0
     ∷ named 16 0o040277000100
@@ -132,14 +133,15 @@ workedProgram = withWords (
     ∷ named 17 0o020205060010
     -- B5 the other way round. Left 0 1 1 0000010 111111: table 2 minus 63. Right 0 0 1 0000001 001001: table 1 plus 9
     ∷ named 18 0o060277020111
-    -- the indicators of B, 48 bits, from the last word on: 1001 1001 | 1001 1001 | 1010 1010 | 1010 1010 | 1010, and in the word
-    -- before it 1010 | 1010 1010 and 24 spare bits
+    -- the indicators of B, 48 bits; the last word is read first:
+    -- word 20: B0 1001, 1001; B1 1001, 1001; B2 1010, 1010; B3 1010, 1010; B4 1010,
+    -- word 19: 1010; B5 1010, 1010; 24 spare bits
     ∷ named 19 0o525200000000
     ∷ named 20 0o463146525252
     -- group C: 10 00001000 00000101 0 0, address 11 (octal 13): 8 words, 5 of them program words; IBANK
     ∷ named 21 0o404005000013
-    -- C0 type 010 long, 1 M cccccccccccccc, and nine indicator bits, L 0 nnnnnnn; of an address. Left: table 0 plus 64. Right:
-    -- table 2 minus 1072 (octal 2060)
+    -- C0 type 010 long, 1 M cccccccccccccc, of an address; L 0 nnnnnnn stand in the indicators.
+    -- Left: table 0 plus 64. Right: table 2 minus 1072 (octal 2060)
     ∷ named 22 0o100100142060
     -- C1 the other way round. Left: table 2 minus 100 (octal 144). Right: table 1 plus 16,383, the most that 14 bits can be
     ∷ named 23 0o140144137777
@@ -149,9 +151,10 @@ workedProgram = withWords (
     ∷ named 25 0o140101101750
     -- C4 no change, whatever bit 15 of its fields; a later group goes over this word
     ∷ named 26 0o333333444444
-    -- the indicators of C, 106 bits, from the last word on; an indicator may run over from one word into the one before it: C0
-    -- 1010 0 0 0000000, 1010 0 0 0000010 | C1 1010 0 0 0000010, 1010 0 0 0000001 | C2 1010 1 0 0000010, 1010 1 0 0000010 | C3
-    -- 1010 1 0 0000010, 1010 1 0 0000000 | C4 0 0 | two spare bits, 01
+    -- the indicators of C, 106 bits; two of them run over from a word into the one before it:
+    -- word 29: C0 1010 0 0 0000000, 1010 0 0 0000010; C1 1010 0 0 0000
+    -- word 28: 010, 1010 0 0 0000001; C2 1010 1 0 0000010, 1010 1 0 0
+    -- word 27: 000010; C3 1010 1 0 0000010, 1010 1 0 0000000; C4 0, 0; two spare bits, 01
     ∷ named 27 0o025201250001
     ∷ named 28 0o250006500524
     ∷ named 29 0o500024005200
@@ -173,14 +176,14 @@ workedSections = withWords (
     -- D0 right 000021: type 000. D1: no change
     ∷ named 2 0o000000000021
     ∷ named 3 0o444444555555
-    -- the indicators of D: 0 1000 | 0 0
+    -- the indicators of D: D0 0, 1000; D1 0, 0
     ∷ named 4 0o200000000000
     -- group E: 10 00000011 00000010 1 1, address 21 (octal 25), counted from the Program Name: the section's last group; DBANK
     ∷ named 5 0o401402600025
     -- E0 left 000025: type 000. E1: no change
     ∷ named 6 0o000025001234
     ∷ named 7 0o701234567012
-    -- the indicators of E: 1000 0 | 0 0
+    -- the indicators of E: E0 1000, 0; E1 0, 0
     ∷ named 8 0o400000000000
     -- a table section: 01, 6 words, bits 17-8 zero, table 0
     ∷ named 9 0o200006000000
@@ -190,7 +193,7 @@ workedSections = withWords (
     -- the table's. F1: no change
     ∷ named 11 0o020000000007
     ∷ named 12 0o707070707070
-    -- the indicators of F: 1010 1000 | 0 0
+    -- the indicators of F: F0 1010, 1000; F1 0, 0
     ∷ named 13 0o520000000000
     -- a table section: 01, 80 (octal 120) words, table 2. Table 1 is passed over
     ∷ named 14 0o200120000002
@@ -198,7 +201,7 @@ workedSections = withWords (
     ∷ named 15 0o401001600117
     -- G0 left: no change. Right 000003: type 111, reference 3, TAPEB
     ∷ named 16 0o777777000003
-    -- the indicators of G: 0 1111
+    -- the indicators of G: G0 0, 1111
     ∷ named 17 0o360000000000
     -- after the last section's last group: disregarded
     ∷ named 18 0o777777777777

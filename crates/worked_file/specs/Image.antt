@@ -1,6 +1,7 @@
--- The image of the worked file, worked out by hand from 01: what each of the area's 128 words is after the load. All numbers below
--- are octal. The area's address is 2000; the tables are 10 words at 2040, none at 2200 and 120 at 2060; the units are 42 and
--- 177777. A field has 16 bits, and the upper two bits of a half stay as they were. Words that are not named are zero.
+-- The image of the worked file, worked out by hand from 01: what each of the area's 128 words is after the load. Addresses,
+-- lengths and fields are octal. The area's address is 2000; the tables are 10 words at 2040, none at 2200 and 120 at 2060; the
+-- units are 42 and 177777. A field has 16 bits, and the upper two bits of a half stay as they were. Words that are not named are
+-- zero.
 use Prim.Native.Nat.{ℕ}
 use mathlib.Core.List.{List, [], _∷_}
 use lib.ListN.{replicate}
