@@ -18,10 +18,10 @@ struct faulty {
 
 #define COUNT(array) (sizeof(array) / sizeof(array)[0])
 
-enum { CORE_WORDS = 4096, OLD_WORD = 5, FAULTS = 12, BLOCKS = 5, IDENTIFIER_WORD = 0, CHECKSUM_WORD = 255 };
+enum { CORE_WORDS = 4096, OLD_WORD = 5, FAULTS = 26, BLOCKS = 5, IDENTIFIER_WORD = 0, CHECKSUM_WORD = 255 };
 
 /* The file with 85 core tables; what the blocks are that the definitions name one after another. */
-enum { SPLIT_AREA = 02000, SPLIT_TABLES = 85, SPLIT_SIZE = SPLIT_TABLES + 2 };
+enum { SPLIT_AREA = 02000, SPLIT_TABLES = 85, SPLIT_IBANK = 2, SPLIT_SIZE = SPLIT_IBANK + SPLIT_TABLES + 1 };
 enum { SPLIT_LABEL, SPLIT_LAST_ENTRIES, SPLIT_OTHER_ENTRIES, SPLIT_PROGRAM, SPLIT_TERMINATION };
 
 typedef uint64_t block_words[WORDS_IN_BLOCK];
@@ -151,7 +151,7 @@ static uint64_t split_length(unsigned table) {
 /* The first modification block is made here, without its tags, which are disregarded. */
 static void check_split_file(void) {
   static block_words named[BLOCKS], blocks[BLOCKS], other;
-  static const uint64_t image[SPLIT_SIZE] = {[0] = 0002126000002, [SPLIT_SIZE - 1] = 0123456701234};
+  static const uint64_t image[SPLIT_SIZE] = {0002127000002, 0002124000102, [SPLIT_SIZE - 1] = 0123456701234};
   uint64_t tables[2 * SPLIT_TABLES];
   struct given split = {{SPLIT_AREA, SPLIT_SIZE}, NULL, tables, 0, COUNT(tables)};
   write_words(named, split_words, COUNT(split_words));
@@ -161,7 +161,7 @@ static void check_split_file(void) {
   memcpy(blocks[4], named[SPLIT_TERMINATION], sizeof other);
   blocks[1][IDENTIFIER_WORD] = blocks[2][IDENTIFIER_WORD];
   for (unsigned t = 0; t < SPLIT_TABLES; t++) {
-    tables[2 * t] = SPLIT_AREA + 1 + t;
+    tables[2 * t] = SPLIT_AREA + SPLIT_IBANK + t;
     tables[2 * t + 1] = split_length(t);
     if (t + 1 < SPLIT_TABLES)
       blocks[1][3 * t + 3] = split_length(t);

@@ -114,8 +114,8 @@ workedProgram = withWords (
     -- the indicators of A, a left and a right one for each word, 31 bits, and 5 spare ones, the last of which is set:
     -- A0 1000, 0; A1 0, 1000; A2 1100, 1111; A3 1111, 0; A4 1100, 1000; 00001
     ∷ named 11 0o404317754401
-    -- group B: 10 00001000 00000110 0 0, address 5: 8 words, 6 of them program words; IBANK
-    ∷ named 12 0o404006000005
+    -- group B: 10 00001001 00000110 0 0, address 5: 9 words, 6 of them program words; IBANK
+    ∷ named 12 0o404406000005
     -- B0 type 001, 0 M aaaaaaa lllllll, plus and minus; bits 35 and 16 are set.
     -- Left 0 0 0000000 0000010: address of table 0 plus length of table 2. Right 0 1 0000010 0000000: address of table 2 minus
     -- length of table 0
@@ -124,45 +124,45 @@ workedProgram = withWords (
     -- Left 0 1 0000001 0000010: address of table 1 minus length of table 2. Right 0 0 0000010 0000001: address of table 2 plus
     -- length of table 1, which is empty
     ∷ named 14 0o040202000401
-    -- B2 type 010 short, 0 M L nnnnnnn cccccc, of an address.
-    -- Left 0 0 0 0000000 111111: table 0 plus 63. Right 0 1 0 0000010 000001: table 2 minus 1
-    ∷ named 15 0o000077040201
-    -- B3 the other way round. Left 0 1 0 0000010 111111: table 2 minus 63. Right 0 0 0 0000001 000000: table 1 plus 0
-    ∷ named 16 0o040277000100
-    -- B4 the same of a length. Left 0 0 1 0000010 000101: table 2 plus 5. Right 0 1 1 0000000 001000: table 0 minus 8
-    ∷ named 17 0o020205060010
-    -- B5 the other way round. Left 0 1 1 0000010 111111: table 2 minus 63. Right 0 0 1 0000001 001001: table 1 plus 9
-    ∷ named 18 0o060277020111
-    -- the indicators of B, 48 bits; the last word is read first:
-    -- word 20: B0 1001, 1001; B1 1001, 1001; B2 1010, 1010; B3 1010, 1010; B4 1010,
-    -- word 19: 1010; B5 1010, 1010; 24 spare bits
-    ∷ named 19 0o525200000000
-    ∷ named 20 0o463146525252
-    -- group C: 10 00001000 00000101 0 0, address 11 (octal 13): 8 words, 5 of them program words; IBANK
-    ∷ named 21 0o404005000013
-    -- C0 type 010 long, 1 M cccccccccccccc, of an address; L 0 nnnnnnn stand in the indicators.
-    -- Left: table 0 plus 64. Right: table 2 minus 1072 (octal 2060)
-    ∷ named 22 0o100100142060
-    -- C1 the other way round. Left: table 2 minus 100 (octal 144). Right: table 1 plus 16,383, the most that 14 bits can be
-    ∷ named 23 0o140144137777
-    -- C2 the same of a length. Left: table 2 plus 64. Right: table 2 minus 64
-    ∷ named 24 0o100100140100
-    -- C3 the other way round. Left: table 2 minus 65. Right: table 0 plus 1000 (octal 1750)
-    ∷ named 25 0o140101101750
+    -- B2 left type 010 short, 0 M L nnnnnnn cccccc; right type 010 long, 1 M cccccccccccccc, whose L and number stand in the
+    -- indicator. Left 0 0 0 0000000 111111: address of table 0 plus 63. Right: address of table 2 minus 1072 (octal 2060)
+    ∷ named 15 0o000077142060
+    -- B3 left 0 1 0 0000010 111111: address of table 2 minus 63. Right: address of table 1 plus 16,383, the most that 14 bits
+    -- can be
+    ∷ named 16 0o040277137777
+    -- B4 left 0 0 1 0000010 000101: length of table 2 plus 5. Right: length of table 2 minus 64, the least that is written long
+    ∷ named 17 0o020205140100
+    -- B5 left 0 1 1 0000010 111111: length of table 2 minus 63. Right: length of table 0 plus 1000 (octal 1750)
+    ∷ named 18 0o060277101750
+    -- the indicators of B, 84 bits. The last word is read first; of a long type 010 they are 1010 L 0 nnnnnnn:
+    -- word 21: B0 1001, 1001; B1 1001, 1001; B2 1010, 1010 0 0 0000010; B3 101
+    -- word 20: 0, 1010 0 0 0000001; B4 1010, 1010 1 0 0000010; B5 1010, 1
+    -- word 19: 010 1 0 0000000; 24 spare bits
+    ∷ named 19 0o240000000000
+    ∷ named 20 0o240032520125
+    ∷ named 21 0o463146520025
+    -- group C: 10 00000111 00000101 0 0, address 11 (octal 13): 7 words, 5 of them program words; IBANK
+    ∷ named 22 0o403405000013
+    -- C0 left long, right short. Left: address of table 0 plus 64. Right 0 1 0 0000010 000001: address of table 2 minus 1
+    ∷ named 23 0o100100040201
+    -- C1 left: address of table 2 minus 100 (octal 144). Right 0 0 0 0000001 000000: address of table 1 plus 0
+    ∷ named 24 0o140144000100
+    -- C2 left: length of table 2 plus 64. Right 0 1 1 0000000 001000: length of table 0 minus 8
+    ∷ named 25 0o100100060010
+    -- C3 left: length of table 2 minus 65. Right 0 0 1 0000001 001001: length of table 1 plus 9
+    ∷ named 26 0o140101020111
     -- C4 no change, whatever bit 15 of its fields; a later group goes over this word
-    ∷ named 26 0o333333444444
-    -- the indicators of C, 106 bits; two of them run over from a word into the one before it:
-    -- word 29: C0 1010 0 0 0000000, 1010 0 0 0000010; C1 1010 0 0 0000
-    -- word 28: 010, 1010 0 0 0000001; C2 1010 1 0 0000010, 1010 1 0 0
-    -- word 27: 000010; C3 1010 1 0 0000010, 1010 1 0 0000000; C4 0, 0; two spare bits, 01
-    ∷ named 27 0o025201250001
-    ∷ named 28 0o250006500524
-    ∷ named 29 0o500024005200
+    ∷ named 27 0o333333444444
+    -- the indicators of C, 70 bits, and 2 spare ones, of which one is set:
+    -- word 29: C0 1010 0 0 0000000, 1010; C1 1010 0 0 0000010, 1010; C2 10
+    -- word 28: 10 1 0 0000010, 1010; C3 1010 1 0 0000010, 1010; C4 0, 0; 01
+    ∷ named 28 0o500525201241
+    ∷ named 29 0o500025200252
     -- a zero word where a group is due closes the block, and what stands after it is disregarded
     ∷ named 30 0o000000000000
     ∷ named 31 0o777777777777
     -- the checksum
-    ∷ named 255 0o000001144601
+    ∷ named 255 0o000000461440
     ∷ []) blank
 
 -- ---- the second program block: the rest of the segment section, and the two table sections

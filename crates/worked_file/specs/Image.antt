@@ -24,22 +24,22 @@ workedImage = withWords (
     ∷ named 0o5 0o402160202050
     -- B1 left: 2200 - 120 = 2060. Right: 2060 + 0 = 2060
     ∷ named 0o6 0o002060002060
-    -- B2 left: 2040 + 77 = 2137. Right: 2060 - 1 = 2057
-    ∷ named 0o7 0o002137002057
-    -- B3 left: 2060 - 77 = 1761; no value but one below 0 is too low. Right: 2200 + 0 = 2200
-    ∷ named 0o10 0o001761002200
-    -- B4 left: 120 + 5 = 125. Right: 10 - 10 = 0
-    ∷ named 0o11 0o000125000000
-    -- B5 left: 120 - 77 = 21. Right: 0 + 11 = 11
-    ∷ named 0o12 0o000021000011
-    -- C0 left: 2040 + 100 = 2140. Right: 2060 - 2060 = 0
-    ∷ named 0o13 0o002140000000
-    -- C1 left: 2060 - 144 = 1714. Right: 2200 + 37777 = 42177
-    ∷ named 0o14 0o001714042177
-    -- C2 left: 120 + 100 = 220. Right: 120 - 100 = 20
-    ∷ named 0o15 0o000220000020
-    -- C3 left: 120 - 101 = 17. Right: 10 + 1750 = 1760
-    ∷ named 0o16 0o000017001760
+    -- B2 left: 2040 + 77 = 2137. Right: 2060 - 2060 = 0
+    ∷ named 0o7 0o002137000000
+    -- B3 left: 2060 - 77 = 1761; it may be outside the area. Right: 2200 + 37777 = 42177
+    ∷ named 0o10 0o001761042177
+    -- B4 left: 120 + 5 = 125. Right: 120 - 100 = 20
+    ∷ named 0o11 0o000125000020
+    -- B5 left: 120 - 77 = 21. Right: 10 + 1750 = 1760
+    ∷ named 0o12 0o000021001760
+    -- C0 left: 2040 + 100 = 2140. Right: 2060 - 1 = 2057
+    ∷ named 0o13 0o002140002057
+    -- C1 left: 2060 - 144 = 1714. Right: 2200 + 0 = 2200
+    ∷ named 0o14 0o001714002200
+    -- C2 left: 120 + 100 = 220. Right: 10 - 10 = 0
+    ∷ named 0o15 0o000220000000
+    -- C3 left: 120 - 101 = 17. Right: 0 + 11 = 11
+    ∷ named 0o16 0o000017000011
     -- D0, over C4. Right: 21 + 2000 = 2021
     ∷ named 0o17 0o000000002021
     -- D1. The IBANK's last word, at 21, is stored by no group

@@ -19,24 +19,24 @@ splitCount = 85
 abbrev pub splitLength : ℕ → ℕ
 splitLength t = cond (eqb t 84) 2 1
 
--- the tables, address and length of each, fill the area after its first word, which is the IBANK
+-- the tables, address and length of each, fill the area after its first two words, which are the IBANK
 abbrev pub splitTables : List ℕ
-splitTables = flatMap (λ t. (0o2001 + t) ∷ splitLength t ∷ []) (tab (λ t. t) splitCount)
+splitTables = flatMap (λ t. (0o2002 + t) ∷ splitLength t ∷ []) (tab (λ t. t) splitCount)
 
 abbrev pub splitGiven : Load
-splitGiven = record { area = record { at = record { 0 = 0o2000 }; size = 87 }; tables = tablesOf splitTables; ios = [] }
+splitGiven = record { area = record { at = record { 0 = 0o2000 }; size = 88 }; tables = tablesOf splitTables; ios = [] }
 
--- the name SPLIT; bit 35 of word 3 and one table word; type 12 with 85 (octal 125) entries; one table section
+-- the name A-Z0-9; bit 35 of word 3 and one table word; type 12 with 85 (octal 125) entries; one table section
 unfoldable pub splitLabel : List ℕ
 splitLabel = withWords (
-    named 0 0o302521163105
+    named 0 0o064137604171
     ∷ named 1 0o050505050505
     ∷ named 2 0o100000000000
     ∷ named 3 0o400001000125
     ∷ named 4 0o600000000125
     ∷ named 253 0o000001000001
-    ∷ named 254 0o000000575143
-    ∷ named 255 0o302521163105
+    ∷ named 254 0o000001202350
+    ∷ named 255 0o064137604171
     ∷ []) blank
 
 -- entry word k, counted from 0: of each entry the tags TAG and LTAG, and the minimum length
@@ -57,20 +57,22 @@ otherEntries = withWords (named 1 0o000000000001 ∷ named 255 0o000000615135 �
 
 unfoldable pub splitProgram : List ℕ
 splitProgram = withWords (
-    -- *PRORC; IBANK: 1 word at 0; no DBANK
+    -- *PRORC; IBANK: 2 words at 0; no DBANK
     named 0 0o502527242710
-    ∷ named 1 0o000001000000
-    -- a group: 10 00000010 00000001 1 0, address 0
-    ∷ named 5 0o401001400000
-    -- left 0 0 0 1010100 000001: address of table 84 plus 1. Right 0 0 1 1010100 000000: its length plus 0
+    ∷ named 1 0o000002000000
+    -- a group: 10 00000011 00000010 1 0, address 0
+    ∷ named 5 0o401402400000
+    -- table 84 is 1010100. Left 0 0 0 1010100 000001: its address plus 1. Right 0 0 1 1010100 000000: its length plus 0
     ∷ named 6 0o012401032400
-    -- indicators: 1010 1010
-    ∷ named 7 0o524000000000
+    -- left 0 1 1010100 1010100: its address minus its length. Right, long: its length plus 64
+    ∷ named 7 0o065124100100
+    -- indicators: 1010, 1010; 1001, 1010 1 0 1010100
+    ∷ named 8 0o525152520000
     -- a table section: 2 words, table 84 (octal 124); its group has one word, which goes to word 1 of the table
-    ∷ named 8 0o200002000124
-    ∷ named 9 0o401001600001
-    ∷ named 10 0o123456701234
-    ∷ named 255 0o000001165506
+    ∷ named 9 0o200002000124
+    ∷ named 10 0o401001600001
+    ∷ named 11 0o123456701234
+    ∷ named 255 0o000001074507
     ∷ []) blank
 
 -- *TRMRC; the start is word 0
@@ -80,6 +82,7 @@ splitTermination = withWords (named 0 0o503127222710 ∷ named 255 0o00000072603
 abbrev pub splitFile : List (List ℕ)
 splitFile = splitLabel ∷ firstEntries ∷ lastEntries ∷ splitProgram ∷ splitTermination ∷ []
 
--- table 84 is at 2001 + 124 = 2125, in octal. The first word has 2125 + 1 and 2; the last is the table's word 1
+-- in octal: table 84 is at 2002 + 124 = 2126. The first word has 2126 + 1 and 2, the second 2126 - 2 and 2 + 100; the last is the
+-- table's word 1
 unfoldable pub splitImage : List ℕ
-splitImage = 0o002126000002 ∷ replicate 85 0 ++ (0o123456701234 ∷ [])
+splitImage = 0o002127000002 ∷ 0o002124000102 ∷ replicate 85 0 ++ (0o123456701234 ∷ [])

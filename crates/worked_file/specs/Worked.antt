@@ -15,7 +15,7 @@ use Rattle.demands.specs.Examples.{oldCore, oneRoom, madeWith}
 use Rattle.worked_file.specs.Blocks.{workedIos, workedTables, workedGiven, workedFile}
 use Rattle.worked_file.specs.Image.{workedImage}
 use Rattle.worked_file.specs.Lives.{life, answersTo, coreAfter, statesFrom}
-use Rattle.worked_file.specs.Refused.{answerIn, coreIn, refusal, faultyFiles}
+use Rattle.worked_file.specs.Refused.{answerIn, coreIn, refusal, faultyFiles, edgeFiles}
 use Rattle.worked_file.specs.Split.{splitTables, splitGiven, splitLabel, firstEntries, otherEntries, splitFile, splitImage}
 
 -- ---- the worked file
@@ -49,7 +49,7 @@ workedStates = statesFrom workedLife (madeWith oneRoom)
 
 -- each is refused in the block that has the fault, with its number
 abbrev pub FaultyAnswers : Type 0
-FaultyAnswers = map (answerIn workedStates) faultyFiles ≡ map refusal faultyFiles
+FaultyAnswers = map (answerIn workedStates) (faultyFiles ++ edgeFiles) ≡ map refusal (faultyFiles ++ edgeFiles)
 
 -- and then the whole area is zero, and every other word of the core as it was
 abbrev pub FaultyCores : Type 0
@@ -62,7 +62,7 @@ abbrev pub SplitImage : Type 0
 SplitImage = imageOf (splitGiven .area) (splitGiven .tables) [] splitFile ≡ splitImage
 
 abbrev pub SplitTaken : Type 0
-SplitTaken = Takes splitGiven Label (replicate 0o2127 0) splitFile Complete (replicate 0o2000 0 ++ splitImage)
+SplitTaken = Takes splitGiven Label (replicate 0o2130 0) splitFile Complete (replicate 0o2000 0 ++ splitImage)
 
 -- with another length in the second block, that block is refused with 16
 abbrev pub SplitAnswers : Type 0
