@@ -18,7 +18,7 @@ struct faulty {
 
 #define COUNT(array) (sizeof(array) / sizeof(array)[0])
 
-enum { CORE_WORDS = 4096, OLD_WORD = 5, FAULTS = 26, BLOCKS = 5, IDENTIFIER_WORD = 0, CHECKSUM_WORD = 255 };
+enum { CORE_WORDS = 4096, OLD_WORD = 5, FAULTS = 43, BLOCKS = 5, IDENTIFIER_WORD = 0, CHECKSUM_WORD = 255 };
 
 /* The file with 85 core tables; what the blocks are that the definitions name one after another. */
 enum { SPLIT_AREA = 02000, SPLIT_TABLES = 85, SPLIT_IBANK = 2, SPLIT_SIZE = SPLIT_IBANK + SPLIT_TABLES + 1 };
@@ -130,7 +130,7 @@ static void check_worked_files(void) {
   write_words(blocks, spec_file, COUNT(spec_file));
   for (unsigned i = 0; i < COUNT(spec_image); i++)
     image[spec_image[i].at] = spec_image[i].value;
-  check_file(&worked, blocks, 1, image);
+  check_file(&worked, blocks, 021, image);
   check(COUNT(spec_faults) == FAULTS, "there are as many faulty files", FAULTS);
   for (unsigned i = 0; i < COUNT(spec_faults); i++) {
     const struct faulty *faulty = &spec_faults[i];
@@ -151,7 +151,7 @@ static uint64_t split_length(unsigned table) {
 /* The first modification block is made here, without its tags, which are disregarded. */
 static void check_split_file(void) {
   static block_words named[BLOCKS], blocks[BLOCKS], other;
-  static const uint64_t image[SPLIT_SIZE] = {0002127000002, 0002124000102, [SPLIT_SIZE - 1] = 0123456701234};
+  static const uint64_t image[SPLIT_SIZE] = {0002127000002, 0002124000102, [85] = 0701234567012, [87] = 0123456701234};
   uint64_t tables[2 * SPLIT_TABLES];
   struct given split = {{SPLIT_AREA, SPLIT_SIZE}, NULL, tables, 0, COUNT(tables)};
   write_words(named, split_words, COUNT(split_words));

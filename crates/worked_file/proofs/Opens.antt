@@ -52,7 +52,7 @@ use Rattle.demands.specs.Taking.{Takes}
 use Rattle.hand_deck.specs.Blocks.{withWords, blank}
 use Rattle.worked_file.specs.Blocks.{workedLabel, workedEntries, workedProgram, workedSections, workedTermination}
 use Rattle.worked_file.specs.Image.{workedImage}
-use Rattle.worked_file.specs.Lives.{statesFrom}
+use Rattle.worked_file.specs.Lives.{statesFrom, waitsFrom}
 use Rattle.worked_file.specs.Split.{splitLabel, firstEntries, lastEntries, otherEntries, splitProgram, splitTermination}
 use Rattle.worked_file.specs.Split.{splitImage}
 
@@ -73,6 +73,6 @@ unfolding flatMap every everyTwo range tab splice cleared within apart character
     entryRefusal entered freed freshDesk makeOf besideOwn areaFits openedOwn openedPlace openedDesk opened grantOf openOf loadIn
     staged settledOf takenOf checkedOf heldOf feedOf run answerTo call told oldDesk oldCore madeWith answersIn headAt piecesFrom
     pieces storeOf groupsFrom upToLast storesFrom reached wordFrom storesBeyond storesOf imageOf Takes withWords blank
-    workedLabel workedEntries workedProgram workedSections workedTermination workedImage statesFrom splitLabel firstEntries
-    lastEntries otherEntries splitProgram splitTermination splitImage
+    workedLabel workedEntries workedProgram workedSections workedTermination workedImage statesFrom waitsFrom splitLabel
+    firstEntries lastEntries otherEntries splitProgram splitTermination splitImage
 opens = 0

@@ -214,10 +214,10 @@ unfoldable pub workedTermination : List ℕ
 workedTermination = withWords (
     -- *TRMRC
     named 0 0o503127222710
-    -- the start, word 1 from the Program Name on
-    ∷ named 1 0o000000000001
+    -- bits 15-0 the start, 17 (octal 21): the IBANK's last word. The other bits are disregarded, and all set
+    ∷ named 1 0o777777600021
     -- the checksum
-    ∷ named 255 0o000000726040
+    ∷ named 255 0o000000526060
     ∷ []) blank
 
 abbrev pub workedFile : List (List ℕ)

@@ -3,6 +3,12 @@
 use Prim.Native.Nat.{ℕ}
 use mathlib.Core.List.{List, [], _∷_, map}
 use Rattle.word.specs.declared.Area.{Area}
+use Rattle.lists.specs.Load.{Load}
+use Rattle.stage.specs.declared.Stage.{Stage}
+use Rattle.stage.specs.declared.Stage.the-variants.{Complete, Broken}
+use Rattle.stage.specs.declared.Step.{Step}
+use Rattle.stage.specs.declared.Step.the-variants.{More as StepMore, Done as StepDone, Refused as StepRefused}
+use Rattle.feed.specs.Block.{blockStep}
 use Rattle.calls.specs.declared.Answer.{Answer}
 use Rattle.demands.specs.Orders.{run}
 use Rattle.demands.specs.History.{State, Call, told, call}
@@ -24,3 +30,24 @@ coreAfter cs = run call cs (madeWith oneRoom) .core
 unfoldable pub statesFrom : List Call → State → List State
 statesFrom [] s = s ∷ []
 statesFrom (c ∷ cs) s = s ∷ statesFrom cs (call c s)
+
+-- ---- a load by itself, without a desk: what it waits for, and the core
+pub record Waiting : Type 0 where
+  pub stage : Stage
+  pub core : List ℕ
+
+abbrev pub stageAfter : Step → Stage
+stageAfter (StepMore s) = s
+stageAfter (StepDone a) = Complete
+stageAfter (StepRefused f) = Broken
+
+abbrev pub takes : Load → Waiting → List ℕ → Waiting
+takes x w block = record {
+  stage = stageAfter (blockStep x (w .stage) block (w .core) .step);
+  core = blockStep x (w .stage) block (w .core) .core;
+}
+
+-- from before the first block on
+unfoldable pub waitsFrom : Load → Waiting → List (List ℕ) → List Waiting
+waitsFrom x w [] = w ∷ []
+waitsFrom x w (block ∷ blocks) = w ∷ waitsFrom x (takes x w block) blocks

@@ -3,14 +3,23 @@
 use Prim.Native.Nat.{ℕ, _+_}
 use mathlib.Core.List.{List, [], _∷_}
 use lib.ListN.{getD}
+use Rattle.word.specs.declared.Fault.{Fault}
 use Rattle.word.specs.Fault.{fault}
+use Rattle.block.specs.declared.Verdict.{Verdict}
+use Rattle.block.specs.declared.Verdict.the-variants.{Pass, Refused as BlockRefused}
+use Rattle.block.specs.Block.{verdict}
+use Rattle.stage.specs.declared.Stage.the-variants.{Broken}
+use Rattle.stage.specs.declared.Step.{Step}
+use Rattle.stage.specs.declared.Step.the-variants.{Refused as StepRefused}
+use Rattle.stage.specs.Record.{recordDue}
+use Rattle.feed.specs.Block.{blockStep}
 use Rattle.calls.specs.declared.Answer.{Answer}
-use Rattle.calls.specs.declared.Answer.the-variants.{Refused}
 use Rattle.hand_deck.specs.Blocks.{Named, withWords}
 use Rattle.demands.specs.History.{State, answerTo, call, Call}
 use Rattle.demands.specs.History.Call.{Feed}
 use Rattle.demands.specs.Examples.{oneRoom, madeWith}
-use Rattle.worked_file.specs.Blocks.{named, workedFile}
+use Rattle.worked_file.specs.Blocks.{named, workedGiven, workedFile}
+use Rattle.worked_file.specs.Lives.{Waiting}
 
 -- the number of the refusal, the block that is refused, counted from 0, and the words of it that are not the worked file's
 pub record Faulty : Type 0 where
@@ -18,26 +27,34 @@ pub record Faulty : Type 0 where
   pub block : ℕ
   pub words : List Named
 
--- the block is fed in the place of the worked file's own
-abbrev pub faultyFeed : Faulty → Call
-faultyFeed f = Feed 0 0 (withWords (f .words) (getD workedFile (f .block) []))
+abbrev pub refusal : Faulty → Fault
+refusal f = fault (f .number)
 
--- to a load that has taken every block before it: ss are the states that the worked file's life leads through
+abbrev pub faultyBlock : Faulty → List ℕ
+faultyBlock f = withWords (f .words) (getD workedFile (f .block) [])
+
+-- ---- on a desk, it is fed in the place of the worked file's own to a load that has taken every block before it. ss are the states
+-- that the worked file's life leads through, the first one before open.
 abbrev pub before : List State → Faulty → State
 before ss f = getD ss (1 + f .block) (madeWith oneRoom)
 
--- how it is answered, and the core then
 abbrev pub answerIn : List State → Faulty → Answer
-answerIn ss f = answerTo (faultyFeed f) (before ss f)
+answerIn ss f = answerTo (Feed 0 0 (faultyBlock f)) (before ss f)
 
 abbrev pub coreIn : List State → Faulty → List ℕ
-coreIn ss f = call (faultyFeed f) (before ss f) .core
+coreIn ss f = call (Feed 0 0 (faultyBlock f)) (before ss f) .core
 
--- how it has to be answered
-abbrev pub refusal : Faulty → Answer
-refusal f = Refused (fault (f .number))
+-- ---- or to a load by itself. ws are what it waits for, block after block; 11 and 12 come first.
+abbrev pub unlessBad : Verdict → Step → Step
+unlessBad Pass s = s
+unlessBad (BlockRefused g) s = StepRefused g
 
--- one for each number
+abbrev pub stepOf : Waiting → List ℕ → Step
+stepOf w block = unlessBad (verdict (recordDue (w .stage)) block) (blockStep workedGiven (w .stage) block (w .core) .step)
+
+abbrev pub stepIn : List Waiting → Faulty → Step
+stepIn ws f = stepOf (getD ws (f .block) (record { stage = Broken; core = [] })) (faultyBlock f)
+
 -- one for each number
 abbrev pub faultyFiles : List Faulty
 faultyFiles =
@@ -60,7 +77,7 @@ faultyFiles =
     -- 21, "value outside 0 to 65,535": A1 right is 64,512, which is 65,536 with the area's address
     ∷ record { number = 21; block = 2; words = named 7 0o123456776000 ∷ named 255 0o000000461441 ∷ [] }
     -- 22, "start not in the IBANK": 18 (octal 22), the first word after it
-    ∷ record { number = 22; block = 4; words = named 1 0o000000000022 ∷ named 255 0o000000726061 ∷ [] }
+    ∷ record { number = 22; block = 4; words = named 1 0o777777600022 ∷ named 255 0o000000526061 ∷ [] }
     ∷ []
 
 -- which of two faults is given, and the edges of other rules
@@ -70,15 +87,45 @@ edgeFiles =
     record { number = 18; block = 2; words = named 12 0o404406000015 ∷ named 14 0o040202000403 ∷ named 255 0o000000461452 ∷ [] }
     -- 20, "a left indicator, then a right": B1 left names table 3, and its right, with bit 15 set, would be 19
     ∷ record { number = 20; block = 2; words = named 14 0o040203100401 ∷ named 255 0o000000561441 ∷ [] }
+    -- 14, "Word 2 bits 35-33 are the type flag": 101
+    ∷ record { number = 14; block = 0; words = named 2 0o500000000000 ∷ named 254 0o000000672250 ∷ [] }
     -- 15, "spaces only at the end": the name has a space and then a hyphen
     ∷ record { number = 15; block = 0; words = named 0 0o342427200541 ∷ named 254 0o000001271130 ∷ named 255 0o342427200541 ∷ [] }
-    -- 16, table 0 is assigned 8 words, and its minimum length is 9
+    -- 15, "in rising order, none twice": two table words of type 2
+    ∷ record { number = 15; block = 0; words = named 6 0o100000000002 ∷ named 254 0o000001232250 ∷ [] }
+    -- 15, "the segment count is 1": 2
+    ∷ record { number = 15; block = 0; words = named 253 0o000002000002 ∷ named 254 0o000001272251 ∷ [] }
+    -- 15, "table sections are no more than core entries": 4, and 3 entries
+    ∷ record { number = 15; block = 0; words = named 253 0o000001000004 ∷ named 254 0o000001272252 ∷ [] }
+    -- 15, "rest zero": bit 16 of word 253 is set
+    ∷ record { number = 15; block = 0; words = named 253 0o000001200002 ∷ named 254 0o000000472251 ∷ [] }
+    -- 15, "Word 255 repeats word 0": it does not
+    ∷ record { number = 15; block = 0; words = named 254 0o000001272251 ∷ named 255 0o342427201212 ∷ [] }
+    -- 16, the first table's too: the minimum length of table 0 is 9, and it is assigned 8
     ∷ record { number = 16; block = 1; words = named 11 0o000000000011 ∷ named 255 0o000001115327 ∷ [] }
-    -- 17, "rising from section to section": table 0 once more
-    ∷ record { number = 17; block = 3; words = named 14 0o200010000000 ∷ named 255 0o000001225436 ∷ [] }
+    -- 17, "bits 35, 34, 17, 16 are zero": bit 35 of the DBANK word is set
+    ∷ record { number = 17; block = 2; words = named 2 0o400003000024 ∷ named 255 0o000001061440 ∷ [] }
+    -- 17, bit 16 of the DBANK word is set
+    ∷ record { number = 17; block = 2; words = named 2 0o000003200024 ∷ named 255 0o000000661440 ∷ [] }
+    -- 17, "sharing no word with .. a table": the DBANK has 13 words from 20 (octal 24) on, and table 0 is at 32 (octal 40)
+    ∷ record { number = 17; block = 2; words = named 2 0o000015000024 ∷ named 255 0o000000461452 ∷ [] }
+    -- 17, "Both lie in the area": the DBANK has 3 words from 126 (octal 176) on
+    ∷ record { number = 17; block = 2; words = named 2 0o000003000176 ∷ named 255 0o000000461612 ∷ [] }
     -- 17, "a count from 1 to the assigned length": 9 words for table 0
     ∷ record { number = 17; block = 3; words = named 9 0o200011000000 ∷ named 255 0o000001225553 ∷ [] }
-    -- 18, "just as many indicator words as the bits need": group G has one more
+    -- 17, "rising from section to section": table 0 once more
+    ∷ record { number = 17; block = 3; words = named 14 0o200010000000 ∷ named 255 0o000001225436 ∷ [] }
+    -- 17, "a number with no table": 3
+    ∷ record { number = 17; block = 3; words = named 14 0o200120000003 ∷ named 255 0o000001225551 ∷ [] }
+    -- 17, "bits 17-8 zero": bit 8 is set
+    ∷ record { number = 17; block = 3; words = named 14 0o200120000402 ∷ named 255 0o000001226150 ∷ [] }
+    -- 18, a table section word where a group is due
+    ∷ record { number = 18; block = 3; words = named 5 0o200002000000 ∷ named 255 0o000000224123 ∷ [] }
+    -- 18, "the program words (at least 1)": group E has none
+    ∷ record { number = 18; block = 3; words = named 5 0o401400600025 ∷ named 255 0o000001225546 ∷ [] }
+    -- 18, "just as many indicator words as the bits need": group D has none
+    ∷ record { number = 18; block = 3; words = named 1 0o401002000017 ∷ named 255 0o000001225150 ∷ [] }
+    -- 18, group G has an indicator word more than the bits need
     ∷ record { number = 18; block = 3; words = named 15 0o401401600117 ∷ named 255 0o000001226150 ∷ [] }
     -- 18, "bit 16 .. set for the DBANK or a table section": group F has it zero
     ∷ record { number = 18; block = 3; words = named 10 0o401402400002 ∷ named 255 0o000001025550 ∷ [] }
@@ -90,11 +137,15 @@ edgeFiles =
     ∷ record { number = 19; block = 2; words = named 15 0o000077100077 ∷ named 255 0o000000417457 ∷ [] }
     -- 19, "a zero": C0 left has the second of its nine bits set
     ∷ record { number = 19; block = 2; words = named 29 0o510025200252 ∷ named 255 0o000000471440 ∷ [] }
+    -- 20, B1 right is 0 0 0000011 0000000, the address of table 3
+    ∷ record { number = 20; block = 2; words = named 14 0o040202000600 ∷ named 255 0o000000461637 ∷ [] }
+    -- 20, C0 right is 0 1 0 0000011 000001, the address of table 3
+    ∷ record { number = 20; block = 2; words = named 23 0o100100040301 ∷ named 255 0o000000461540 ∷ [] }
     -- 20, "a number below the type 0 and 2 count": A4 left, type 100, has the number 2
     ∷ record { number = 20; block = 2; words = named 10 0o000040000000 ∷ named 255 0o000000461460 ∷ [] }
     -- 20, "a number of a type 3 entry": G0 right, type 111, is 1, the channel
     ∷ record { number = 20; block = 3; words = named 16 0o777777000001 ∷ named 255 0o000001225546 ∷ [] }
-    -- 20, the same: G0 right is 4, one more than there are
+    -- 20, G0 right is 4, and the last reference is 3
     ∷ record { number = 20; block = 3; words = named 16 0o777777000004 ∷ named 255 0o000001225551 ∷ [] }
     -- 21, C2 right is the length of table 0 minus 9: below 0
     ∷ record { number = 21; block = 2; words = named 25 0o100100060011 ∷ named 255 0o000000461441 ∷ [] }

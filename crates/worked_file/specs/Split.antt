@@ -26,7 +26,7 @@ splitTables = flatMap (λ t. (0o2002 + t) ∷ splitLength t ∷ []) (tab (λ t. 
 abbrev pub splitGiven : Load
 splitGiven = record { area = record { at = record { 0 = 0o2000 }; size = 88 }; tables = tablesOf splitTables; ios = [] }
 
--- the name A-Z0-9; bit 35 of word 3 and one table word; type 12 with 85 (octal 125) entries; one table section
+-- the name A-Z0-9; bit 35 of word 3 and one table word; type 12 with 85 (octal 125) entries; two table sections
 unfoldable pub splitLabel : List ℕ
 splitLabel = withWords (
     named 0 0o064137604171
@@ -34,8 +34,8 @@ splitLabel = withWords (
     ∷ named 2 0o100000000000
     ∷ named 3 0o400001000125
     ∷ named 4 0o600000000125
-    ∷ named 253 0o000001000001
-    ∷ named 254 0o000001202350
+    ∷ named 253 0o000001000002
+    ∷ named 254 0o000001202351
     ∷ named 255 0o064137604171
     ∷ []) blank
 
@@ -68,11 +68,15 @@ splitProgram = withWords (
     ∷ named 7 0o065124100100
     -- indicators: 1010, 1010; 1001, 1010 1 0 1010100
     ∷ named 8 0o525152520000
-    -- a table section: 2 words, table 84 (octal 124); its group has one word, which goes to word 1 of the table
-    ∷ named 9 0o200002000124
-    ∷ named 10 0o401001600001
-    ∷ named 11 0o123456701234
-    ∷ named 255 0o000001074507
+    -- a table section: 1 word, table 83 (octal 123); its group has one word, and an indicator word that is zero
+    ∷ named 9 0o200001000123
+    ∷ named 10 0o401001600000
+    ∷ named 11 0o701234567012
+    -- a table section: 2 words, table 84; its group has one word, which goes to word 1 of the table
+    ∷ named 13 0o200002000124
+    ∷ named 14 0o401001600001
+    ∷ named 15 0o123456701234
+    ∷ named 255 0o000001166103
     ∷ []) blank
 
 -- *TRMRC; the start is word 0
@@ -82,7 +86,7 @@ splitTermination = withWords (named 0 0o503127222710 ∷ named 255 0o00000072603
 abbrev pub splitFile : List (List ℕ)
 splitFile = splitLabel ∷ firstEntries ∷ lastEntries ∷ splitProgram ∷ splitTermination ∷ []
 
--- in octal: table 84 is at 2002 + 124 = 2126. The first word has 2126 + 1 and 2, the second 2126 - 2 and 2 + 100; the last is the
--- table's word 1
+-- in octal: table 84 is at 2002 + 124 = 2126. The first word has 2126 + 1 and 2, the second 2126 - 2 and 2 + 100; then there is
+-- table 83's word, and at the end table 84's word 1
 unfoldable pub splitImage : List ℕ
-splitImage = 0o002127000002 ∷ 0o002124000102 ∷ replicate 85 0 ++ (0o123456701234 ∷ [])
+splitImage = 0o002127000002 ∷ 0o002124000102 ∷ replicate 83 0 ++ (0o701234567012 ∷ 0 ∷ 0o123456701234 ∷ [])

@@ -7,6 +7,7 @@ use lib.ListN.{length, replicate}
 use Rattle.word.specs.Fault.{fault}
 use Rattle.word.specs.Lists.{splice, cleared}
 use Rattle.stage.specs.declared.Stage.the-variants.{Label, Complete}
+use Rattle.stage.specs.declared.Step.the-variants.{Refused as RefusedStep}
 use Rattle.calls.specs.declared.Answer.the-variants.{Opened, More, Done, Refused}
 use Rattle.demands.specs.Image.{imageOf, fileStart}
 use Rattle.demands.specs.Taking.{Takes}
@@ -14,8 +15,8 @@ use Rattle.demands.specs.History.{Call, State}
 use Rattle.demands.specs.Examples.{oldCore, oneRoom, madeWith}
 use Rattle.worked_file.specs.Blocks.{workedIos, workedTables, workedGiven, workedFile}
 use Rattle.worked_file.specs.Image.{workedImage}
-use Rattle.worked_file.specs.Lives.{life, answersTo, coreAfter, statesFrom}
-use Rattle.worked_file.specs.Refused.{answerIn, coreIn, refusal, faultyFiles, edgeFiles}
+use Rattle.worked_file.specs.Lives.{life, answersTo, coreAfter, statesFrom, Waiting, waitsFrom}
+use Rattle.worked_file.specs.Refused.{answerIn, coreIn, stepIn, refusal, faultyFiles, edgeFiles}
 use Rattle.worked_file.specs.Split.{splitTables, splitGiven, splitLabel, firstEntries, otherEntries, splitFile, splitImage}
 
 -- ---- the worked file
@@ -24,9 +25,9 @@ use Rattle.worked_file.specs.Split.{splitTables, splitGiven, splitLabel,
 abbrev pub WorkedImage : Type 0
 WorkedImage = imageOf (workedGiven .area) (workedGiven .tables) (workedGiven .ios) workedFile ≡ workedImage
 
--- the start is word 1 of the area
+-- the start is the IBANK's last word
 abbrev pub WorkedStart : Type 0
-WorkedStart = fileStart (workedGiven .area) workedFile ≡ record { 0 = 0o2001 }
+WorkedStart = fileStart (workedGiven .area) workedFile ≡ record { 0 = 0o2021 }
 
 -- a load by itself takes one block after another to the end, and then its area holds that image
 abbrev pub WorkedTaken : Type 0
@@ -37,7 +38,7 @@ abbrev pub workedLife : List Call
 workedLife = life (workedGiven .area) workedIos workedTables workedFile
 
 abbrev pub WorkedAnswers : Type 0
-WorkedAnswers = answersTo workedLife ≡ Opened 0 ∷ More ∷ More ∷ More ∷ More ∷ Done (record { 0 = 0o2001 }) ∷ []
+WorkedAnswers = answersTo workedLife ≡ Opened 0 ∷ More ∷ More ∷ More ∷ More ∷ Done (record { 0 = 0o2021 }) ∷ []
 
 abbrev pub WorkedCore : Type 0
 WorkedCore = coreAfter workedLife ≡ splice oldCore 0o2000 workedImage
@@ -49,11 +50,18 @@ workedStates = statesFrom workedLife (madeWith oneRoom)
 
 -- each is refused in the block that has the fault, with its number
 abbrev pub FaultyAnswers : Type 0
-FaultyAnswers = map (answerIn workedStates) (faultyFiles ++ edgeFiles) ≡ map refusal (faultyFiles ++ edgeFiles)
+FaultyAnswers = map (answerIn workedStates) faultyFiles ≡ map (λ f. Refused (refusal f)) faultyFiles
 
 -- and then the whole area is zero, and every other word of the core as it was
 abbrev pub FaultyCores : Type 0
 FaultyCores = map (coreIn workedStates) faultyFiles ≡ replicate (length faultyFiles) (cleared oldCore 0o2000 0o200)
+
+-- so is each of the others, by a load by itself
+abbrev pub workedWaits : List Waiting
+workedWaits = waitsFrom workedGiven (record { stage = Label; core = replicate 0o2200 0 }) workedFile
+
+abbrev pub EdgeSteps : Type 0
+EdgeSteps = map (stepIn workedWaits) edgeFiles ≡ map (λ f. RefusedStep (refusal f)) edgeFiles
 
 -- ---- the file whose last entry is split across two blocks
 
