@@ -44,8 +44,8 @@ use Rattle.calls.specs.Make.{freed, freshDesk, makeOf}
 use Rattle.calls.specs.Open.{besideOwn, areaFits, openedOwn, openedPlace, openedDesk, opened, grantOf, openOf}
 use Rattle.feed.specs.Feed.{loadIn, staged, settledOf, takenOf, checkedOf, heldOf, feedOf}
 use Rattle.demands.specs.Orders.{run}
-use Rattle.demands.specs.History.{answerTo, call, told}
-use Rattle.demands.specs.Examples.{oldDesk, oldCore, madeWith, answersIn}
+use Rattle.demands.specs.History.{answerTo, call, event, told}
+use Rattle.demands.specs.Examples.{oldDesk, oldCore, old, answersIn}
 use Rattle.demands.specs.Image.{headAt, piecesFrom, pieces, storeOf, groupsFrom, upToLast, storesFrom, reached, wordFrom}
 use Rattle.demands.specs.Image.{storesBeyond, storesOf, imageOf}
 use Rattle.demands.specs.Taking.{Takes}
@@ -71,7 +71,7 @@ unfolding flatMap every everyTwo range tab splice cleared within apart character
     mapOf inCore stretchesApart mapObeys hit count free held heldEach idle atMost fair placeRefusal lowestFree mapNumbers
     holders places placeIn ownOf stageIn listsIn holds areaIn countsFit loadFits heldFits placeFits areasApart sound
     entryRefusal entered freed freshDesk makeOf besideOwn areaFits openedOwn openedPlace openedDesk opened grantOf openOf loadIn
-    staged settledOf takenOf checkedOf heldOf feedOf run answerTo call told oldDesk oldCore madeWith answersIn headAt piecesFrom
+    staged settledOf takenOf checkedOf heldOf feedOf run answerTo call event told oldDesk oldCore old answersIn headAt piecesFrom
     pieces storeOf groupsFrom upToLast storesFrom reached wordFrom storesBeyond storesOf imageOf Takes withWords blank
     workedLabel workedEntries workedProgram workedSections workedTermination workedImage statesFrom waitsFrom splitLabel
     firstEntries lastEntries otherEntries splitProgram splitTermination splitImage

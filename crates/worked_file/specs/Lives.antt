@@ -11,25 +11,26 @@ use Rattle.stage.specs.declared.Step.the-variants.{More as StepMore, Done as St
 use Rattle.feed.specs.Block.{blockStep}
 use Rattle.calls.specs.declared.Answer.{Answer}
 use Rattle.demands.specs.Orders.{run}
-use Rattle.demands.specs.History.{State, Call, told, call}
+use Rattle.demands.specs.History.{State, Event, event, told}
 use Rattle.demands.specs.History.Call.{Open, Feed}
-use Rattle.demands.specs.Examples.{oneRoom, madeWith, answersIn}
+use Rattle.demands.specs.History.Event.{Here}
+use Rattle.demands.specs.Examples.{old, oneRoom, make, answersIn}
 
--- open with these lists, and then each block of the file
-abbrev pub life : Area → List ℕ → List ℕ → List (List ℕ) → List Call
-life area ios tables file = Open 0 area ios tables ∷ map (λ block. Feed 0 0 block) file
+-- make, open with these lists, and then each block of the file
+abbrev pub life : Area → List ℕ → List ℕ → List (List ℕ) → List Event
+life area ios tables file = make oneRoom ∷ Here (Open 0 area ios tables) ∷ map (λ block. Here (Feed 0 0 block)) file
 
 -- what the calls are answered, and the core that they leave
-abbrev pub answersTo : List Call → List Answer
-answersTo cs = answersIn (told cs (madeWith oneRoom))
+abbrev pub answersTo : List Event → List Answer
+answersTo es = answersIn (told es old)
 
-abbrev pub coreAfter : List Call → List ℕ
-coreAfter cs = run call cs (madeWith oneRoom) .core
+abbrev pub coreLeft : List Event → List ℕ
+coreLeft es = run event es old .core
 
--- the states that calls lead through, from the one before the first on
-unfoldable pub statesFrom : List Call → State → List State
+-- the states that they lead through, from the one before the first on
+unfoldable pub statesFrom : List Event → State → List State
 statesFrom [] s = s ∷ []
-statesFrom (c ∷ cs) s = s ∷ statesFrom cs (call c s)
+statesFrom (e ∷ es) s = s ∷ statesFrom es (event e s)
 
 -- ---- a load by itself, without a desk: what it waits for, and the core
 pub record Waiting : Type 0 where

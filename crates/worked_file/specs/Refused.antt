@@ -15,9 +15,9 @@ use Rattle.stage.specs.Record.{recordDue}
 use Rattle.feed.specs.Block.{blockStep}
 use Rattle.calls.specs.declared.Answer.{Answer}
 use Rattle.hand_deck.specs.Blocks.{Named, withWords}
-use Rattle.demands.specs.History.{State, answerTo, call, Call}
+use Rattle.demands.specs.History.{State, answerTo, call}
 use Rattle.demands.specs.History.Call.{Feed}
-use Rattle.demands.specs.Examples.{oneRoom, madeWith}
+use Rattle.demands.specs.Examples.{old}
 use Rattle.worked_file.specs.Blocks.{named, workedGiven, workedFile}
 use Rattle.worked_file.specs.Lives.{Waiting}
 
@@ -34,9 +34,9 @@ abbrev pub faultyBlock : Faulty → List ℕ
 faultyBlock f = withWords (f .words) (getD workedFile (f .block) [])
 
 -- ---- on a desk, it is fed in the place of the worked file's own to a load that has taken every block before it. ss are the states
--- that the worked file's life leads through, the first one before open.
+-- that the worked file's life leads through: before make, before open, before its first block, and so on.
 abbrev pub before : List State → Faulty → State
-before ss f = getD ss (1 + f .block) (madeWith oneRoom)
+before ss f = getD ss (2 + f .block) old
 
 abbrev pub answerIn : List State → Faulty → Answer
 answerIn ss f = answerTo (Feed 0 0 (faultyBlock f)) (before ss f)

@@ -8,14 +8,14 @@ use Rattle.word.specs.Fault.{fault}
 use Rattle.word.specs.Lists.{splice, cleared}
 use Rattle.stage.specs.declared.Stage.the-variants.{Label, Complete}
 use Rattle.stage.specs.declared.Step.the-variants.{Refused as RefusedStep}
-use Rattle.calls.specs.declared.Answer.the-variants.{Opened, More, Done, Refused}
+use Rattle.calls.specs.declared.Answer.the-variants.{Made, Opened, More, Done, Refused}
 use Rattle.demands.specs.Image.{imageOf, fileStart}
 use Rattle.demands.specs.Taking.{Takes}
-use Rattle.demands.specs.History.{Call, State}
-use Rattle.demands.specs.Examples.{oldCore, oneRoom, madeWith}
+use Rattle.demands.specs.History.{State, Event}
+use Rattle.demands.specs.Examples.{oldCore, old}
 use Rattle.worked_file.specs.Blocks.{workedIos, workedTables, workedGiven, workedFile}
 use Rattle.worked_file.specs.Image.{workedImage}
-use Rattle.worked_file.specs.Lives.{life, answersTo, coreAfter, statesFrom, Waiting, waitsFrom}
+use Rattle.worked_file.specs.Lives.{life, answersTo, coreLeft, statesFrom, Waiting, waitsFrom}
 use Rattle.worked_file.specs.Refused.{answerIn, coreIn, stepIn, refusal, faultyFiles, edgeFiles}
 use Rattle.worked_file.specs.Split.{splitTables, splitGiven, splitLabel, firstEntries, otherEntries, splitFile, splitImage}
 
@@ -34,19 +34,19 @@ abbrev pub WorkedTaken : Type 0
 WorkedTaken = Takes workedGiven Label (replicate 0o2200 0) workedFile Complete (replicate 0o2000 0 ++ workedImage)
 
 -- a load on a desk is answered so, and every other word of the core is as it was
-abbrev pub workedLife : List Call
+abbrev pub workedLife : List Event
 workedLife = life (workedGiven .area) workedIos workedTables workedFile
 
 abbrev pub WorkedAnswers : Type 0
-WorkedAnswers = answersTo workedLife ≡ Opened 0 ∷ More ∷ More ∷ More ∷ More ∷ Done (record { 0 = 0o2021 }) ∷ []
+WorkedAnswers = answersTo workedLife ≡ Made ∷ Opened 0 ∷ More ∷ More ∷ More ∷ More ∷ Done (record { 0 = 0o2021 }) ∷ []
 
 abbrev pub WorkedCore : Type 0
-WorkedCore = coreAfter workedLife ≡ splice oldCore 0o2000 workedImage
+WorkedCore = coreLeft workedLife ≡ splice oldCore 0o2000 workedImage
 
 -- ---- the faulty files
 
 abbrev pub workedStates : List State
-workedStates = statesFrom workedLife (madeWith oneRoom)
+workedStates = statesFrom workedLife old
 
 -- each is refused in the block that has the fault, with its number
 abbrev pub FaultyAnswers : Type 0
@@ -76,4 +76,4 @@ SplitTaken = Takes splitGiven Label (replicate 0o2130 0) splitFile Complete (rep
 abbrev pub SplitAnswers : Type 0
 SplitAnswers =
     answersTo (life (splitGiven .area) [] splitTables (splitLabel ∷ firstEntries ∷ otherEntries ∷ []))
-    ≡ Opened 0 ∷ More ∷ More ∷ Refused (fault 16) ∷ []
+    ≡ Made ∷ Opened 0 ∷ More ∷ More ∷ Refused (fault 16) ∷ []
