@@ -1,7 +1,7 @@
 -- The pass over the held places: those before place p are in order, no two of their areas share a word, and of each room that holds
 -- one of them the last is known.
 use Prim.Native.Nat.{ℕ, suc, _+_, _-_, _≤_, _<_}
-use mathlib.Core.Path.{_≡_, sym, _∙_}
+use mathlib.Core.Path.{_≡_, refl, sym, _∙_}
 use mathlib.Core.Bool.{true, false, _||_, true≢false}
 use mathlib.Core.List.{List}
 use native.Mathlib.Omega.{arith}
@@ -218,3 +218,7 @@ module _ (d held last : List ℕ) (i p : ℕ) (f : fair (holders d) ≡ true) (l
                   (λ y. absurd (z (omega (arith, rw y at b))))
                   (λ y. absurd (omega (arith, free-between q m (omega arith)))))));
             }
+
+-- where no place is held there is nothing to look at
+pub nothing-held : (d : List ℕ) → fair (holders d) ≡ true → length (heldPlaces 0 (holders d)) ≡ 0 → true ≡ placesFit d
+nothing-held d f e = looked-end d (heldPlaces 0 (holders d)) (replicate 8 0) 0 0 f (looked-none d (heldPlaces 0 (holders d)) refl) (omega arith)

@@ -54,6 +54,9 @@ fn holders_fit(desk: &[u64]) -> bool
     }
     let mut held = [0usize; PLACES];
     let n = rooms::held_places(&h, &mut held);
+    if n == 0 {
+        return true;
+    }
     places_fit(desk, &held[..n])
 }
 
