@@ -5,18 +5,20 @@ use mathlib.Core.Bool.{true, cond}
 use mathlib.Core.List.{List}
 use lib.ListN.{length, replicate}
 use Rattle.program.specs.Sections.{lastWord}
-use Rattle.word.specs.Limits.{wordsInBlock}
+use Rattle.word.specs.Limits.{wordsInBlock, coreMost}
 use Rattle.lists.specs.declared.Given.{Given}
 use Rattle.lists.specs.Load.{Readable}
+use Rattle.word.specs.declared.Area.{Area}
 use Rattle.word.specs.declared.Fault.{Fault}
 use Rattle.word.specs.Fault.{fault}
 use Rattle.word.specs.Lists.{every}
 use Rattle.word.specs.Word.{isWord}
 use Rattle.program.specs.declared.Group.{Group}
 use Rattle.field.specs.Field.{Assignments}
+use Rattle.group.specs.declared.Section.{Section}
 use Rattle.group.specs.declared.GroupStep.{GroupStep}
 use Rattle.group.specs.declared.GroupStep.the-variants.{Done, Refused}
-use Rattle.group.specs.Group.{Words, changedWords, programWords, indicatorBitsIn, inOneBlock, holdsProgram, indicatorsFit}
+use Rattle.group.specs.Group.{Words, changedWords, programWords, indicatorBitsIn, inOneBlock, holdsProgram, indicatorsFit, InArea}
 use Rattle.group.specs.Group.Words.{Become, Refuse}
 
 -- the answer, and the words of the core that the group goes to
@@ -55,7 +57,13 @@ pub record Sized (g : Group) : Type 0 where
   pub program : g .program < 2 ^ 8
   pub at : g .at .0 < 2 ^ 16
 
--- what is known before
+-- what is known of a group and of its section where the address of its words is reckoned
+pub record Addressed (area : Area) (section : Section) (g : Group) : Type 0 where
+  pub inside : area .at .0 + area .size ≤ coreMost
+  pub room : InArea area section
+  pub sized : Sized g
+
+-- what is known where its words are filled in
 pub record FillReady (x : Given) (l block : List ℕ) (i : ℕ) (g : Group) (out : List ℕ) : Type 0 where
   pub lists : Readable x l
   pub long : length block ≡ wordsInBlock

@@ -7,11 +7,10 @@ mod halves;
 ghost use mathlib.Core.Path.{_≡_};
 ghost use Prim.Native.Nat.{_+_, _*_, _<_, _≤_, _^_};
 ghost use lib.ListN.{length};
-ghost use Rattle.word.specs.Limits.{coreMost};
 ghost use Rattle.field.specs.Field.{assignedBy};
 ghost use Rattle.indicator.specs.Indicator.{justEnough};
-ghost use Rattle.group.specs.Group.{liesIn, wordsLie, addressOf, groupOutcome, groupStep, GroupMeets, InArea, Ready};
-ghost use Rattle.group.specs.HowGroup.{Sized, FillReady, Fitting, zeroFill, countedFill, fillOf, Fills};
+ghost use Rattle.group.specs.Group.{liesIn, wordsLie, addressOf, groupStep, GroupMeets, Ready};
+ghost use Rattle.group.specs.HowGroup.{Addressed, FillReady, Fitting, zeroFill, countedFill, fillOf, Fills};
 use crate::changes::GroupChange;
 use crate::changes::IndicatorWords;
 use field::Assigned;
@@ -37,7 +36,8 @@ pub enum GroupStep {
     Refused(Fault),
 }
 
-// The group whose identifier stands at place i of a block, into the core.
+// The group whose identifier stands at place i of a block, into the words of the core that it goes to: 18 where these do not lie where
+// they must.
 pub fn group_step(
     s: Assigned,
     section: Section,
@@ -50,32 +50,18 @@ pub fn group_step(
     ensures { λ r. ⌜ GroupMeets (groupStep (assignedBy s (now (lists .entry))) section (now (block .entry)) i (now (core .entry))) r (now (core .exit)) ⌝ }
 {
     match program::read_group(block[i]) {
-        GroupRead::Good(g) => place_group(s, section, lists, block, i, g, core),
+        GroupRead::Good(g) => {
+            if words_lie(section, g) {
+                let area = s.given.area;
+                let to = address_of(area, section, g);
+                let first = to.0 as usize;
+                let past = first + g.program as usize;
+                return fill_group(s, lists, block, i, g, &mut core[first..past]);
+            }
+            GroupStep::Refused(Fault { number: 18 })
+        }
         GroupRead::Bad(f) => GroupStep::Refused(f),
     }
-}
-
-// The group g, into the words of the core that it goes to: 18 where these do not lie where they must.
-fn place_group(
-    s: Assigned,
-    section: Section,
-    lists: &[u64],
-    block: &[u64],
-    i: usize,
-    g: Group,
-    core: &mut [u64],
-) -> GroupStep
-    requires { ⌜ (Ready (s .given) (now lists) section (now block) i (now core)) × (Sized g) ⌝ }
-    ensures { λ r. ⌜ GroupMeets (groupOutcome (assignedBy s (now (lists .entry))) section (now (block .entry)) i g (now (core .entry))) r (now (core .exit)) ⌝ }
-{
-    if words_lie(section, g) {
-        let area = s.given.area;
-        let to = address_of(area, section, g);
-        let first = to.0 as usize;
-        let past = first + g.program as usize;
-        return fill_group(s, lists, block, i, g, &mut core[first..past]);
-    }
-    GroupStep::Refused(Fault { number: 18 })
 }
 
 // Whether the words of a group lie in their bank, or in the table section's count. Bit 16 zero is the IBANK; a table section has no
@@ -110,7 +96,7 @@ fn lies_in(bank: Bank, g: Group) -> bool
 
 // Where the first word of a group goes.
 fn address_of(area: Area, section: Section, g: Group) -> Absolute
-    requires { ⌜ (area .at .0 + area .size ≤ coreMost) × (InArea area section) × (Sized g) ⌝ }
+    requires { ⌜ Addressed area section g ⌝ }
     ensures { λ r. ⌜ r ≡ addressOf area section g ⌝ }
 {
     let at = g.at;

@@ -11,13 +11,13 @@ use Rattle.stage.specs.declared.Due.the-variants.{Segment, SegmentGroup, Sectio
 use Rattle.sections.specs.declared.items.Reading.{Reading}
 use Rattle.sections.specs.declared.items.Reading.the-variants.{Segment as segment-head, Section as section-head, Group}
 
--- a group with its section, the least number of a table section after it, and the IBANK
+-- a group with its section, and what that hands on
 unfoldable pub readingOf : Given → List ℕ → Due → Reading
 readingOf g l Segment = segment-head
-readingOf g l (SegmentGroup s) = Group (in-segment s) (record { 0 = 0 }) (s .ibank)
-readingOf g l (Section least ibank) = section-head least ibank
+readingOf g l (SegmentGroup s) = Group (in-segment s) (record { least = record { 0 = 0 }; ibank = s .ibank })
+readingOf g l (Section least ibank) = section-head (record { least = least; ibank = ibank })
 readingOf g l (SectionGroup t ibank) =
-    Group (in-table (coreTable g l (t .number .0)) (t .count)) (record { 0 = t .number .0 + 1 }) ibank
+    Group (in-table (coreTable g l (t .number .0)) (t .count)) (record { least = record { 0 = t .number .0 + 1 }; ibank = ibank })
 
 -- a table section's number is one of a table
 abbrev pub Numbered : Due → Type 0

@@ -8,6 +8,7 @@ ghost use Rattle.word.specs.Lists.{every};
 ghost use Rattle.lists.specs.Load.{coreTables, Readable};
 ghost use Rattle.sections.specs.Heads.{besideTable, banksFit, segmentStep, sectionStep};
 use crate::Item;
+use crate::Onward;
 use lists::Given;
 use program::Bank;
 use program::LAST_WORD;
@@ -45,21 +46,21 @@ pub fn section_head(
     g: Given,
     lists: &[u64],
     c: LabelCounts,
-    least: Reference,
-    ibank: Bank,
+    o: Onward,
     block: &[u64],
     i: usize,
 ) -> Item
     requires { ⌜ (Readable g (now lists)) × (length (now block) ≡ wordsInBlock) × (i ≤ lastWord) ⌝ }
-    ensures { λ r. ⌜ r ≡ sectionStep (coreTables g (now (lists .entry))) c (least .0) ibank (now (block .entry)) i ⌝ }
+    ensures { λ r. ⌜ r ≡ sectionStep (coreTables g (now (lists .entry))) c (o .least .0) (o .ibank) (now (block .entry)) i ⌝ }
 {
     match program::read_table_section(block[i]) {
         TableSectionRead::Good(t) => {
-            if t.number.0 < least.0 {
+            if t.number.0 < o.least.0 {
                 return Item::Stop(Step::Refused(Fault { number: 17 }));
             }
             if stage::section_fits(g, lists, t) {
                 let past = i + 1;
+                let ibank = o.ibank;
                 return Item::Go(one_fewer(c), Due::SectionGroup(t, ibank), past);
             }
             Item::Stop(Step::Refused(Fault { number: 17 }))

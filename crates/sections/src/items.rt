@@ -6,14 +6,15 @@ ghost use Rattle.lists.specs.Load.{loadOf, Readable};
 ghost use Rattle.sections.specs.Waits.{KeptWaits};
 ghost use Rattle.sections.specs.HowItems.{Numbered, readingOf};
 ghost use Rattle.sections.specs.Program.{afterLast, afterGroup, itemStep, programStep, ItemMeets, StepMeets};
+use crate::Awaited;
 use crate::Item;
+use crate::Onward;
 use crate::heads;
 use block::BLOCK_WORDS;
 use field::Assigned;
 use group::GroupStep;
 use group::Section;
 use lists::Given;
-use program::Bank;
 use program::LAST_WORD;
 use stage::Due;
 use stage::LabelCounts;
@@ -24,16 +25,15 @@ use word::Reference;
 // Where no identifier can stand any more.
 const PAST_ITEMS: usize = LAST_WORD + 1;
 
-// How the word at a place is read: as a section's head, or as the identifier of a group, with its section, the least number of a
-// table section after it and the IBANK.
+// How the word at a place is read: as a section's head, or as the identifier of a group, with its section.
 enum Reading {
     Segment,
-    Section(Reference, Bank),
-    Group(Section, Reference, Bank),
+    Section(Onward),
+    Group(Section, Onward),
 }
 
-// A program block for a load with these counts of its label, where due is due, into the core. The lent block is copied first (01, "blocks of 256 words
-// built with repeat arrays").
+// A program block for a load with these counts of its label, where due is due, into the core. The lent block is copied first (01,
+// "blocks of 256 words built with repeat arrays").
 pub fn program_step(
     g: Given,
     lists: &[u64],
@@ -69,7 +69,8 @@ fn walk_items(
         if block[i] == 0 {
             return Step::More(Stage::Program(counts, next));
         }
-        match item_step(g, lists, counts, next, block, i, core) {
+        let w = Awaited { counts, due: next };
+        match item_step(g, lists, w, block, i, core) {
             Item::Go(d, t, p) => {
                 counts = d;
                 next = t;
@@ -83,28 +84,22 @@ fn walk_items(
     Step::More(Stage::Program(counts, next))
 }
 
-// What stands at place i, where due is due. Groups of either section are read here, at one place, so that the compiler makes their
+// What stands at place i, where w is awaited. Groups of either section are read here, at one place, so that the compiler makes their
 // code once and for this place.
-fn item_step(
-    g: Given,
-    lists: &[u64],
-    c: LabelCounts,
-    due: Due,
-    block: &[u64],
-    i: usize,
-    core: &mut [u64],
-) -> Item
-    requires { ⌜ (KeptWaits g (now lists) (Stage.Program c due) (now block) (now core)) × (i ≤ lastWord) ⌝ }
-    ensures { λ r. ⌜ ItemMeets (itemStep (loadOf g (now (lists .entry))) c due (now (block .entry)) i (now (core .entry))) r (now (core .exit)) ⌝ }
+fn item_step(g: Given, lists: &[u64], w: Awaited, block: &[u64], i: usize, core: &mut [u64]) -> Item
+    requires { ⌜ (KeptWaits g (now lists) (Stage.Program (w .counts) (w .due)) (now block) (now core)) × (i ≤ lastWord) ⌝ }
+    ensures { λ r. ⌜ ItemMeets (itemStep (loadOf g (now (lists .entry))) (w .counts) (w .due) (now (block .entry)) i (now (core .entry))) r (now (core .exit)) ⌝ }
 {
+    let c = w.counts;
+    let due = w.due;
     match reading_of(g, lists, due) {
         Reading::Segment => heads::segment_head(g, lists, c, block, i),
-        Reading::Section(t, b) => heads::section_head(g, lists, c, t, b, block, i),
-        Reading::Group(section, least, ibank) => {
+        Reading::Section(o) => heads::section_head(g, lists, c, o, block, i),
+        Reading::Group(section, o) => {
             let channels = c.channels;
             let set = Assigned { given: g, channels };
             let r = group::group_step(set, section, lists, block, i, core);
-            after_group(c, due, least, ibank, r)
+            after_group(c, due, o, r)
         }
     }
 }
@@ -118,27 +113,29 @@ fn reading_of(g: Given, lists: &[u64], due: Due) -> Reading
         Due::Segment => Reading::Segment,
         Due::SegmentGroup(segment) => {
             let ibank = segment.ibank;
-            Reading::Group(Section::Segment(segment), Reference(0), ibank)
+            let least = Reference(0);
+            Reading::Group(Section::Segment(segment), Onward { least, ibank })
         }
-        Due::Section(t, ibank) => Reading::Section(t, ibank),
+        Due::Section(least, ibank) => Reading::Section(Onward { least, ibank }),
         Due::SectionGroup(t, ibank) => {
             let number = t.number;
             let count = t.count;
             let table = lists::load::core_table(g, lists, number);
             let above = number.0 + 1;
-            Reading::Group(Section::Table(table, count), Reference(above), ibank)
+            let least = Reference(above);
+            Reading::Group(Section::Table(table, count), Onward { least, ibank })
         }
     }
 }
 
 // What is due after a group: a group of the same section, or what follows the section's last one.
-fn after_group(c: LabelCounts, same: Due, least: Reference, ibank: Bank, r: GroupStep) -> Item
-    ensures { λ it. ⌜ it ≡ afterGroup c same (least .0) ibank r ⌝ }
+fn after_group(c: LabelCounts, same: Due, o: Onward, r: GroupStep) -> Item
+    ensures { λ it. ⌜ it ≡ afterGroup c same (o .least .0) (o .ibank) r ⌝ }
 {
     match r {
         GroupStep::Done(p, last) => {
             if last {
-                return after_last(c, least, ibank, p);
+                return after_last(c, o, p);
             }
             Item::Go(c, same, p)
         }
@@ -146,10 +143,12 @@ fn after_group(c: LabelCounts, same: Due, least: Reference, ibank: Bank, r: Grou
     }
 }
 
-// What is due after a section: a table section whose number is at least `least`, or after the last one the termination block.
-fn after_last(c: LabelCounts, least: Reference, ibank: Bank, p: usize) -> Item
-    ensures { λ it. ⌜ it ≡ afterLast c (least .0) ibank p ⌝ }
+// What is due after a section: a table section, or after the last one the termination block.
+fn after_last(c: LabelCounts, o: Onward, p: usize) -> Item
+    ensures { λ it. ⌜ it ≡ afterLast c (o .least .0) (o .ibank) p ⌝ }
 {
+    let least = o.least;
+    let ibank = o.ibank;
     if c.sections == 0 {
         return Item::Stop(Step::More(Stage::Termination(ibank)));
     }

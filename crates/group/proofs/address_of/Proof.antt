@@ -15,8 +15,9 @@ enum-known-section : tie.Need-enum-known-section
 enum-known-section c = search needs
 
 from-table-requires : tie.Need-from-table-requires
-from-table-requires c κs = let r = rw (c .before .before .section .given .1) at (c .before .before .before .before .before .pre .1) in
-    omega (arith, r .0, r .1, r .2, c .before .before .before .before .before .pre .0, c .before .before .before .before .before .pre .2 .at)
+from-table-requires c κs = let p = c .before .before .before .before .before .pre in
+    let r = rw (c .before .before .section .given .1) at (p .room) in
+    omega (arith, r .0, r .1, r .2, p .inside, p .sized .at)
 
 returns : tie.Need-returns
 unfolding addressOf

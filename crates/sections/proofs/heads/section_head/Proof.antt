@@ -33,9 +33,9 @@ add-past c = search needs
 
 returns-2 : tie.Need-returns-2
 unfolding sectionStep withSection
-returns-2 c = let f = c .before .before in
+returns-2 c = let f = c .before .before .before in
     let m = f .before .before .before .before .before in
-    rw (← m .before .before .read-table-section .ensures, m .t .given .1, le-leb _ _ (f .before .if1 .left), ← f .section-fits .ensures, c .before .if2 .taken, c .one-fewer .ensures)
+    rw (← m .before .before .read-table-section .ensures, m .t .given .1, le-leb _ _ (f .before .if1 .left), ← f .section-fits .ensures, c .before .before .if2 .taken, c .one-fewer .ensures)
 
 enum-known-f : tie.Need-enum-known-f
 enum-known-f c = search needs
