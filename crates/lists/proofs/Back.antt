@@ -21,11 +21,6 @@ pub lent-start : (l vs ws : List ℕ) (n : ℕ) → ws ≡ splice l 0 vs → n �
 unfolding range
 lent-start l vs ws n e k h = rw (e, k) (range-splice-same l 0 vs (omega arith))
 
-pub numbers-lent : (l ios ws : List ℕ) → ws ≡ splice l 0 (numbersKept ios) → length ios ≤ 128 → 32 ≤ length l
-    → take ((length ios + 3) / 4) ws ≡ numbersKept ios
-numbers-lent l ios ws e h k =
-    let n = numbers-kept-length ios in lent-start l (numbersKept ios) ws ((length ios + 3) / 4) e (sym n) (omega arith)
-
 module _ (area : Area) (ios tables l : List ℕ) (small : area .at .0 + area .size ≤ 65536) (obey : listsObey area ios tables ≡ true)
     (long : length l ≡ listWords) where
   abbrev numbers : List ℕ

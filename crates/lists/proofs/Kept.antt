@@ -32,25 +32,25 @@ numbers-at ws n k h = getD-tab (numberIn ws) n k 0 h
 pub numbers-past : (ws : List ℕ) (n k : ℕ) → n ≤ k → getD (numbersIn ws n) k 0 ≡ 0
 numbers-past ws n k h = let e = numbers-length ws n in List·getD-eq-default (numbersIn ws n) 0 (omega arith)
 
-pub number-below : (ws : List ℕ) (k : ℕ) → numberIn ws k < 2 ^ 16
+io-below : (ws : List ℕ) (k : ℕ) → numberIn ws k < 2 ^ 16
 unfolding numberIn
-number-below ws k = part-below (16 * (k % 4)) 16 (getD ws (k / 4) 0)
+io-below ws k = part-below (16 * (k % 4)) 16 (getD ws (k / 4) 0)
 
 -- refusal 8, "an I/O number over 65,535": none is read, whatever is kept
 pub numbers-obey : (ws : List ℕ) (n : ℕ) → every isIoNumber (numbersIn ws n) ≡ true
 numbers-obey ws n =
     every-by 0 isIoNumber (numbersIn ws n)
-    (λ i h. let e = numbers-length ws n in rw (numbers-at ws n i (omega arith)) (lt-ltb (numberIn ws i) (2 ^ 16) (number-below ws i)))
+    (λ i h. let e = numbers-length ws n in rw (numbers-at ws n i (omega arith)) (lt-ltb (numberIn ws i) (2 ^ 16) (io-below ws i)))
 
 -- core tables
-abbrev pub Small : Table → Type 0
-Small t = (t .at .0 < 2 ^ 24) × (t .len < 2 ^ 20)
+abbrev pub SmallTable : Table → Type 0
+SmallTable t = (t .at .0 < 2 ^ 24) × (t .len < 2 ^ 20)
 
-of-below : (w : ℕ) → Small (tableOf w)
+of-below : (w : ℕ) → SmallTable (tableOf w)
 unfolding tableOf
 of-below w = (part-below 40 24 w, part-below 0 20 w)
 
-empty-below : (area : Area) (a : ℕ) → area .at .0 + area .size < 2 ^ 24 → Small (emptyIn area a)
+empty-below : (area : Area) (a : ℕ) → area .at .0 + area .size < 2 ^ 24 → SmallTable (emptyIn area a)
 unfolding emptyIn
 empty-below area a h =
     let s = says-within a 0 (area .at .0) (area .size) in (
@@ -70,11 +70,11 @@ module _ (area : Area) (ws rs : List ℕ) where
   tables-at k d h = getD-tab (tableAt area ws rs) (length rs) k d h
 
   -- where the area ends below 2^24, no table starts or ends so far up that a sum with it could wrap
-  pub table-below : (k : ℕ) → area .at .0 + area .size < 2 ^ 24 → Small (tableAt area ws rs k)
+  pub table-below : (k : ℕ) → area .at .0 + area .size < 2 ^ 24 → SmallTable (tableAt area ws rs k)
   unfolding tableAt tableBy
   table-below k h =
       let r = getD rs k 0 in
       let w = getD ws (rankIn r) 0 in
-      both Small (ltb (rankIn r) (length ws))
-      (both Small (eqb (tableNumberIn w) k) (of-below w) (empty-below area (awayIn r) h))
+      both SmallTable (ltb (rankIn r) (length ws))
+      (both SmallTable (eqb (tableNumberIn w) k) (of-below w) (empty-below area (awayIn r) h))
       (empty-below area (awayIn r) h)

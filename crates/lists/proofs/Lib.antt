@@ -7,6 +7,7 @@ pub mod Lent
 pub mod Exact
 pub mod Numbers
 pub mod Ranks
+pub mod Ranking
 pub mod Keep
 pub mod Back
 pub mod Take

@@ -11,7 +11,7 @@ use Rattle.lists.specs.declared.Given.{Given}
 use Rattle.lists.specs.declared.Table.{Table}
 use Rattle.lists.specs.Load.{iosIn, wordsIn, ranksIn, coreTable, coreTables, ioNumbers, ranksPlace, Readable}
 use Rattle.lists.specs.Obey.{isIoNumber}
-use Rattle.lists.proofs.Kept.{Small, numbers-length, numbers-obey, tables-length, tables-at, table-below}
+use Rattle.lists.proofs.Kept.{SmallTable, numbers-length, numbers-obey, tables-length, tables-at, table-below}
 
 module _ (g : Given) (l : List ℕ) where
   pub io-length : length (ioNumbers g l) ≡ g .io
@@ -37,6 +37,6 @@ module _ (g : Given) (l : List ℕ) where
         let e = ranks-length in
         tables-at (g .area) (wordsIn l (g .kept)) (ranksIn l (g .tables)) k d (omega arith)
 
-    pub core-below : (k : ℕ) → Small (coreTable g l k)
+    pub core-below : (k : ℕ) → SmallTable (coreTable g l k)
     unfolding coreTable
     core-below k = table-below (g .area) (wordsIn l (g .kept)) (ranksIn l (g .tables)) k (omega arith)

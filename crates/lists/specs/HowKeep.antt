@@ -25,12 +25,12 @@ fourFrom ios i =
     + getD ios (4 * i + 2) 0 % 2 ^ 16 * 2 ^ 32
     + getD ios (4 * i + 3) 0 % 2 ^ 16 * 2 ^ 48
 
--- the words that are kept; and those of them that are full
+-- the first n such words; and those that are kept, with zeros where a word has room for more numbers than there are
+unfoldable pub foursKept : List ℕ → ℕ → List ℕ
+foursKept ios n = tab (fourFrom ios) n
+
 unfoldable pub numbersKept : List ℕ → List ℕ
 numbersKept ios = tab (fourFrom ios) ((length ios + 3) / 4)
-
-unfoldable pub foursKept : List ℕ → List ℕ
-foursKept ios = tab (fourFrom ios) (length ios / 4)
 
 -- ---- tables
 -- table k as a word: its address in bits 63-40, its number in bits 39-20, its length in bits 19-0
@@ -67,8 +67,8 @@ ranked p (w ∷ ws) rs = ranked (suc p) ws (set rs (tableNumberIn w) p)
 unfoldable pub ranksKept : List Table → List ℕ
 ranksKept ts = ranked 0 (wordsKept ts) (map awayRank ts)
 
--- ---- how a call takes the lists: as many words are kept as it says for the tables, or refusal 8 is due. The words stand at the start of the
--- stretch ws wherever each entry obeys by itself, and what follows in it is as it was
+-- ---- how a call takes the lists: as many words are kept as it says for the tables, or refusal 8 is due. The words stand at the
+-- start of the stretch ws wherever each entry obeys by itself, and what follows in it is as it was
 unfoldable pub listsTaken : Area → List ℕ → List ℕ → Taken
 listsTaken area ios tables = cond (listsObey area ios tables) (Words (length (wordsKept (tablesOf tables)))) Nothing
 
@@ -76,8 +76,8 @@ pub record TakesLists (area : Area) (ios tables ws : List ℕ) (r : Taken) (ws�
   pub told : r ≡ listsTaken area ios tables
   pub words : ws′ ≡ cond (entriesObey area ios tables) (splice ws 0 (wordsKept (tablesOf tables))) ws
 
--- ---- how a call keeps the ranks: the words are those that are kept for the tables ts, and among the ranks rs there is room for one
--- of each
+-- ---- how a call keeps the ranks: the words are those that are kept for the tables ts, and among the ranks rs there is room for
+-- one of each
 pub record Ranking (ts : List Table) (words rs : List ℕ) : Type 0 where
   pub room : every hasRoom ts ≡ true
   pub few : length ts ≤ tablesMost

@@ -1,5 +1,5 @@
--- What a load was given at open, and how it stands in the numbers that the desk keeps of its lists: 32 for the I/O numbers, four to a
--- word; 128 for the kept words of its tables; 128 for the tables' ranks. A further list would stand after these.
+-- What a load was given at open, and how it stands in the numbers that the desk keeps of its lists: 32 for the I/O numbers, four
+-- to a word; 128 for the kept words of its tables; 128 for the tables' ranks. A further list would stand after these.
 use Prim.Native.Nat.{ℕ, _+_, _≤_}
 use mathlib.Core.Path.{_≡_}
 use mathlib.Core.Bool.{true}

@@ -2,10 +2,10 @@
 ghost use mathlib.Core.Path.{_≡_};
 ghost use mathlib.Core.Bool.{true};
 ghost use mathlib.Core.List.{map};
-ghost use Prim.Native.Nat.{_+_, _*_, _/_, _≤_, _<_, _^_};
+ghost use Prim.Native.Nat.{_+_, _*_, _/_, _≤_, _<_};
 ghost use lib.ListN.{length};
 ghost use Rattle.word.specs.Lists.{every, splice};
-ghost use Rattle.lists.specs.HowKeep.{fourFrom, foursKept, numbersKept, hasRoom, awayRank, ranked, ranksKept, Ranking};
+ghost use Rattle.lists.specs.HowKeep.{fourFrom, foursKept, hasRoom, awayRank, ranked, ranksKept, Ranking};
 ghost use Rattle.lists.specs.Obey.{tablesOf};
 ghost use Rattle.lists.specs.HowTaking.{numberBelow};
 use crate::AWAY;
@@ -18,17 +18,16 @@ use crate::SECOND;
 use crate::THIRD;
 use crate::tables;
 
-// Keeps the numbers of the lent list at the start of out, four to a word.
-pub fn keep_numbers(ios: &[u64], out: &mut [u64])
-    requires { ⌜ (length (now ios) + 3) / 4 ≤ length (now out) ⌝ }
-    ensures { λ _. ⌜ now (out .exit) ≡ splice (now (out .entry)) 0 (numbersKept (now (ios .entry))) ⌝ }
+// Keeps the first n fours of the numbers at the start of out, each in one word.
+pub fn keep_numbers(numbers: &[u64], n: usize, out: &mut [u64])
+    requires { ⌜ (4 * n ≤ length (now numbers)) × (n ≤ length (now out)) ⌝ }
+    ensures { λ _. ⌜ now (out .exit) ≡ splice (now (out .entry)) 0 (foursKept (now (numbers .entry)) n) ⌝ }
 {
-    let n = ios.len() / 4;
-    keep_fours(ios, out);
-    if ios.len() % 4 == 0 {
-        return;
+    let mut i: usize = 0;
+    while i < n {
+        out[i] = four_numbers(numbers, i);
+        i += 1;
     }
-    out[n] = four_numbers(ios, n);
 }
 
 // Keeps the ranks of the tables of the lent list at the start of ranks; words are those that are kept for them. Where no table is
@@ -45,40 +44,15 @@ pub fn keep_ranks(tables: &[u64], words: &[u64], ranks: &mut [u64])
     rank_words(words, ranks);
 }
 
-// The numbers of the lent list that fill words, at the start of out.
-fn keep_fours(ios: &[u64], out: &mut [u64])
-    requires { ⌜ length (now ios) / 4 ≤ length (now out) ⌝ }
-    ensures { λ _. ⌜ now (out .exit) ≡ splice (now (out .entry)) 0 (foursKept (now (ios .entry))) ⌝ }
+// Numbers 4 i to 4 i + 3 in one word, the first lowest.
+fn four_numbers(numbers: &[u64], i: usize) -> u64
+    requires { ⌜ 4 * i + 3 < length (now numbers) ⌝ }
+    ensures { λ r. ⌜ r ≡ fourFrom (now (numbers .entry)) i ⌝ }
 {
-    let n = ios.len() / 4;
-    let mut i: usize = 0;
-    while i < n {
-        out[i] = full_four(ios, i);
-        i += 1;
-    }
-}
-
-// Numbers 4 i to 4 i + 3 of the lent list, which has them, in one word, the first lowest.
-fn full_four(ios: &[u64], i: usize) -> u64
-    requires { ⌜ 4 * i + 3 < length (now ios) ⌝ }
-    ensures { λ r. ⌜ r ≡ fourFrom (now (ios .entry)) i ⌝ }
-{
-    let a = ios[4 * i] % IO_LIMIT;
-    let b = ios[4 * i + 1] % IO_LIMIT;
-    let c = ios[4 * i + 2] % IO_LIMIT;
-    let d = ios[4 * i + 3] % IO_LIMIT;
-    a + b * SECOND + c * THIRD + d * FOURTH
-}
-
-// The same, with 0 for each that the list has not.
-fn four_numbers(ios: &[u64], i: usize) -> u64
-    requires { ⌜ 4 * i + 3 < 2 ^ 64 ⌝ }
-    ensures { λ r. ⌜ r ≡ fourFrom (now (ios .entry)) i ⌝ }
-{
-    let a = word::word_at(ios, 4 * i) % IO_LIMIT;
-    let b = word::word_at(ios, 4 * i + 1) % IO_LIMIT;
-    let c = word::word_at(ios, 4 * i + 2) % IO_LIMIT;
-    let d = word::word_at(ios, 4 * i + 3) % IO_LIMIT;
+    let a = numbers[4 * i] % IO_LIMIT;
+    let b = numbers[4 * i + 1] % IO_LIMIT;
+    let c = numbers[4 * i + 2] % IO_LIMIT;
+    let d = numbers[4 * i + 3] % IO_LIMIT;
     a + b * SECOND + c * THIRD + d * FOURTH
 }
 

@@ -7,6 +7,7 @@ use crate::Given;
 use crate::Table;
 use word::Area;
 use word::Reference;
+use word::limits::IO_MOST;
 use word::limits::TABLES_MOST;
 
 // The places of the I/O numbers, of the kept words and of the ranks, and how many numbers there are in all.
@@ -18,14 +19,15 @@ const RANKS: usize = WORDS + TABLES_MOST;
 
 pub const LISTS: usize = RANKS + TABLES_MOST;
 
-// Keeps the lists that are lent to open, whose tables' kept words are these.
+// Keeps the lists that are lent to open, whose tables' kept words are these. The I/O numbers are taken into a list of 128 first
+// (01, "Reference lists of 128 numbers .. built with repeat arrays"), with zeros past the last, so that every four is a full one.
 pub fn keep_lists(area: Area, ios: &[u64], tables: &[u64], words: &[u64], lists: &mut [u64])
     requires { ⌜ Keepable area (now ios) (now tables) (now words) (now lists) ⌝ }
     ensures { λ _. ⌜ now (lists .exit) ≡ keptLists (now (ios .entry)) (now (tables .entry)) (now (lists .entry)) ⌝ }
 {
-    let mut numbers = [0u64; IO_WORDS];
-    crate::keeping::keep_numbers(ios, &mut numbers);
-    word::slices::copy_in(lists, 0, &numbers[..(ios.len() + 3) / 4]);
+    let mut numbers = [0u64; IO_MOST];
+    word::slices::copy_in(&mut numbers, 0, ios);
+    crate::keeping::keep_numbers(&numbers, (ios.len() + 3) / 4, lists);
     word::slices::copy_in(lists, WORDS, words);
     crate::keeping::keep_ranks(tables, words, &mut lists[RANKS..LISTS]);
 }
