@@ -38,7 +38,9 @@ pub extern "C" fn clamp_open(
     io: &[u64],
     tables: &[u64],
 ) -> u64
-    ensures { λ r. ⌜ Returned (openOf (now (desk .entry)) (now (core .entry)) room (record { at = record { 0 = area }; size = size }) (now (io .entry)) (now (tables .entry))) r (now (desk .exit)) (now (core .exit)) ⌝ }
+    ensures { λ r. ⌜ Returned (openOf (now (desk .entry)) (now (core .entry)) room
+        (record { at = record { 0 = area }; size = size }) (now (io .entry)) (now (tables .entry)))
+        r (now (desk .exit)) (now (core .exit)) ⌝ }
 {
     let a = Area {
         at: Absolute(area),
@@ -64,7 +66,8 @@ pub extern "C" fn clamp_feed(
     place: u64,
     block: &[u64],
 ) -> u64
-    ensures { λ r. ⌜ Returned (feedOf (now (desk .entry)) (now (core .entry)) room place (now (block .entry))) r (now (desk .exit)) (now (core .exit)) ⌝ }
+    ensures { λ r. ⌜ Returned (feedOf (now (desk .entry)) (now (core .entry)) room place (now (block .entry)))
+        r (now (desk .exit)) (now (core .exit)) ⌝ }
 {
     calls::pack(feed::feed_block(desk, core, room, place, block))
 }

@@ -1,7 +1,6 @@
--- `clamp::clamp_feed` meets its contract: each return by the tests that led to it.
-use mathlib.Core.Path.{ap, _∙_}
-use Rattle.calls.specs.Answer.{packed}
+-- `clamp::clamp_feed` meets its contract: what the call leaves, packed.
 use Rattle.feed.proofs.Fed.{feed-small}
+use Rattle.clamp.proofs.Returned.{packed-returned}
 use borrow.Author.Needs.{needs}
 use Rattle.clamp.proofs.clamp_feed.Statement.{statement}
 use Rattle.clamp.proofs.clamp_feed.Tie as tie
@@ -19,9 +18,7 @@ same-length-2 : tie.Need-same-length-2
 same-length-2 c = search needs
 
 returns : tie.Need-returns
-returns c =
-    let m = c .before .before .before .before .before .feed-block .ensures in
-    record { number = c .pack .ensures ∙ ap packed (m .told); desk-left = m .desk-left; core-left = m .core-left }
+returns c = packed-returned _ _ _ _ _ (c .before .before .before .before .before .feed-block .ensures) (c .pack .ensures)
 
 pub clamp-feed-spec : {M : Type 1} → statement M
 clamp-feed-spec = tie.close (tie.spec feed-block-requires pack-requires same-length same-length-2 returns)

@@ -1,8 +1,7 @@
--- `clamp::clamp_make` meets its contract: each return by the tests that led to it.
+-- `clamp::clamp_make` meets its contract: what the call leaves, packed.
 use denote.Ref.{now}
-use mathlib.Core.Path.{ap, _∙_}
-use Rattle.calls.specs.Answer.{packed}
 use Rattle.calls.proofs.Made.{make-small}
+use Rattle.clamp.proofs.Returned.{packed-returned}
 use borrow.Author.Needs.{needs}
 use Rattle.clamp.proofs.clamp_make.Statement.{statement}
 use Rattle.clamp.proofs.clamp_make.Tie as tie
@@ -17,9 +16,7 @@ same-length : tie.Need-same-length
 same-length c = search needs
 
 returns : tie.Need-returns
-returns c =
-    let m = c .before .before .before .make-desk .ensures in
-    record { number = c .pack .ensures ∙ ap packed (m .told); desk-left = m .desk-left; core-left = m .core-left }
+returns c = packed-returned _ _ _ _ _ (c .before .before .before .make-desk .ensures) (c .pack .ensures)
 
 pub clamp-make-spec : {M : Type 1} → statement M
 clamp-make-spec = tie.close (tie.spec make-desk-requires pack-requires same-length returns)

@@ -1,8 +1,7 @@
--- `clamp::clamp_open` meets its contract: each return by the tests that led to it.
-use mathlib.Core.Path.{ap, _∙_}
+-- `clamp::clamp_open` meets its contract: what the call leaves, packed.
 use denote.Ref.{now}
-use Rattle.calls.specs.Answer.{packed}
 use Rattle.calls.proofs.Opened.{open-small}
+use Rattle.clamp.proofs.Returned.{packed-returned}
 use borrow.Author.Needs.{needs}
 use Rattle.clamp.proofs.clamp_open.Statement.{statement}
 use Rattle.clamp.proofs.clamp_open.Tie as tie
@@ -22,9 +21,7 @@ same-length-2 : tie.Need-same-length-2
 same-length-2 c = search needs
 
 returns : tie.Need-returns
-returns c =
-    let m = c .before .before .before .before .before .open-load .ensures in
-    record { number = c .pack .ensures ∙ ap packed (m .told); desk-left = m .desk-left; core-left = m .core-left }
+returns c = packed-returned _ _ _ _ _ (c .before .before .before .before .before .open-load .ensures) (c .pack .ensures)
 
 pub clamp-open-spec : {M : Type 1} → statement M
 clamp-open-spec =
