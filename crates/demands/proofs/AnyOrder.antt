@@ -40,4 +40,4 @@ demand-3-images image orders o between es fs a others grant stays safe done same
     run-on between (fedEvents fs) t ∙ run-feeds fs m ∙ sym (orders m es fs same .0) ∙ sym (run-feeds es m)
     ∙ sym (run-on between (fedEvents es) t) in
     ap (areaWords o) e
-    ∙ image o (between ++ fedEvents es) a others grant stays (every-on _ between (fedEvents es) safe (feeds-safe o es)) done .0
+    ∙ image o (between ++ fedEvents es) a others grant stays (every-on _ between (fedEvents es) safe (feeds-safe o es)) done

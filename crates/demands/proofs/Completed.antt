@@ -21,7 +21,7 @@ demand-2 o es a others grant stays safe done =
     let x : Load = record { area = o .area; tables = tablesOf (o .tables); ios = o .ios } in
     let y = lives (o .room) (o .place) x a others es (afterOpen o) (afterOpen o .core) Label
     (b .ready) (b .holder) (b .load) (b .stage) (b .inside) (λ j h e. refl) safe stays done in
-    (y .area ∙ image-is x (afterOpen o .core) (y .left) _ (b .inside) (b .tables-inside) (b .zeros) (y .takes), (y .start, y .once))
+    y .area ∙ image-is x (afterOpen o .core) (y .left) _ (b .inside) (b .tables-inside) (b .zeros) (y .takes)
 
 pub demand-2-area : Demand2Area
 unfolding loadIn ownOf

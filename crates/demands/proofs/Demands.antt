@@ -3,7 +3,8 @@ use Rattle.feed.proofs.Blocked.{block-laws}
 use Rattle.feed.proofs.Fed.{feed-sound}
 use Rattle.demands.specs.Demands.{Demand1One, Demand1Number, Demand1Unchanged, Demand1Broken, Demand1Sound, Demand1Blind}
 use Rattle.demands.specs.Demands.{Demand1Words}
-use Rattle.demands.specs.Demands.{Demand2, Demand2Alone, Demand2Area, Demand2Outside, Demand3Orders, Demand3Turns}
+use Rattle.demands.specs.Demands.{Demand2, Demand2Start, Demand2Alone, Demand2Area, Demand2Outside, Demand3Orders}
+use Rattle.demands.specs.Demands.{Demand3Turns}
 use Rattle.demands.specs.Demands.{Demand3Images}
 use Rattle.demands.specs.Demands.{Demand3Rooms}
 use Rattle.demands.proofs.Refused as refused
@@ -11,6 +12,7 @@ use Rattle.demands.proofs.Ready as ready
 use Rattle.demands.proofs.Blind as blind
 use Rattle.demands.proofs.Completed as completed
 use Rattle.demands.proofs.Alone as alone
+use Rattle.demands.proofs.Starting as starting
 use Rattle.demands.proofs.Untouched as untouched
 use Rattle.demands.proofs.Frames as frames
 use Rattle.demands.proofs.AnyOrder as any-order
@@ -39,6 +41,9 @@ demand-1-words = ready.words-stored
 
 pub demand-2 : Demand2
 demand-2 = completed.demand-2
+
+pub demand-2-start : Demand2Start
+demand-2-start = starting.demand-2-start
 
 pub demand-2-alone : Demand2Alone
 demand-2-alone = alone.demand-2-alone

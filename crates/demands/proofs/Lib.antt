@@ -21,6 +21,7 @@ pub mod Calls
 pub mod Feeds
 pub mod Kept
 pub mod Alone
+pub mod Starting
 pub mod Lives
 pub mod Begun
 pub mod Completed

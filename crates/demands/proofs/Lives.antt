@@ -1,5 +1,5 @@
 -- A load's life, seen from what happens: where it is answered `done`, it took its blocks as it would by itself.
-use Prim.Native.Nat.{ℕ, suc, _+_, _-_, _≤_, _<_}
+use Prim.Native.Nat.{ℕ, _+_, _≤_, _<_}
 use mathlib.Core.Path.{_≡_, refl, sym, ap, subst, _∙_}
 use mathlib.Core.Bool.{true, false, _&&_}
 use mathlib.Core.List.{List, [], _∷_}
@@ -25,7 +25,6 @@ use Rattle.feed.specs.Feed.{loadIn, staged, settledOf, takenOf, feedOf}
 use Rattle.feed.proofs.Blocked.{block-laws}
 use Rattle.group.proofs.Acts.{Alike}
 use Rattle.feed.proofs.Laws.{FitToFeed, Holds}
-use Rattle.demands.specs.Image.{lastBlock, fileStart}
 use Rattle.demands.specs.Orders.{run}
 use Rattle.demands.specs.History.{State, answerTo, call, Event, event, told, takenIn, taken, startsIn, starts, isGone}
 use Rattle.demands.specs.History.{harmless}
@@ -40,27 +39,10 @@ use Rattle.demands.proofs.Ready.{event-gone, event-ready}
 use Rattle.demands.proofs.Feeds.{cond-same, place-of, all-head, all-tail, sort-event, Quiet, quiet}
 
 -- ---- a load that is answered `done`: what it would take by itself, from waiting for g with the core as it is
-pub record Ends (x : Load) (g : Stage) (core : List ℕ) (file : List (List ℕ)) (s : State) (a : Absolute)
-    (others : List Absolute) : Type 0 where
+pub record Ends (x : Load) (g : Stage) (core : List ℕ) (file : List (List ℕ)) (s : State) : Type 0 where
   pub left : List ℕ
   pub takes : Takes x g core file Complete left
   pub area : range (s .core) (x .area .at .0) (x .area .size) ≡ range left (x .area .at .0) (x .area .size)
-  pub some : 0 < length file
-  pub start : a ≡ fileStart (x .area) file
-  pub once : others ≡ []
-
-last-later : (b : List ℕ) (file : List (List ℕ)) → 0 < length file → lastBlock (b ∷ file) ≡ lastBlock file
-last-later b [] h = absurd (omega arith)
-last-later b (f ∷ file) h =
-    let e : suc (suc (length file)) - 1 ≡ suc (suc (length file) - 1) = omega arith in rw e
-
-abbrev first-of : (d : Absolute) → List Absolute → Absolute
-first-of d [] = d
-first-of d (x ∷ xs) = x
-
-abbrev rest-of : List Absolute → List Absolute
-rest-of [] = []
-rest-of (x ∷ xs) = xs
 
 module _ (r p : ℕ) (x : Load) (a : Absolute) (others : List Absolute) where
   abbrev Life : List Event → Type 0
@@ -68,7 +50,7 @@ module _ (r p : ℕ) (x : Load) (a : Absolute) (others : List Absolute) where
       (s : State) (core : List ℕ) (g : Stage) → Prepared s → holderOf (placeIn (s .desk) p) ≡ r + 1
       → loadIn (placeIn (s .desk) p) ≡ x → stageIn (placeIn (s .desk) p) ≡ g → Holds x core → Alike (x .area) (s .core) core
       → every (harmless r p (x .area)) es ≡ true → isGone r p (told es s) ≡ false → starts r p (told es s) ≡ a ∷ others
-      → Ends x g core (taken r p (told es s)) (run event es s) a others
+      → Ends x g core (taken r p (told es s)) (run event es s)
 
   -- the block is taken
   module _ (es : List Event) (next : Life es) (s : State) (core : List ℕ) (g : Stage) (k : Prepared s)
@@ -126,7 +108,7 @@ module _ (r p : ℕ) (x : Load) (a : Absolute) (others : List Absolute) where
         isGone r p (told es (leftBy o)) ≡ false
         → startsIn r p (Feed r p block) (o .answer) (starts r p (told es (leftBy o))) ≡ a ∷ others
         → Ends x g core (takenIn r p (Feed r p block) (o .answer) (taken r p (told es (leftBy o))))
-        (run event es (leftBy o)) a others
+        (run event es (leftBy o))
 
     -- the place with another stage, and any core
     module _ (t : Stage) (m : List ℕ) (ready : Prepared (record { desk = staged (s .desk) p t; core = m })) where
@@ -144,7 +126,7 @@ module _ (r p : ℕ) (x : Load) (a : Absolute) (others : List Absolute) where
       quiet-n o q = quiet r p (x .area) es n ready holder-n area-n (rw (staged-stage (s .desk) (k .desk) p in-p t) o) safe q
 
       next-n : Holds x alone → Alike (x .area) m alone → isGone r p (told es n) ≡ false → starts r p (told es n) ≡ a ∷ others
-          → Ends x t alone (taken r p (told es n)) (run event es n) a others
+          → Ends x t alone (taken r p (told es n)) (run event es n)
       next-n h z =
           next n alone t ready holder-n (staged-load (s .desk) (k .desk) p in-p t ∙ lx)
           (staged-stage (s .desk) (k .desk) p in-p t) h z safe
@@ -159,31 +141,25 @@ module _ (r p : ℕ) (x : Load) (a : Absolute) (others : List Absolute) where
     alone-says : (g′ : Step) → Says g′ → blockStep x g block core .step ≡ g′
     alone-says g′ e = block-laws .same-step x g block core (s .core) fit hc inside ∙ e
 
-    more-ends : (t : Stage) (m : State) → Says (step-more t) → Ends x t alone (taken r p (told es m)) (run event es m) a others
-        → Ends x g core (takenIn r p (Feed r p block) More (taken r p (told es m))) (run event es m) a others
+    more-ends : (t : Stage) (m : State) → Says (step-more t) → Ends x t alone (taken r p (told es m)) (run event es m)
+        → Ends x g core (takenIn r p (Feed r p block) More (taken r p (told es m))) (run event es m)
     unfolding Takes
     more-ends t m e y =
         rw (eq-eqb r r refl, eq-eqb p p refl) (record {
           left = y .left;
           takes = (over, rw (alone-says (step-more t) e) (y .takes));
           area = y .area;
-          some = omega arith;
-          start = y .start ∙ rw (last-later block (taken r p (told es m)) (y .some));
-          once = y .once;
         })
 
-    done-ends : (b : Absolute) (m : State) → Says (step-done b) → taken r p (told es m) ≡ [] → a ≡ b → others ≡ []
+    done-ends : (b : Absolute) (m : State) → Says (step-done b) → taken r p (told es m) ≡ []
         → range (run event es m .core) (x .area .at .0) (x .area .size) ≡ range after (x .area .at .0) (x .area .size)
-        → Ends x g core (takenIn r p (Feed r p block) (Done b) (taken r p (told es m))) (run event es m) a others
+        → Ends x g core (takenIn r p (Feed r p block) (Done b) (taken r p (told es m))) (run event es m)
     unfolding Takes
-    done-ends b m e q i o w =
+    done-ends b m e q w =
         rw (eq-eqb r r refl, eq-eqb p p refl, q) (record {
           left = alone;
           takes = (over, rw (alone-says (step-done b) e) (refl, refl));
           area = w ∙ words-alike;
-          some = omega arith;
-          start = i ∙ block-laws .starts x g block (s .core) b e;
-          once = o;
         })
 
     ending : (g′ : Step) → Says g′ → Prepared (leftBy (settledOf (s .desk) (s .core) p (x .area) g′ after))
@@ -193,9 +169,7 @@ module _ (r p : ℕ) (x : Load) (a : Absolute) (others : List Absolute) where
         more-ends t _ e (next-n t after y alone-holds after-alike q (sym (cond-same (eqb r r && eqb p p) _) ∙ z))
     ending (step-done b) e y q z =
         let n = quiet-n Complete after y (unfold isOver in refl) q in
-        let st : b ∷ starts r p (told es (record { desk = staged (s .desk) p Complete; core = after })) ≡ a ∷ others =
-        rw (eq-eqb r r refl, eq-eqb p p refl) at z in
-        done-ends b _ e (n .none) (sym (ap (first-of a) st)) (sym (ap rest-of st) ∙ n .no-start) (words-n Complete after y n)
+        done-ends b _ e (n .none) (words-n Complete after y n)
     ending (step-refused f) e y q z =
         let n = quiet-n Broken _ y (unfold isOver in refl) q in
         absurd (omega (arith, ap length (sym (n .no-start) ∙ sym (cond-same (eqb r r && eqb p p) _) ∙ z)))
@@ -207,7 +181,7 @@ module _ (r p : ℕ) (x : Load) (a : Absolute) (others : List Absolute) where
 
     fed-ends : isGone r p (told (Here (Feed r p block) ∷ es) s) ≡ false → starts r p (told (Here (Feed r p block) ∷ es) s) ≡ a
         ∷ others
-        → Ends x g core (taken r p (told (Here (Feed r p block) ∷ es) s)) (run event (Here (Feed r p block) ∷ es) s) a others
+        → Ends x g core (taken r p (told (Here (Feed r p block) ∷ es) s)) (run event (Here (Feed r p block) ∷ es) s)
     unfolding told isGone starts taken run event call answerTo
     fed-ends = subst Ending (sym out) (ending _ refl (subst (λ (o : Outcome). Prepared (leftBy o)) out ready-after))
 
@@ -222,7 +196,7 @@ module _ (r p : ℕ) (x : Load) (a : Absolute) (others : List Absolute) where
   abbrev EndsWith : List Event → State → List ℕ → Stage → Event → Type 0
   EndsWith es s core g e =
       isGone r p (told (e ∷ es) s) ≡ false → starts r p (told (e ∷ es) s) ≡ a ∷ others
-      → Ends x g core (taken r p (told (e ∷ es) s)) (run event (e ∷ es) s) a others
+      → Ends x g core (taken r p (told (e ∷ es) s)) (run event (e ∷ es) s)
 
   pub lives : (es : List Event) → Life es
   unfolding told run loadIn starts

@@ -101,14 +101,19 @@ Demand1Words =
     (c : Call) (s : State) (j : ℕ) → (getD (call c s .core) j 0 ≡ getD (s .core) j 0) ⊎ (getD (call c s .core) j 0 < wordLimit)
 
 -- ---- Demand 2. A load is opened in any state at all, and then anything happens that leaves it there and does it no harm. If it
--- was answered `done`, the area holds the image of the blocks that it accepted, the start is the file's own, moved by the area's
--- address, and it was answered so once.
+-- was answered `done`, the area holds the image of the blocks that it accepted.
 abbrev pub Demand2 : Type 0
 Demand2 =
     (o : Opening) (es : List Event) (a : Absolute) (others : List Absolute) → IsGranted o → Stays o es → Unharmed o es
     → starts (o .room) (o .place) (since o es) ≡ a ∷ others
-    → (areaWords o (run event es (afterOpen o)) ≡ imageSince o es)
-    × ((a ≡ fileStart (o .area) (taken (o .room) (o .place) (since o es))) × (others ≡ []))
+    → areaWords o (run event es (afterOpen o)) ≡ imageSince o es
+
+-- harm or not, the start is then the file's own, moved by the area's address, and it was answered so once
+abbrev pub Demand2Start : Type 0
+Demand2Start =
+    (o : Opening) (es : List Event) (a : Absolute) (others : List Absolute) → IsGranted o → Stays o es
+    → starts (o .room) (o .place) (since o es) ≡ a ∷ others
+    → (a ≡ fileStart (o .area) (taken (o .room) (o .place) (since o es))) × (others ≡ [])
 
 -- nothing that happened made a difference to it, done or not: its feeds were answered, and its area is, as if they alone had come
 abbrev pub Demand2Alone : Type 0

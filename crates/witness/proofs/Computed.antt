@@ -54,7 +54,7 @@ use Rattle.demands.specs.History.{State, answerTo, call, Event, event, Told, to
 use Rattle.demands.specs.Opening.{Opening, afterOpen, imageSince, areaWords}
 use Rattle.demands.specs.Examples.{oldDesk, oldCore, old, oneRoom, twoRooms, make, answersIn, otherArea, open1, fed1, deckFeeds}
 use Rattle.demands.specs.Examples.{deckLife, byTurns, oneBroken, whileItLoads, dayLife, NotEmpty}
-use Rattle.demands.proofs.Demands.{demand-2}
+use Rattle.demands.proofs.Demands.{demand-2, demand-2-start}
 
 -- a history, with every definition that computing it opens; a proof that unfolds it opens them all
 computed : List Event → List Told
@@ -98,9 +98,10 @@ deckOpening = opening (run event (make oneRoom ∷ []) old)
 pub deck-demand : (areaWords deckOpening (run event deckFeeds (afterOpen deckOpening)) ≡ imageSince deckOpening deckFeeds)
     × (record { 0 = 512 } ≡ fileStart (deckGiven .area) deckFile)
 unfolding computed
-deck-demand =
-    let k = demand-2 deckOpening deckFeeds (record { 0 = 512 }) [] refl refl refl refl in
-    (k .0, k .1 .0)
+deck-demand = (
+  demand-2 deckOpening deckFeeds (record { 0 = 512 }) [] refl refl refl refl,
+  demand-2-start deckOpening deckFeeds (record { 0 = 512 }) [] refl refl refl .0,
+)
 
 -- of room 0 on the day in which programs run while it loads: nothing that happens then does it harm
 abbrev pub dayOpening : Opening
@@ -111,4 +112,4 @@ afterOpening = open1 ∷ fed1 deckLabel ∷ fed1 deckProgram ∷ fed1 deckTermin
 
 pub day-demand : areaWords dayOpening (run event afterOpening (afterOpen dayOpening)) ≡ imageSince dayOpening afterOpening
 unfolding computed
-day-demand = demand-2 dayOpening afterOpening (record { 0 = 512 }) [] refl refl refl refl .0
+day-demand = demand-2 dayOpening afterOpening (record { 0 = 512 }) [] refl refl refl refl
