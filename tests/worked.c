@@ -18,7 +18,7 @@ struct faulty {
 
 #define COUNT(array) (sizeof(array) / sizeof(array)[0])
 
-enum { CORE_WORDS = 4096, OLD_WORD = 5, FAULTS = 43, BLOCKS = 5, IDENTIFIER_WORD = 0, CHECKSUM_WORD = 255 };
+enum { CORE_WORDS = 4096, OLD_WORD = 5, FAULTS = 48, BLOCKS = 5, IDENTIFIER_WORD = 0, CHECKSUM_WORD = 255 };
 
 /* The file with 85 core tables; what the blocks are that the definitions name one after another. */
 enum { SPLIT_AREA = 02000, SPLIT_TABLES = 85, SPLIT_IBANK = 2, SPLIT_SIZE = SPLIT_IBANK + SPLIT_TABLES + 1 };

@@ -89,10 +89,14 @@ edgeFiles =
     ∷ record { number = 20; block = 2; words = named 14 0o040203100401 ∷ named 255 0o000000561441 ∷ [] }
     -- 14, "Word 2 bits 35-33 are the type flag": 101
     ∷ record { number = 14; block = 0; words = named 2 0o500000000000 ∷ named 254 0o000000672250 ∷ [] }
+    -- 15, "The first is a letter or digit": a hyphen
+    ∷ record { number = 15; block = 0; words = named 0 0o412427201211 ∷ named 254 0o000001412250 ∷ named 255 0o412427201211 ∷ [] }
     -- 15, "spaces only at the end": the name has a space and then a hyphen
     ∷ record { number = 15; block = 0; words = named 0 0o342427200541 ∷ named 254 0o000001271130 ∷ named 255 0o342427200541 ∷ [] }
     -- 15, "in rising order, none twice": two table words of type 2
     ∷ record { number = 15; block = 0; words = named 6 0o100000000002 ∷ named 254 0o000001232250 ∷ [] }
+    -- 15, "none with 0 entries": type 3, and the total is right
+    ∷ record { number = 15; block = 0; words = named 3 0o000004000005 ∷ named 6 0o140000000000 ∷ named 254 0o000001272244 ∷ [] }
     -- 15, "the segment count is 1": 2
     ∷ record { number = 15; block = 0; words = named 253 0o000002000002 ∷ named 254 0o000001272251 ∷ [] }
     -- 15, "table sections are no more than core entries": 4, and 3 entries
@@ -101,6 +105,8 @@ edgeFiles =
     ∷ record { number = 15; block = 0; words = named 253 0o000001200002 ∷ named 254 0o000000472251 ∷ [] }
     -- 15, "Word 255 repeats word 0": it does not
     ∷ record { number = 15; block = 0; words = named 254 0o000001272251 ∷ named 255 0o342427201212 ∷ [] }
+    -- 16, "if the lists' counts differ from the file's": three units, and numbers for two
+    ∷ record { number = 16; block = 0; words = named 3 0o000004000010 ∷ named 6 0o140000000003 ∷ named 254 0o000001272252 ∷ [] }
     -- 16, the first table's too: the minimum length of table 0 is 9, and it is assigned 8
     ∷ record { number = 16; block = 1; words = named 11 0o000000000011 ∷ named 255 0o000001115327 ∷ [] }
     -- 17, "bits 35, 34, 17, 16 are zero": bit 35 of the DBANK word is set
@@ -117,6 +123,8 @@ edgeFiles =
     ∷ record { number = 17; block = 3; words = named 14 0o200010000000 ∷ named 255 0o000001225436 ∷ [] }
     -- 17, "a number with no table": 3
     ∷ record { number = 17; block = 3; words = named 14 0o200120000003 ∷ named 255 0o000001225551 ∷ [] }
+    -- 17, "bits 35-34 are 01": 11
+    ∷ record { number = 17; block = 3; words = named 14 0o600120000002 ∷ named 255 0o000001625550 ∷ [] }
     -- 17, "bits 17-8 zero": bit 8 is set
     ∷ record { number = 17; block = 3; words = named 14 0o200120000402 ∷ named 255 0o000001226150 ∷ [] }
     -- 18, a table section word where a group is due
@@ -133,6 +141,8 @@ edgeFiles =
     ∷ record { number = 19; block = 3; words = named 4 0o260000000000 ∷ named 255 0o000001305550 ∷ [] }
     -- 19, "left only": D0 right has type 100
     ∷ record { number = 19; block = 3; words = named 4 0o300000000000 ∷ named 255 0o000001325550 ∷ [] }
+    -- 19, "type 001 has bit 15 zero": B1 right has it set
+    ∷ record { number = 19; block = 2; words = named 14 0o040202100401 ∷ named 255 0o000000561440 ∷ [] }
     -- 19, "a constant of 64 or more": B2 right is long with 63
     ∷ record { number = 19; block = 2; words = named 15 0o000077100077 ∷ named 255 0o000000417457 ∷ [] }
     -- 19, "a zero": C0 left has the second of its nine bits set
