@@ -41,12 +41,12 @@ sum-low s [] h = omega arith
 sum-low s (w ∷ ws) h = sum-low (added s w) ws (omega arith) ∙ omega arith
 
 -- so the sum of the others is the sum of all less the one, which is not above it
-pub record Taken (l : List ℕ) (p s : ℕ) : Type 0 where
+pub record TakenAway (l : List ℕ) (p s : ℕ) : Type 0 where
   pub fits : getD l p 0 ≤ s
   pub sum : (s - getD l p 0) % 2 ^ 36 ≡ sumOf 0 (others p l)
 
-pub taken : (l : List ℕ) (p s : ℕ) → p < length l → every isWord l ≡ true → s ≡ low l → Taken l p s
-taken l p s h a q =
+pub taken-away : (l : List ℕ) (p s : ℕ) → p < length l → every isWord l ≡ true → s ≡ low l → TakenAway l p s
+taken-away l p s h a q =
     let w : getD l p 0 < 2 ^ 36 = ltb-true (getD l p 0) (2 ^ 36) (every-at isWord l p h a) in
     let e = low-others l p h in
     record { fits = omega arith; sum = omega arith ∙ sym (sum-low 0 (others p l) (omega arith)) }

@@ -10,8 +10,8 @@ use Rattle.layout.specs.Layout.{coreLength}
 use Rattle.desk.specs.Sound.{sound}
 use Rattle.calls.specs.Outcome.{Outcome, refused}
 
--- which of the three is due, in 01's order; 0 where none is. n is the length of the core that is lent, or the length that is given: a
--- sound desk's is from 1 to 65,536, so one test tells all of 2
+-- which of the three is due, in 01's order; 0 where none is. n is the length of the core that is lent, or the length that is
+-- given: a sound desk's is from 1 to 65,536, so one test tells all of 2
 unfoldable pub entryRefusal : List ℕ → ℕ → ℕ → ℕ
 entryRefusal d n r =
     unless (sound d) 1

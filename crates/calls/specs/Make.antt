@@ -1,5 +1,5 @@
--- Making a desk: "A fresh desk is made from the core length and a map .. Making a desk writes no core word." Refusals 1 (length only),
--- 2 and 3, in that order.
+-- Making a desk: "A fresh desk is made from the core length and a map .. Making a desk writes no core word." Refusals 1 (length
+-- only), 2 and 3, in that order.
 use Prim.Native.Nat.{ℕ, zero, suc}
 use mathlib.Core.List.{List, [], _∷_}
 use lib.ListN.{length, set}

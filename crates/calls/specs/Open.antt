@@ -1,22 +1,24 @@
--- "Open takes a room, an area (address and size) and two lists .. It gives the lowest free place, sets each word of the area to zero,
--- and copies the lists." Refusals 1, 2, 4, 5, 6, 7 and 8, in that order.
-use Prim.Native.Nat.{ℕ, _+_}
+-- "Open takes a room, an area (address and size) and two lists .. It gives the lowest free place, sets each word of the area to
+-- zero, and copies the lists." Refusals 1, 2, 4, 5, 6, 7 and 8, in that order.
+use Prim.Native.Nat.{ℕ, _+_, _<_}
+use mathlib.Core.Path.{_≡_}
 use mathlib.Core.Bool.{Bool, _&&_, _||_, not}
 use mathlib.Core.List.{List, _∷_}
 use lib.ListN.{length, getD}
 use lib.Dec.{eqb}
 use Rattle.word.specs.Lists.{every, splice, cleared}
 use Rattle.word.specs.Runs.{apart}
+use Rattle.word.specs.Limits.{roomCount}
 use Rattle.word.specs.Fault.{unless}
 use Rattle.word.specs.declared.Area.{Area}
 use Rattle.map.specs.Map.{mapOf, none}
 use Rattle.rooms.specs.Rooms.{placeRefusal, lowestFree}
 use Rattle.lists.specs.declared.Given.{Given}
 use Rattle.lists.specs.Obey.{listsObey}
-use Rattle.lists.specs.Load.{givenBy, keptLists}
+use Rattle.lists.specs.Load.{givenBy, keptLists, Keepable}
 use Rattle.stage.specs.Stage.{numbersOf}
 use Rattle.stage.specs.declared.Stage.the-variants.{Label}
-use Rattle.layout.specs.Layout.{listsAt, mapNumbers, base, placeIn, places, holderOf, ownOf, listsIn, holders}
+use Rattle.layout.specs.Layout.{placeWords, listsAt, mapNumbers, base, placeIn, places, holderOf, ownOf, listsIn, holders}
 use Rattle.desk.specs.Sound.{areaIn}
 use Rattle.calls.specs.declared.Answer.the-variants.{Opened}
 use Rattle.calls.specs.Outcome.{Outcome, refused}
@@ -72,3 +74,9 @@ grantOf d core r a ios tables =
 
 unfoldable pub openOf : List ℕ → List ℕ → ℕ → Area → List ℕ → List ℕ → Outcome
 openOf d core r a ios tables = entered d (length core) r core (grantOf d core r a ios tables)
+
+-- what has been seen to before the numbers of a place are written: words are those that are kept for the tables
+pub record WriteReady (r : ℕ) (a : Area) (ios tables words place : List ℕ) : Type 0 where
+  pub long : length place ≡ placeWords
+  pub room : r < roomCount
+  pub lists : Keepable a ios tables words (listsIn place)

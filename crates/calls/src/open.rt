@@ -1,16 +1,14 @@
 // Open: a room is given the lowest free place, the area's words are set to zero and the lists are copied, or a refusal of 1, 2, 4
 // to 8 says why not (01, "The desk").
 ghost use mathlib.Core.Path.{_≡_};
-ghost use mathlib.Core.Bool.{true};
 ghost use Prim.Native.Nat.{_<_};
 ghost use lib.ListN.{length};
 ghost use Rattle.word.specs.Lists.{every};
 ghost use Rattle.word.specs.Limits.{roomCount};
-ghost use Rattle.lists.specs.Load.{Keepable};
-ghost use Rattle.layout.specs.Layout.{deskWords, placeWords, coreLength, places, listsIn};
-ghost use Rattle.desk.specs.Sound.{sound};
+ghost use Rattle.layout.specs.Layout.{deskWords, placeWords, places};
 ghost use Rattle.calls.specs.Outcome.{Meets};
-ghost use Rattle.calls.specs.Open.{besideOwn, areaFits, openedPlace, grantOf, openOf};
+ghost use Rattle.calls.specs.Entry.{Entered};
+ghost use Rattle.calls.specs.Open.{besideOwn, areaFits, openedPlace, grantOf, openOf, WriteReady};
 use crate::Answer;
 use layout::AREA_AT;
 use layout::HOLDER_AT;
@@ -33,7 +31,8 @@ pub fn open_load(
     ios: &[u64],
     tables: &[u64],
 ) -> Answer
-    ensures { λ a. ⌜ Meets (openOf (now (desk .entry)) (now (core .entry)) room area (now (ios .entry)) (now (tables .entry))) a (now (desk .exit)) (now (core .exit)) ⌝ }
+    ensures { λ a. ⌜ Meets (openOf (now (desk .entry)) (now (core .entry)) room area (now (ios .entry)) (now (tables .entry)))
+        a (now (desk .exit)) (now (core .exit)) ⌝ }
 {
     let n = crate::entry_refusal(desk, core.len() as u64, room);
     if n != 0 {
@@ -51,8 +50,9 @@ fn grant(
     ios: &[u64],
     tables: &[u64],
 ) -> Answer
-    requires { ⌜ (sound (now desk) ≡ true) × (length (now core) ≡ coreLength (now desk)) × (room < roomCount) ⌝ }
-    ensures { λ a. ⌜ Meets (grantOf (now (desk .entry)) (now (core .entry)) room area (now (ios .entry)) (now (tables .entry))) a (now (desk .exit)) (now (core .exit)) ⌝ }
+    requires { ⌜ Entered (now desk) (length (now core)) room ⌝ }
+    ensures { λ a. ⌜ Meets (grantOf (now (desk .entry)) (now (core .entry)) room area (now (ios .entry)) (now (tables .entry)))
+        a (now (desk .exit)) (now (core .exit)) ⌝ }
 {
     let h = layout::read_holders(desk);
     let n = rooms::place_refusal(&h, room);
@@ -123,7 +123,7 @@ fn beside_own(place: &[u64], room: u64, area: Area) -> bool
 // The numbers of a place: its own, the stage of a load that waits for its label, and the lists, of whose tables these words are
 // kept.
 fn write_place(place: &mut [u64], room: u64, area: Area, ios: &[u64], tables: &[u64], words: &[u64])
-    requires { ⌜ (length (now place) ≡ placeWords) × (room < roomCount) × (Keepable area (now ios) (now tables) (now words) (listsIn (now place))) ⌝ }
+    requires { ⌜ WriteReady room area (now ios) (now tables) (now words) (now place) ⌝ }
     ensures { λ _. ⌜ now (place .exit) ≡ openedPlace room area (now (ios .entry)) (now (tables .entry)) (now (place .entry)) ⌝ }
 {
     let n = tables.len() / 2;

@@ -1,6 +1,7 @@
 -- "A desk is sound when its map obeys the rules above, each held area lies in its room's stretch, held areas share no word, F is at
 -- least H, no room holds over two, each copied list obeys refusal 8, and each other stored number is in the range that docs/ lists
--- for it, given the others." (01, "The desk"; docs/DESK.md lists the ranges.) A desk that is not of its length or not sound meets 1.
+-- for it, given the others." (01, "The desk"; docs/DESK.md lists the ranges.) A desk that is not of its length or not sound meets
+-- 1.
 use Prim.Native.Nat.{ℕ, _+_, _-_, _≤_, _<_}
 use mathlib.Core.Path.{_≡_}
 use mathlib.Core.Bool.{Bool, true, cond, _&&_, _||_}
@@ -13,14 +14,15 @@ use Rattle.word.specs.Limits.{placeCount, coreMost, ioMost, tablesMost}
 use Rattle.word.specs.declared.Area.{Area}
 use Rattle.map.specs.declared.Stretch.{Stretch}
 use Rattle.map.specs.Map.{mapOf, mapObeys, none}
-use Rattle.rooms.specs.Rooms.{fair, Fair}
+use Rattle.rooms.specs.Rooms.{fair, Fair, heldPlaces}
 use Rattle.lists.specs.declared.Given.{Given}
 use Rattle.lists.specs.HowChain.{chain}
 use Rattle.lists.specs.Obey.{tablesObey, isIoNumber}
 use Rattle.lists.specs.Load.{wordsIn, coreTables, ioNumbers}
 use Rattle.stage.specs.Ranges.{stageFits}
 use Rattle.layout.specs.declared.Place.{Place}
-use Rattle.layout.specs.Layout.{deskWords, coreLength, mapNumbers, placeIn, places, holderOf, ownOf, stageIn, listsIn, holders}
+use Rattle.layout.specs.Layout.{deskWords, placeWords, coreLength, mapNumbers, placeIn, places, holderOf}
+use Rattle.layout.specs.Layout.{ownOf, stageIn, listsIn, holders}
 
 -- an area lies in a stretch, and is not empty
 unfoldable pub areaIn : Stretch → Area → Bool
@@ -30,10 +32,10 @@ areaIn s a = leb 1 (a .size) && within (a .at .0) (a .size) (s .start .0) (s .le
 unfoldable pub countsFit : Given → Bool
 countsFit g = leb (g .io) ioMost && (leb (g .tables) tablesMost && leb (g .kept) tablesMost)
 
--- refusal 8, "a table not inside the area, or two tables sharing a word": of the tables one by one and pair by pair. Then the ranges
--- of the kept words and of the stage. The code looks at the kept words alone: where those pass, the tables obey, whatever the ranks
--- are (`order-sound`, crate lists). "Half a pair, an I/O number over 65,535": a desk has no room for either. It keeps tables, not
--- numbers of a list, and 16 bits an I/O number (`io-obey`, crate lists).
+-- refusal 8, "a table not inside the area, or two tables sharing a word": of the tables one by one and pair by pair. Then the
+-- ranges of the kept words and of the stage. The code looks at the kept words alone: where those pass, the tables obey, whatever
+-- the ranks are (`order-sound`, crate lists). "Half a pair, an I/O number over 65,535": a desk has no room for either. It keeps
+-- tables, not numbers of a list, and 16 bits an I/O number (`io-obey`, crate lists).
 unfoldable pub loadFits : Given → List ℕ → Bool
 loadFits g l =
     tablesObey (g .area) (coreTables g (listsIn l))
@@ -107,8 +109,27 @@ abbrev pub SmallStretch : Stretch → Type 0
 SmallStretch s = s .start .0 + s .len ≤ coreMost
 
 -- what the code has tested of a desk when it comes to the holders; and what it tests of its places, each one and each two
-abbrev pub MapTested : List ℕ → Type 0
-MapTested d = (length d ≡ deskWords) × (coreLength d ≤ coreMost) × (mapObeys (coreLength d) (mapOf (mapNumbers d)) ≡ true)
+pub record MapTested (d : List ℕ) : Type 0 where
+  pub long : length d ≡ deskWords
+  pub most : coreLength d ≤ coreMost
+  pub obeys : mapObeys (coreLength d) (mapOf (mapNumbers d)) ≡ true
 
 abbrev pub placesFit : List ℕ → Bool
 placesFit d = every (placeFits (mapOf (mapNumbers d))) (places d) && everyTwo areasApart (places d)
+
+-- the places that are held, named; place q - 1, which is held where q is not 0, beside another; and two places, the first held
+pub record HeldNamed (d held : List ℕ) : Type 0 where
+  pub map : MapTested d
+  pub rooms : fair (holders d) ≡ true
+  pub named : held ≡ heldPlaces 0 (holders d)
+
+pub record LastHeld (d : List ℕ) (q : ℕ) (place : List ℕ) : Type 0 where
+  pub desk : length d ≡ deskWords
+  pub most : q ≤ placeCount
+  pub long : length place ≡ placeWords
+  pub held : 0 < q → holderOf (placeIn d (q - 1)) ≡ 0 → ⊥
+
+pub record FirstHeld (one other : List ℕ) : Type 0 where
+  pub first : length one ≡ placeWords
+  pub second : length other ≡ placeWords
+  pub held : holderOf one ≡ 0 → ⊥

@@ -1,14 +1,14 @@
 // The test of a desk that comes first in every call: whatever memory is lent, it is sound or it is refused.
 ghost use mathlib.Core.Path.{_≡_};
-ghost use mathlib.Core.Bool.{true, _&&_, _||_};
-ghost use Prim.Native.Nat.{_-_, _≤_, _<_};
+ghost use mathlib.Core.Bool.{_&&_, _||_};
+ghost use Prim.Native.Nat.{_-_};
 ghost use lib.ListN.{length};
 ghost use lib.Dec.{eqb};
-ghost use Rattle.word.specs.Limits.{placeCount};
-ghost use Rattle.rooms.specs.Rooms.{fair, heldPlaces};
+ghost use Rattle.rooms.specs.Rooms.{fair};
 ghost use Rattle.lists.specs.Load.{Readable};
-ghost use Rattle.layout.specs.Layout.{deskWords, placeWords, placeIn, listsIn, holderOf, holders};
-ghost use Rattle.desk.specs.Sound.{areaIn, countsFit, loadFits, heldFits, areasApart, SmallStretch, MapTested, placesFit, sound};
+ghost use Rattle.layout.specs.Layout.{placeWords, placeIn, listsIn, holders};
+ghost use Rattle.desk.specs.Sound.{areaIn, countsFit, loadFits, heldFits, areasApart, placesFit, sound};
+ghost use Rattle.desk.specs.Sound.{SmallStretch, MapTested, HeldNamed, LastHeld, FirstHeld};
 use layout::AREA_AT;
 use layout::CORE_AT;
 use layout::DESK_WORDS;
@@ -63,7 +63,7 @@ fn holders_fit(desk: &[u64]) -> bool
 // Whether each held place is in order, and no two held areas share a word. Stretches share none, so that only areas of the same
 // room can; and no room holds over two places, so that an area is compared with the last one of its room.
 fn places_fit(desk: &[u64], held: &[usize]) -> bool
-    requires { ⌜ (MapTested (now desk)) × (fair (holders (now desk)) ≡ true) × (now held ≡ heldPlaces 0 (holders (now desk))) ⌝ }
+    requires { ⌜ HeldNamed (now desk) (now held) ⌝ }
     ensures { λ r. ⌜ r ≡ placesFit (now (desk .entry)) ⌝ }
 {
     let mut last = [0usize; ROOMS];
@@ -88,7 +88,7 @@ fn places_fit(desk: &[u64], held: &[usize]) -> bool
 
 // Whether a place's area shares no word with that of place q - 1, which is held too; where q is 0 there is none.
 fn apart_from_last(desk: &[u64], q: usize, place: &[u64]) -> bool
-    requires { ⌜ (length (now desk) ≡ deskWords) × (q ≤ placeCount) × (length (now place) ≡ placeWords) × (0 < q → holderOf (placeIn (now desk) (q - 1)) ≡ 0 → ⊥) ⌝ }
+    requires { ⌜ LastHeld (now desk) q (now place) ⌝ }
     ensures { λ r. ⌜ r ≡ (eqb q 0 || areasApart (placeIn (now (desk .entry)) (q - 1)) (now (place .entry))) ⌝ }
 {
     if q == 0 {
@@ -99,7 +99,7 @@ fn apart_from_last(desk: &[u64], q: usize, place: &[u64]) -> bool
 
 // The first of the two places is held.
 fn apart_from_held(one: &[u64], other: &[u64]) -> bool
-    requires { ⌜ (length (now one) ≡ placeWords) × (length (now other) ≡ placeWords) × (holderOf (now one) ≡ 0 → ⊥) ⌝ }
+    requires { ⌜ FirstHeld (now one) (now other) ⌝ }
     ensures { λ r. ⌜ r ≡ areasApart (now (one .entry)) (now (other .entry)) ⌝ }
 {
     if other[HOLDER_AT] == 0 {

@@ -25,7 +25,7 @@ use Rattle.records.specs.Termination.{terminationStep}
 use Rattle.records.proofs.Fits.{label-fits, entry-fits, label-not-done, entry-not-done, label-fault, entry-fault, termination-fault, termination-not-more}
 use Rattle.lists.specs.Load.{Load}
 use Rattle.sections.specs.Program.{StepOutcome, programStep}
-use Rattle.sections.proofs.Turns.{Stands}
+use Rattle.sections.proofs.Turns.{InPlace}
 use Rattle.sections.proofs.Blocks.{program-fits, program-not-done, program-faults, program-length, program-area, program-same, program-words, program-alike}
 use Rattle.group.proofs.Acts.{Alike}
 use Rattle.group.proofs.Stored.{StoredWords, stored-none}
@@ -95,7 +95,7 @@ module _ (x : Load) (block core : List ℕ) where
   due-starts Complete a q = let z : _≡_ {A = ℕ} 0 1 = cc in absurd (omega arith)
   due-starts Broken a q = let z : _≡_ {A = ℕ} 0 1 = cc in absurd (omega arith)
 
-standing : (x : Load) (s : Stage) (c : LabelCounts) (due : Due) (core : List ℕ) → s ≡ Program c due → FitToFeed x s → Holds x core → Stands x (Program c due) core
+standing : (x : Load) (s : Stage) (c : LabelCounts) (due : Due) (core : List ℕ) → s ≡ Program c due → FitToFeed x s → Holds x core → InPlace x (Program c due) core
 standing x s c due core e f h = record { inside = h; tables = f .tables; stage = rw e at (f .stage) }
 
 pub block-laws : BlockLaws

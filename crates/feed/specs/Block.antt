@@ -1,5 +1,5 @@
--- One block, whole and with its checksum, for a load that waits for it: what it leads to, and the core as its stores left it. "From 13
--- on the first fault in reading order is given."
+-- One block, whole and with its checksum, for a load that waits for it: what it leads to, and the core as its stores left it.
+-- "From 13 on the first fault in reading order is given."
 use Prim.Native.Nat.{ℕ}
 use mathlib.Core.Bool.{cond}
 use mathlib.Core.List.{List}

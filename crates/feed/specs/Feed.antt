@@ -1,9 +1,9 @@
--- "Feed takes room, place and one block." Refusals 1, 2, 4, 9, 10, 11 and 12 in that order, which change nothing; then 13 to 22, which
--- "set the whole area to zero and mark the load broken". "An accepted block answers *more*, and the termination block answers *done*
--- with the absolute start."
+-- "Feed takes room, place and one block." Refusals 1, 2, 4, 9, 10, 11 and 12 in that order, which change nothing; then 13 to 22,
+-- which "set the whole area to zero and mark the load broken". "An accepted block answers *more*, and the termination block
+-- answers *done* with the absolute start."
 use Prim.Native.Nat.{ℕ, _+_, _≤_, _<_}
 use mathlib.Core.Path.{_≡_}
-use mathlib.Core.Bool.{cond}
+use mathlib.Core.Bool.{true, cond}
 use mathlib.Core.List.{List}
 use lib.ListN.{length}
 use Rattle.word.specs.Lists.{splice, cleared}
@@ -22,7 +22,8 @@ use Rattle.word.specs.Limits.{placeCount}
 use Rattle.sections.specs.Waits.{KeptWaits}
 use Rattle.lists.specs.Load.{Load, loadOf}
 use Rattle.sections.specs.Program.{StepOutcome}
-use Rattle.layout.specs.Layout.{deskWords, base, placeIn, ownOf, stageIn, stageAt, listsIn, holds}
+use Rattle.layout.specs.Layout.{deskWords, coreLength, base, placeIn, ownOf, stageIn, stageAt, listsIn, holderIn, holds}
+use Rattle.desk.specs.Sound.{sound}
 use Rattle.calls.specs.declared.Answer.the-variants.{Refused, More, Done}
 use Rattle.calls.specs.Outcome.{Outcome, refused}
 use Rattle.calls.specs.Entry.{entered}
@@ -72,8 +73,19 @@ feedOf d core r p block =
     (unless (holds d r p) (refused 9 d core)
     (heldOf d core p block))
 
--- what has been seen to before a block is taken
+-- ---- what has been seen to before a held place is fed, before a block is taken, and before its outcome is settled
+pub record HeldReady (d core : List ℕ) (p : ℕ) : Type 0 where
+  pub desk : sound d ≡ true
+  pub long : length core ≡ coreLength d
+  pub place : p < placeCount
+  pub held : 1 ≤ holderIn d p
+
 pub record TakeReady (d : List ℕ) (p : ℕ) (s : Stage) (block core : List ℕ) : Type 0 where
   pub long : length d ≡ deskWords
   pub place : p < placeCount
   pub load : KeptWaits (ownOf (placeIn d p) .given) (listsIn (placeIn d p)) s block core
+
+pub record SettleReady (d core : List ℕ) (p : ℕ) (area : Area) : Type 0 where
+  pub long : length d ≡ deskWords
+  pub place : p < placeCount
+  pub inside : area .at .0 + area .size ≤ length core

@@ -1,18 +1,16 @@
 // Feed: one block for a load, with its refusals in 01's order. Refusals 1, 2, 4 and 9 to 12 change nothing; 13 to 22 set the load's
 // area to zero and break the load.
 ghost use mathlib.Core.Path.{_≡_};
-ghost use mathlib.Core.Bool.{true};
-ghost use Prim.Native.Nat.{_+_, _≤_, _<_};
+ghost use Prim.Native.Nat.{_<_};
 ghost use lib.ListN.{length};
 ghost use Rattle.word.specs.Limits.{placeCount};
-ghost use Rattle.layout.specs.Layout.{deskWords, coreLength, holderIn, placeIn};
-ghost use Rattle.desk.specs.Sound.{sound};
+ghost use Rattle.layout.specs.Layout.{deskWords, placeIn};
 ghost use Rattle.calls.specs.Outcome.{Meets};
 ghost use Rattle.lists.specs.Load.{loadOf};
 ghost use Rattle.sections.specs.Waits.{KeptWaits};
 ghost use Rattle.sections.specs.Program.{StepMeets};
 ghost use Rattle.feed.specs.Block.{dueStep, blockStep};
-ghost use Rattle.feed.specs.Feed.{loadIn, staged, settledOf, takenOf, heldOf, feedOf, TakeReady};
+ghost use Rattle.feed.specs.Feed.{loadIn, staged, settledOf, takenOf, heldOf, feedOf, HeldReady, TakeReady, SettleReady};
 use block::Verdict;
 use calls::Answer;
 use layout::PLACE_WORDS;
@@ -32,7 +30,8 @@ pub fn feed_block(
     place: u64,
     block: &[u64],
 ) -> Answer
-    ensures { λ a. ⌜ Meets (feedOf (now (desk .entry)) (now (core .entry)) room place (now (block .entry))) a (now (desk .exit)) (now (core .exit)) ⌝ }
+    ensures { λ a. ⌜ Meets (feedOf (now (desk .entry)) (now (core .entry)) room place (now (block .entry)))
+        a (now (desk .exit)) (now (core .exit)) ⌝ }
 {
     let n = calls::entry_refusal(desk, core.len() as u64, room);
     if n != 0 {
@@ -46,8 +45,9 @@ pub fn feed_block(
 
 // From refusal 10 on: place p is held.
 fn feed_held(desk: &mut [u64], core: &mut [u64], p: usize, block: &[u64]) -> Answer
-    requires { ⌜ (sound (now desk) ≡ true) × (length (now core) ≡ coreLength (now desk)) × (p < placeCount) × (1 ≤ holderIn (now desk) p) ⌝ }
-    ensures { λ a. ⌜ Meets (heldOf (now (desk .entry)) (now (core .entry)) p (now (block .entry))) a (now (desk .exit)) (now (core .exit)) ⌝ }
+    requires { ⌜ HeldReady (now desk) (now core) p ⌝ }
+    ensures { λ a. ⌜ Meets (heldOf (now (desk .entry)) (now (core .entry)) p (now (block .entry)))
+        a (now (desk .exit)) (now (core .exit)) ⌝ }
 {
     let s = layout::stage_of(layout::place_at(desk, p));
     if stage::is_over(s) {
@@ -62,7 +62,8 @@ fn feed_held(desk: &mut [u64], core: &mut [u64], p: usize, block: &[u64]) -> Ans
 // A block that is whole and has its checksum, for the load at place p, which waits for s.
 fn take_block(desk: &mut [u64], core: &mut [u64], p: usize, s: Stage, block: &[u64]) -> Answer
     requires { ⌜ TakeReady (now desk) p s (now block) (now core) ⌝ }
-    ensures { λ a. ⌜ Meets (takenOf (now (desk .entry)) (now (core .entry)) p (loadIn (placeIn (now (desk .entry)) p)) s (now (block .entry))) a (now (desk .exit)) (now (core .exit)) ⌝ }
+    ensures { λ a. ⌜ Meets (takenOf (now (desk .entry)) (now (core .entry)) p (loadIn (placeIn (now (desk .entry)) p)) s
+        (now (block .entry))) a (now (desk .exit)) (now (core .exit)) ⌝ }
 {
     let place = layout::place_at(desk, p);
     let own = layout::own_of(place);
@@ -74,7 +75,8 @@ fn take_block(desk: &mut [u64], core: &mut [u64], p: usize, s: Stage, block: &[u
 // What the block leads to for a load that waits for s.
 fn load_step(g: Given, lists: &[u64], s: Stage, block: &[u64], core: &mut [u64]) -> Step
     requires { ⌜ KeptWaits g (now lists) s (now block) (now core) ⌝ }
-    ensures { λ r. ⌜ StepMeets (blockStep (loadOf g (now (lists .entry))) s (now (block .entry)) (now (core .entry))) r (now (core .exit)) ⌝ }
+    ensures { λ r. ⌜ StepMeets (blockStep (loadOf g (now (lists .entry))) s (now (block .entry)) (now (core .entry)))
+        r (now (core .exit)) ⌝ }
 {
     if !block::of_record(block, stage::record_due(s)) {
         return Step::Refused(Fault { number: 13 });
@@ -85,7 +87,8 @@ fn load_step(g: Given, lists: &[u64], s: Stage, block: &[u64], core: &mut [u64])
 // A block of the record that is due.
 fn due_step(g: Given, lists: &[u64], s: Stage, block: &[u64], core: &mut [u64]) -> Step
     requires { ⌜ KeptWaits g (now lists) s (now block) (now core) ⌝ }
-    ensures { λ r. ⌜ StepMeets (dueStep (loadOf g (now (lists .entry))) s (now (block .entry)) (now (core .entry))) r (now (core .exit)) ⌝ }
+    ensures { λ r. ⌜ StepMeets (dueStep (loadOf g (now (lists .entry))) s (now (block .entry)) (now (core .entry)))
+        r (now (core .exit)) ⌝ }
 {
     match s {
         Stage::Label => records::label_step(g, lists, block),
@@ -99,8 +102,9 @@ fn due_step(g: Given, lists: &[u64], s: Stage, block: &[u64], core: &mut [u64]) 
 
 // The answer, and what the load at place p is left with.
 fn settle(desk: &mut [u64], core: &mut [u64], p: usize, area: Area, r: Step) -> Answer
-    requires { ⌜ (length (now desk) ≡ deskWords) × (p < placeCount) × (area .at .0 + area .size ≤ length (now core)) ⌝ }
-    ensures { λ a. ⌜ Meets (settledOf (now (desk .entry)) (now (core .entry)) p area r (now (core .entry))) a (now (desk .exit)) (now (core .exit)) ⌝ }
+    requires { ⌜ SettleReady (now desk) (now core) p area ⌝ }
+    ensures { λ a. ⌜ Meets (settledOf (now (desk .entry)) (now (core .entry)) p area r (now (core .entry)))
+        a (now (desk .exit)) (now (core .exit)) ⌝ }
 {
     match r {
         Step::More(s) => {

@@ -5,7 +5,8 @@ ghost use Rattle.word.specs.Limits.{coreMost};
 ghost use Rattle.word.specs.declared.Half.the-variants.{Left, Right};
 ghost use Rattle.word.specs.Word.{lowest};
 ghost use Rattle.lists.specs.Load.{coreTables, ioNumbers, Readable};
-ghost use Rattle.field.specs.Field.{valued, plusOrMinus, movedField, table, addressOrLength, referred, pair, minusZero, short, long, switch, unit, Fits, putBack, assignedBy, fieldStep};
+ghost use Rattle.field.specs.Field.{valued, plusOrMinus, movedField, table, addressOrLength, referred, pair, minusZero};
+ghost use Rattle.field.specs.Field.{short, long, switch, unit, Fits, putBack, assignedBy, fieldStep};
 use lists::Given;
 use word::Area;
 use word::Fault;
@@ -30,8 +31,8 @@ pub enum Changed {
     Refused(Fault),
 }
 
-// What the fields of a load's words are changed by, beside its lists: what open was given, and how many of its I/O references are of
-// types 0 and 2.
+// What the fields of a load's words are changed by, beside its lists: what open was given, and how many of its I/O references are
+// of types 0 and 2.
 pub struct Assigned {
     pub given: Given,
     pub channels: u64,

@@ -73,7 +73,7 @@ abbrev pub stored : ℕ → Group → Absolute → List ℕ → List ℕ → Gro
 stored i g to core vs = record { answer = Done (i + 1 + g .words) (g .last); core = splice core (to .0) vs }
 
 -- the next identifier is due at place p
-pub record Ended (block : List ℕ) (i p : ℕ) (last : Bool) : Type 0 where
+pub record GroupEnded (block : List ℕ) (i p : ℕ) (last : Bool) : Type 0 where
   pub group : Group
   pub read : groupOf (getD block i 0) ≡ Good group
   pub place : p ≡ i + 1 + group .words
@@ -112,8 +112,8 @@ module _ (a : Assignments) (section : Section) (block : List ℕ) (i : ℕ) wher
     group-outcomes = by-read (groupOf (getD block i 0)) refl
 
   -- where it answers `Done`, the next identifier is due behind it, at word 255 at the latest
-  pub group-done : (core : List ℕ) (p : ℕ) (last : Bool) → groupStep a section block i core .answer ≡ Done p last → Ended block i p last
-  group-done core p last = group-outcomes core (λ (o : GroupOutcome). o .answer ≡ Done p last → Ended block i p last)
+  pub group-done : (core : List ℕ) (p : ℕ) (last : Bool) → groupStep a section block i core .answer ≡ Done p last → GroupEnded block i p last
+  group-done core p last = group-outcomes core (λ (o : GroupOutcome). o .answer ≡ Done p last → GroupEnded block i p last)
       (λ f q. let z : _≡_ {A = ℕ} 0 1 = cc in absurd (omega arith))
       (λ g to f h q. let z : _≡_ {A = ℕ} 0 1 = cc in absurd (omega arith))
       (λ g to vs h t e q.

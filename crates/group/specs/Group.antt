@@ -124,8 +124,8 @@ addressOf area (InSegment segment) g = absoluteOf area (g .at)
 addressOf area (InTable t count) g = fromTable (t .at) (g .at)
 
 -- a refused group leaves zeros in the words that it goes to, if these lie where they must, and nothing else is changed. The whole
--- area is set to zero at such a refusal (01, "Refusal numbers"); here zeros are said, so that the code is free to store before all is
--- read.
+-- area is set to zero at such a refusal (01, "Refusal numbers"); here zeros are said, so that the code is free to store before all
+-- is read.
 unfoldable pub refusedGroup : Area → Section → Group → List ℕ → Fault → GroupOutcome
 refusedGroup area section g core f =
     record { answer = Refused f; core = cond (wordsLie section g) (cleared core (addressOf area section g .0) (g .program)) core }

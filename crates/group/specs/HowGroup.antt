@@ -18,7 +18,8 @@ use Rattle.field.specs.Field.{Assignments}
 use Rattle.group.specs.declared.Section.{Section}
 use Rattle.group.specs.declared.GroupStep.{GroupStep}
 use Rattle.group.specs.declared.GroupStep.the-variants.{Done, Refused}
-use Rattle.group.specs.Group.{Words, changedWords, programWords, indicatorBitsIn, inOneBlock, holdsProgram, indicatorsFit, InArea}
+use Rattle.group.specs.Group.{Words, changedWords, programWords, indicatorBitsIn, inOneBlock}
+use Rattle.group.specs.Group.{holdsProgram, indicatorsFit, InArea}
 use Rattle.group.specs.Group.Words.{Become, Refuse}
 
 -- the answer, and the words of the core that the group goes to
@@ -58,7 +59,7 @@ pub record Sized (g : Group) : Type 0 where
   pub at : g .at .0 < 2 ^ 16
 
 -- what is known of a group and of its section where the address of its words is reckoned
-pub record Addressed (area : Area) (section : Section) (g : Group) : Type 0 where
+pub record AddressReady (area : Area) (section : Section) (g : Group) : Type 0 where
   pub inside : area .at .0 + area .size ≤ coreMost
   pub room : InArea area section
   pub sized : Sized g

@@ -1,13 +1,17 @@
 -- A word's halves, one after the other with a cursor: how the code goes, not a rule of 01.
-use Prim.Native.Nat.{ℕ, _+_, _*_, _/_, _%_, _^_}
+use Prim.Native.Nat.{ℕ, _+_, _*_, _/_, _%_, _^_, _≤_, _<_}
 use mathlib.Core.Bool.{Bool, true, false, cond}
+use mathlib.Core.List.{List}
 use lib.Dec.{ltb, eqb}
 use Rattle.word.specs.declared.Area.{Area}
 use Rattle.word.specs.declared.Half.{Half}
 use Rattle.word.specs.declared.Half.the-variants.{Left, Right}
 use Rattle.word.specs.Fault.{fault}
+use Rattle.word.specs.Limits.{coreMost}
 use Rattle.word.specs.Sorts.{absoluteOf, rightMoved}
 use Rattle.word.specs.Word.{fieldOf}
+use Rattle.lists.specs.declared.Given.{Given}
+use Rattle.lists.specs.Load.{Readable}
 use Rattle.field.specs.declared.Changed.{Changed}
 use Rattle.field.specs.declared.Changed.the-variants.{Word, Refused}
 use Rattle.field.specs.Field.{Assignments, relative, valueLimit}
@@ -62,3 +66,15 @@ movedWord area w c =
     cond (ltb (absoluteOf area (relative (fieldOf Right w)) .0) valueLimit)
     (Next (rightMoved area w) (record { at = c .at + 5; ahead = c .ahead * 2 ^ 5 % 2 ^ 64; words = c .words; edge = c .edge }))
     (Stop (fault 21))
+
+-- ---- what is known before: where a word or a half of it is changed, whose indicators have so many bits at most, and where such a
+-- word is moved
+pub record HalfReady (g : Given) (l : List ℕ) (w : ℕ) (c : Cursor) (most : ℕ) : Type 0 where
+  pub lists : Readable g l
+  pub word : w < 2 ^ 36
+  pub near : c .at + most < 2 ^ 64
+
+pub record MovedReady (area : Area) (c : Cursor) (w : ℕ) : Type 0 where
+  pub inside : area .at .0 ≤ coreMost
+  pub word : w < 2 ^ 36
+  pub near : c .at + 5 < 2 ^ 64

@@ -94,3 +94,10 @@ pub record ChangeReady (g : Given) (l given block : List ℕ) (marks : Indicator
 -- an indicator word with no change in it
 abbrev pub isZero : ℕ → Bool
 isZero w = eqb w 0
+
+-- what is known where words without change are passed, from number k of n on
+pub record PassReady (c : Cursor) (k n : ℕ) : Type 0 where
+  pub more : k < n
+  pub few : n < 2 ^ 32
+  pub bits : 36 * c .words < 2 ^ 32
+  pub near : c .at + 26 * (n - k) < 2 ^ 32

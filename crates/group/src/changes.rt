@@ -1,15 +1,15 @@
-// The program words of a group, changed word after word. They are read from the block and stored into the core, where all are copied
-// first: a group without any change is seen by its indicator words alone, words without change are passed many at once, and the commonest change has a
-// way of its own.
+// The program words of a group, changed word after word. They are read from the block and stored into the core, where all are
+// copied first: a group without any change is seen by its indicator words alone, words without change are passed many at once, and
+// the commonest change has a way of its own.
 ghost use mathlib.Core.Path.{_≡_};
-ghost use Prim.Native.Nat.{_+_, _-_, _*_, _<_, _≤_, _^_};
+ghost use Prim.Native.Nat.{_<_, _^_};
 ghost use lib.ListN.{length};
-ghost use Rattle.word.specs.Limits.{coreMost};
 ghost use Rattle.word.specs.Lists.{every};
 ghost use Rattle.field.specs.Field.{assignedBy};
 ghost use Rattle.indicator.specs.Indicator.{bitsBefore};
-ghost use Rattle.group.specs.HowHalves.{movedWord};
-ghost use Rattle.group.specs.HowWords.{isZero, ChangeReady, Changes, NextReady, Steps, unchangedStep, nextStep, storedStep};
+ghost use Rattle.group.specs.HowHalves.{movedWord, MovedReady};
+ghost use Rattle.group.specs.HowWords.{isZero, ChangeReady, Changes, NextReady, Steps};
+ghost use Rattle.group.specs.HowWords.{PassReady, unchangedStep, nextStep, storedStep};
 use crate::halves;
 use crate::halves::WordChange;
 use field::Assigned;
@@ -20,8 +20,8 @@ use word::Fault;
 use word::Half;
 use word::Relative;
 
-// Of the 64 bits ahead: the next five, where 01000 is no change and then type 000, the commonest change; and what is below if the next two
-// are 0, a word without change.
+// Of the 64 bits ahead: the next five, where 01000 is no change and then type 000, the commonest change; and what is below if the
+// next two are 0, a word without change.
 const FIVE_BITS: u64 = 1 << 59;
 
 const MOVED: u64 = 8;
@@ -56,7 +56,8 @@ pub fn change_group(
     out: &mut [u64],
 ) -> GroupChange
     requires { ⌜ ChangeReady (s .given) (now lists) (now given) (now block) marks (now out) ⌝ }
-    ensures { λ r. ⌜ Changes (assignedBy s (now (lists .entry))) (bitsBefore (now (block .entry)) (marks .end) (marks .count)) (now (given .entry)) r (now (out .exit)) ⌝ }
+    ensures { λ r. ⌜ Changes (assignedBy s (now (lists .entry)))
+        (bitsBefore (now (block .entry)) (marks .end) (marks .count)) (now (given .entry)) r (now (out .exit)) ⌝ }
 {
     word::slices::copy_in(out, 0, given);
     let first = marks.end - marks.count;
@@ -91,7 +92,8 @@ fn change_words(
     out: &mut [u64],
 ) -> GroupChange
     requires { ⌜ (ChangeReady (s .given) (now lists) (now given) (now block) marks (now out)) × (now out ≡ now given) ⌝ }
-    ensures { λ r. ⌜ Changes (assignedBy s (now (lists .entry))) (bitsBefore (now (block .entry)) (marks .end) (marks .count)) (now (given .entry)) r (now (out .exit)) ⌝ }
+    ensures { λ r. ⌜ Changes (assignedBy s (now (lists .entry)))
+        (bitsBefore (now (block .entry)) (marks .end) (marks .count)) (now (given .entry)) r (now (out .exit)) ⌝ }
 {
     let mut c = indicator::start(marks.count);
     let mut k: usize = 0;
@@ -121,7 +123,8 @@ fn change_next(
     out: &mut [u64],
 ) -> NextWord
     requires { ⌜ NextReady (s .given) (now lists) (now given) c k (now out) ⌝ }
-    ensures { λ r. ⌜ Steps (nextStep (assignedBy s (now (lists .entry))) (now (given .entry)) c k (now (out .entry))) r (now (out .exit)) ⌝ }
+    ensures { λ r. ⌜ Steps (nextStep (assignedBy s (now (lists .entry))) (now (given .entry)) c k (now (out .entry)))
+        r (now (out .exit)) ⌝ }
 {
     let w = given[k];
     let area = s.given.area;
@@ -136,7 +139,7 @@ fn change_next(
 
 // Words without change at once, or the one whose two 0s come next: they stand in the core already.
 fn pass_unchanged(c: Cursor, k: usize, n: usize) -> NextWord
-    requires { ⌜ (k < n) × (n < 2 ^ 32) × (36 * c .words < 2 ^ 32) × (c .at + 26 * (n - k) < 2 ^ 32) ⌝ }
+    requires { ⌜ PassReady c k n ⌝ }
     ensures { λ r. ⌜ r ≡ unchangedStep c k n ⌝ }
 {
     let m = indicator::unchanged(c, n - k);
@@ -168,7 +171,7 @@ fn store_word(out: &mut [u64], k: usize, r: WordChange) -> NextWord
 
 // A word whose indicators are 01000: its right field is moved by the area's address.
 fn moved_word(area: Area, c: Cursor, w: u64) -> WordChange
-    requires { ⌜ (area .at .0 ≤ coreMost) × (w < 2 ^ 36) × (c .at + 5 < 2 ^ 64) ⌝ }
+    requires { ⌜ MovedReady area c w ⌝ }
     ensures { λ r. ⌜ r ≡ movedWord area w c ⌝ }
 {
     let a = word::placed(area, Relative(word::field(w, Half::Right)));

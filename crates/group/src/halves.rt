@@ -1,10 +1,9 @@
 // A program word's left half, then its right one, each by its indicator.
 ghost use mathlib.Core.Path.{_≡_};
-ghost use Prim.Native.Nat.{_+_, _<_, _≤_, _^_};
-ghost use Rattle.lists.specs.Load.{Readable};
+ghost use Prim.Native.Nat.{_+_, _<_, _^_};
 ghost use Rattle.field.specs.Field.{assignedBy};
 ghost use Rattle.indicator.specs.HowCursor.{pastOf};
-ghost use Rattle.group.specs.HowHalves.{sameIn, typeIn, moreIn, onward, halfOf, bothOf};
+ghost use Rattle.group.specs.HowHalves.{sameIn, typeIn, moreIn, onward, halfOf, bothOf, HalfReady};
 use field::Assigned;
 use field::Changed;
 use indicator::Cursor;
@@ -20,7 +19,7 @@ pub enum WordChange {
 
 // A word's left half, then its right one.
 pub fn change_word(s: Assigned, lists: &[u64], c: Cursor, w: u64) -> WordChange
-    requires { ⌜ (Readable (s .given) (now lists)) × (w < 2 ^ 36) × (c .at + 26 < 2 ^ 64) ⌝ }
+    requires { ⌜ HalfReady (s .given) (now lists) w c 26 ⌝ }
     ensures { λ r. ⌜ r ≡ bothOf (assignedBy s (now (lists .entry))) w c ⌝ }
 {
     match left_half(s, lists, c, w) {
@@ -31,7 +30,7 @@ pub fn change_word(s: Assigned, lists: &[u64], c: Cursor, w: u64) -> WordChange
 
 // Either half has a function of its own, so that its code is made for its bits alone.
 fn left_half(s: Assigned, lists: &[u64], c: Cursor, w: u64) -> WordChange
-    requires { ⌜ (Readable (s .given) (now lists)) × (w < 2 ^ 36) × (c .at + 13 < 2 ^ 64) ⌝ }
+    requires { ⌜ HalfReady (s .given) (now lists) w c 13 ⌝ }
     ensures { λ r. ⌜ r ≡ halfOf (assignedBy s (now (lists .entry))) Half.Left w c ⌝ }
 {
     let m = indicator::look(c.ahead, word::field(w, Half::Left));
@@ -42,7 +41,7 @@ fn left_half(s: Assigned, lists: &[u64], c: Cursor, w: u64) -> WordChange
 }
 
 fn right_half(s: Assigned, lists: &[u64], c: Cursor, w: u64) -> WordChange
-    requires { ⌜ (Readable (s .given) (now lists)) × (w < 2 ^ 36) × (c .at + 13 < 2 ^ 64) ⌝ }
+    requires { ⌜ HalfReady (s .given) (now lists) w c 13 ⌝ }
     ensures { λ r. ⌜ r ≡ halfOf (assignedBy s (now (lists .entry))) Half.Right w c ⌝ }
 {
     let m = indicator::look(c.ahead, word::field(w, Half::Right));

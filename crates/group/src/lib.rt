@@ -1,16 +1,16 @@
 // One group of a program block: its program words are copied into the lent core, and stored anew where they change, each one's left
-// and right half in order, while the indicators are counted. 18 comes before a refusal of a field: where a field is refused, the count
-// decides which.
+// and right half in order, while the indicators are counted. 18 comes before a refusal of a field: where a field is refused, the
+// count decides which.
 mod changes;
 mod halves;
 
 ghost use mathlib.Core.Path.{_≡_};
-ghost use Prim.Native.Nat.{_+_, _*_, _<_, _≤_, _^_};
+ghost use Prim.Native.Nat.{_+_, _*_, _<_, _^_};
 ghost use lib.ListN.{length};
 ghost use Rattle.field.specs.Field.{assignedBy};
 ghost use Rattle.indicator.specs.Indicator.{justEnough};
 ghost use Rattle.group.specs.Group.{liesIn, wordsLie, addressOf, groupStep, GroupMeets, Ready};
-ghost use Rattle.group.specs.HowGroup.{Addressed, FillReady, Fitting, zeroFill, countedFill, fillOf, Fills};
+ghost use Rattle.group.specs.HowGroup.{AddressReady, FillReady, Fitting, zeroFill, countedFill, fillOf, Fills};
 use crate::changes::GroupChange;
 use crate::changes::IndicatorWords;
 use field::Assigned;
@@ -36,8 +36,8 @@ pub enum GroupStep {
     Refused(Fault),
 }
 
-// The group whose identifier stands at place i of a block, into the words of the core that it goes to: 18 where these do not lie where
-// they must.
+// The group whose identifier stands at place i of a block, into the words of the core that it goes to: 18 where these do not lie
+// where they must.
 pub fn group_step(
     s: Assigned,
     section: Section,
@@ -47,7 +47,8 @@ pub fn group_step(
     core: &mut [u64],
 ) -> GroupStep
     requires { ⌜ Ready (s .given) (now lists) section (now block) i (now core) ⌝ }
-    ensures { λ r. ⌜ GroupMeets (groupStep (assignedBy s (now (lists .entry))) section (now (block .entry)) i (now (core .entry))) r (now (core .exit)) ⌝ }
+    ensures { λ r. ⌜ GroupMeets (groupStep (assignedBy s (now (lists .entry))) section (now (block .entry)) i (now (core .entry)))
+        r (now (core .exit)) ⌝ }
 {
     match program::read_group(block[i]) {
         GroupRead::Good(g) => {
@@ -96,7 +97,7 @@ fn lies_in(bank: Bank, g: Group) -> bool
 
 // Where the first word of a group goes.
 fn address_of(area: Area, section: Section, g: Group) -> Absolute
-    requires { ⌜ Addressed area section g ⌝ }
+    requires { ⌜ AddressReady area section g ⌝ }
     ensures { λ r. ⌜ r ≡ addressOf area section g ⌝ }
 {
     let at = g.at;

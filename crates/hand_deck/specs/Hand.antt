@@ -49,7 +49,8 @@ cases h =
     ∷ (changed h 2 8197 0, 125)
     ∷ (changed h 2 16389 0, 39995)
     ∷ (changed h 2 16384 0, refusal 19)
-    -- "long, constant 100 added to table 0: 40,100; constant 63 gives 19": bit 15 is set; the nine more bits 0 are table 0's address
+    -- "long, constant 100 added to table 0: 40,100; constant 63 gives 19": bit 15 is set; the nine more bits 0 are table 0's
+    -- address
     ∷ (changed h 2 (2 ^ 15 + 100) 0, 40100)
     ∷ (changed h 2 (2 ^ 15 + 63) 0, refusal 19)
     ∷ []

@@ -5,13 +5,14 @@ use Prim.Native.Nat.{ℕ, _+_, _-_, _*_, _/_, _%_, _^_, _≤_, _<_}
 use mathlib.Core.Path.{_≡_}
 use mathlib.Core.Bool.{cond, _&&_}
 use mathlib.Core.List.{List}
-use lib.ListN.{getD}
+use lib.ListN.{length, getD}
 use lib.Dec.{ltb, leb, eqb}
 use Rattle.word.specs.declared.Half.the-variants.{Left, Right}
+use Rattle.word.specs.Limits.{coreMost}
 use Rattle.word.specs.Word.{wordLimit, bits, isSet, fieldOf}
 use Rattle.indicator.specs.declared.Indicator.{Indicator}
 use Rattle.indicator.specs.declared.Indicator.the-variants.{Same, Change, Long}
-use Rattle.indicator.specs.Indicator.{bitsBefore, numberAt, widthOf}
+use Rattle.indicator.specs.Indicator.{InBlock, bitsBefore, numberAt, widthOf}
 use Rattle.indicator.specs.declared.Cursor.{Cursor}
 use Rattle.indicator.specs.declared.Turn.{Turn}
 
@@ -83,3 +84,21 @@ turnOf block last c i =
     cond (eqb (plainWords c (last - i)) 0)
     (record { cursor = pastWord c (getD block i 0); i = i + 1 })
     (record { cursor = pastPlain c (plainWords c (last - i)); i = i + plainWords c (last - i) })
+
+-- ---- what is known before: where a word more may be taken, where the cursor moves on, and where a group's bits are counted
+pub record RefillReady (block : List ℕ) (end n : ℕ) (c : Cursor) : Type 0 where
+  pub words : InBlock block end n
+  pub sees : Sees block end n c 0
+  pub near : c .at + 28 < never
+  pub few : 36 * n < 2 ^ 64
+
+pub record MoveOnReady (block : List ℕ) (last : ℕ) (c : Cursor) (i : ℕ) : Type 0 where
+  pub more : i < last
+  pub inside : last ≤ length block
+  pub few : 36 * c .words < 2 ^ 64
+  pub near : c .at + 26 * (last - i) < 2 ^ 64
+
+pub record CountReady (block : List ℕ) (last end n : ℕ) : Type 0 where
+  pub words : InBlock block end n
+  pub inside : last ≤ length block
+  pub few : length block ≤ coreMost

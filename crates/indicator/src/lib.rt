@@ -1,13 +1,11 @@
 // An indicator: what is to be done with a half of a program word; and the indicators of a group read fast: the next 64 bits are
 // held in one number, and where all of them are 0 many words without change are passed at once.
 ghost use mathlib.Core.Path.{_≡_};
-ghost use Prim.Native.Nat.{_+_, _-_, _*_, _<_, _≤_, _^_};
-ghost use lib.ListN.{length};
-ghost use Rattle.word.specs.Limits.{coreMost};
+ghost use Prim.Native.Nat.{_+_, _-_, _*_, _<_, _^_};
 ghost use Rattle.word.specs.Lists.{range};
-ghost use Rattle.indicator.specs.Indicator.{InBlock, bitsBefore, widthOf, afterAll, justEnough};
-ghost use Rattle.indicator.specs.HowCursor.{never, Sees, edgeOf, startCursor, lookOf, pastOf, pastField, pastWord, refilled};
-ghost use Rattle.indicator.specs.HowCursor.{plainWords, pastPlain, turnOf};
+ghost use Rattle.indicator.specs.Indicator.{bitsBefore, widthOf, afterAll, justEnough};
+ghost use Rattle.indicator.specs.HowCursor.{edgeOf, startCursor, lookOf, pastOf, pastField, pastWord, refilled};
+ghost use Rattle.indicator.specs.HowCursor.{plainWords, pastPlain, turnOf, RefillReady, MoveOnReady, CountReady};
 use word::Half;
 use word::WORD_BITS;
 use word::WORD_LIMIT;
@@ -133,7 +131,7 @@ pub fn pass_word(c: Cursor, w: u64) -> Cursor
 
 // One indicator word more where fewer than 29 bits are at hand; a program word's two indicators need 26 at most.
 pub fn refill(block: &[u64], end: usize, n: usize, c: Cursor) -> Cursor
-    requires { ⌜ (InBlock (now block) end n) × (Sees (now block) end n c 0) × (c .at + 28 < never) × (36 * n < 2 ^ 64) ⌝ }
+    requires { ⌜ RefillReady (now block) end n c ⌝ }
     ensures { λ r. ⌜ r ≡ refilled (now (block .entry)) end n c ⌝ }
 {
     let at = c.at;
@@ -181,7 +179,7 @@ pub fn pass_plain(c: Cursor, k: usize) -> Cursor
 
 // From the program word at place i on: words without change at once, or one word.
 fn move_on(block: &[u64], last: usize, c: Cursor, i: usize) -> Turn
-    requires { ⌜ (i < last) × (last ≤ length (now block)) × (36 * c .words < 2 ^ 64) × (c .at + 26 * (last - i) < 2 ^ 64) ⌝ }
+    requires { ⌜ MoveOnReady (now block) last c i ⌝ }
     ensures { λ r. ⌜ r ≡ turnOf (now (block .entry)) last c i ⌝ }
 {
     let k = unchanged(c, last - i);
@@ -202,8 +200,9 @@ fn move_on(block: &[u64], last: usize, c: Cursor, i: usize) -> Turn
 
 // Whether the indicators of the words from place first up to place last need just the n words before place end.
 pub fn count_fits(block: &[u64], first: usize, last: usize, end: usize, n: usize) -> bool
-    requires { ⌜ (InBlock (now block) end n) × (last ≤ length (now block)) × (length (now block) ≤ coreMost) ⌝ }
-    ensures { λ r. ⌜ r ≡ justEnough (afterAll (bitsBefore (now (block .entry)) end n) 0 (range (now (block .entry)) first (last - first))) n ⌝ }
+    requires { ⌜ CountReady (now block) last end n ⌝ }
+    ensures { λ r. ⌜ r ≡ justEnough (afterAll (bitsBefore (now (block .entry)) end n) 0
+        (range (now (block .entry)) first (last - first))) n ⌝ }
 {
     let mut c = start(n);
     let mut i = first;

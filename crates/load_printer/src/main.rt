@@ -1,5 +1,5 @@
-// The load printer: feeds room 0 the blocks on standard input, 256 lines of 12 octal digits each, and prints what is answered to each
-// (01, "The hand deck").
+// The load printer: feeds room 0 the blocks on standard input, 256 lines of 12 octal digits each, and prints what is answered to
+// each (01, "The hand deck").
 ghost use mathlib.Core.Path.{_≡_};
 ghost use lib.ListN.{length};
 ghost use Rattle.word.specs.Limits.{wordsInBlock};

@@ -67,7 +67,8 @@ fn pairs_fit(core: u64, numbers: &[u64]) -> bool
 }
 
 // Whether each stretch lies inside the core and starts at or behind the end of those before it; an empty one may start anywhere.
-// What is left of the core behind them tells it: a stretch that starts past the core has a difference that wraps, and so is over it.
+// What is left of the core behind them tells it: a stretch that starts past the core has a difference that wraps, and so is over
+// it.
 fn in_order(core: u64, m: [Stretch; ROOMS]) -> bool
     ensures { λ b. ⌜ b ≡ inOrder core 0 m ⌝ }
 {

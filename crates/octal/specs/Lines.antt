@@ -64,8 +64,8 @@ isBlock text = every isGood (tab (line text) lineCount)
 unfoldable pub blockOf : List ℕ → List ℕ
 blockOf text = tab (lineWord text) lineCount
 
--- how many bytes are a block's text: 3,328, or one less, where the input ends without the last newline; any other number of bytes is
--- a part block
+-- how many bytes are a block's text: 3,328, or one less, where the input ends without the last newline; any other number of bytes
+-- is a part block
 unfoldable pub isWhole : ℕ → Bool
 isWhole n = eqb n textBytes || eqb n (textBytes - 1)
 

@@ -40,10 +40,10 @@ abbrev pub OfBlock : Fault → Type 0
 OfBlock f = (13 ≤ f .number) × (f .number ≤ 22)
 
 -- a step that goes on to a stage of which P holds, or is refused
-abbrev Leads : (Stage → Type 0) → Step → Type 0
-Leads P (More s) = P s
-Leads P (Done a) = ⊥
-Leads P (Refused f) = OfBlock f
+abbrev StepLeads : (Stage → Type 0) → Step → Type 0
+StepLeads P (More s) = P s
+StepLeads P (Done a) = ⊥
+StepLeads P (Refused f) = OfBlock f
 
 of-block : (n : ℕ) → 13 ≤ n → n ≤ 22 → OfBlock (fault n)
 of-block n h k = (h, k)
@@ -52,13 +52,13 @@ of-block n h k = (h, k)
 module _ (P : Stage → Type 0) (ios : List ℕ) (tables : ℕ) (block : List ℕ) where
   with-leads : (r : LabelRead) → labelOf block ≡ r
       → ((l : Label) → labelOf block ≡ Good l → assignmentsFit l ios tables ≡ true → P (afterLabel (length ios) tables l))
-      → Leads P (withLabel ios tables r)
+      → StepLeads P (withLabel ios tables r)
   unfolding withLabel
-  with-leads (Good l) e h = when (Leads P) (assignmentsFit l ios tables) (h l e) (λ _. of-block 16 (omega arith) (omega arith))
+  with-leads (Good l) e h = when (StepLeads P) (assignmentsFit l ios tables) (h l e) (λ _. of-block 16 (omega arith) (omega arith))
   with-leads (Bad f) e h = let g = label-faults block f e in (omega arith, omega arith)
 
   label-leads : ((l : Label) → labelOf block ≡ Good l → assignmentsFit l ios tables ≡ true → P (afterLabel (length ios) tables l))
-      → Leads P (labelStep ios tables block)
+      → StepLeads P (labelStep ios tables block)
   unfolding labelStep
   label-leads h = with-leads (labelOf block) refl h
 
@@ -95,9 +95,9 @@ module _ (ios : List ℕ) (tables : ℕ) (block : List ℕ) where
 
 -- ---- a modification block
 module _ (io : ℕ) (ts : List CoreTable) (c : LabelCounts) (exact : Bool) (b : ℕ) (block : List ℕ) where
-  entry-leads : (P : Stage → Type 0) → P (afterEntries io (length ts) c exact b) → Leads P (entryStep io ts c exact b block)
+  entry-leads : (P : Stage → Type 0) → P (afterEntries io (length ts) c exact b) → StepLeads P (entryStep io ts c exact b block)
   unfolding entryStep
-  entry-leads P h = both (Leads P) (entriesFit io ts exact b block) h (of-block 16 (omega arith) (omega arith))
+  entry-leads P h = both (StepLeads P) (entriesFit io ts exact b block) h (of-block 16 (omega arith) (omega arith))
 
   pub entry-not-done : (a : Absolute) → entryStep io ts c exact b block ≡ Done a → ⊥
   entry-not-done a e = rw e at (entry-leads (λ _. Unit {0}) tt)

@@ -24,7 +24,8 @@ labelCountsOf l = record { channels = channelCount l; sections = l .sections }
 
 -- "With no entries there is no modification block."
 unfoldable pub afterLabel : ℕ → ℕ → Label → Stage
-afterLabel io tables l = cond (eqb (entryBlocks io tables) 0) (Program (labelCountsOf l) Segment) (Entry (labelCountsOf l) (l .exact) 0)
+afterLabel io tables l =
+    cond (eqb (entryBlocks io tables) 0) (Program (labelCountsOf l) Segment) (Entry (labelCountsOf l) (l .exact) 0)
 
 unfoldable pub withLabel : List ℕ → ℕ → LabelRead → Step
 withLabel ios tables (Good l) =

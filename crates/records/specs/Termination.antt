@@ -1,5 +1,5 @@
--- The termination block: "word 1 bits 15-0 give the start, relative to the Program Name"; "start not in the IBANK" is 22; else the answer
--- is *done* with the absolute start.
+-- The termination block: "word 1 bits 15-0 give the start, relative to the Program Name"; "start not in the IBANK" is 22; else the
+-- answer is *done* with the absolute start.
 use Prim.Native.Nat.{ℕ}
 use mathlib.Core.Bool.{cond}
 use mathlib.Core.List.{List}

@@ -1,14 +1,14 @@
 // The blocks that are read whole: the label, the modification blocks and the termination block. Each leads to what is due next, to
 // the start, or to the first fault in reading order.
 ghost use mathlib.Core.Path.{_≡_};
-ghost use Prim.Native.Nat.{_+_, _≤_, _<_};
+ghost use Prim.Native.Nat.{_≤_};
 ghost use lib.ListN.{length};
-ghost use Rattle.word.specs.Limits.{coreMost, ioMost, tablesMost, wordsInBlock};
+ghost use Rattle.word.specs.Limits.{coreMost, wordsInBlock};
 ghost use Rattle.label.specs.declared.LabelRead.the-variants.{Good};
 ghost use Rattle.label.specs.Label.{Carried};
 ghost use Rattle.lists.specs.Load.{ioNumbers, coreTables, Readable};
 ghost use Rattle.records.specs.Label.{withLabel, labelStep};
-ghost use Rattle.records.specs.Entries.{entryFits, entriesFit, entryStep};
+ghost use Rattle.records.specs.Entries.{entryFits, entriesFit, entryStep, EntryReady, SpotReady};
 ghost use Rattle.records.specs.Termination.{terminationStep};
 use label::Label;
 use label::LabelRead;
@@ -60,7 +60,7 @@ pub fn entry_step(
     b: u64,
     block: &[u64],
 ) -> Step
-    requires { ⌜ (Readable g (now lists)) × (b < 65536) × (length (now block) ≡ wordsInBlock) ⌝ }
+    requires { ⌜ EntryReady g (now lists) b (now block) ⌝ }
     ensures { λ r. ⌜ r ≡ entryStep (g .io) (coreTables g (now (lists .entry))) c exact b (now (block .entry)) ⌝ }
 {
     if !entries_fit(g, lists, exact, b, block) {
@@ -93,7 +93,7 @@ fn entries_fit(g: Given, lists: &[u64], exact: bool, b: u64, block: &[u64]) -> b
 
 // The same of table t, of length len.
 fn entry_fits(io: u64, exact: bool, b: u64, block: &[u64], len: u64, t: u64) -> bool
-    requires { ⌜ (io ≤ ioMost) × (t ≤ tablesMost) × (length (now block) ≡ wordsInBlock) ⌝ }
+    requires { ⌜ SpotReady io t (now block) ⌝ }
     ensures { λ r. ⌜ r ≡ entryFits io exact b (now (block .entry)) len t ⌝ }
 {
     let s = modification::length_spot(io, Reference(t));

@@ -70,7 +70,8 @@ pub fn fair(holders: &[u64]) -> bool
 // The places that are held, lowest first, at the start of out. Says how many they are.
 pub fn held_places(holders: &[u64], out: &mut [usize]) -> usize
     requires { ⌜ length (now holders) ≤ length (now out) ⌝ }
-    ensures { λ n. ⌜ (n ≡ length (heldPlaces 0 (now (holders .entry)))) × (now (out .exit) ≡ splice (now (out .entry)) 0 (heldPlaces 0 (now (holders .entry)))) ⌝ }
+    ensures { λ n. ⌜ (n ≡ length (heldPlaces 0 (now (holders .entry))))
+        × (now (out .exit) ≡ splice (now (out .entry)) 0 (heldPlaces 0 (now (holders .entry)))) ⌝ }
 {
     let mut n: usize = 0;
     let mut i: usize = 0;

@@ -27,9 +27,9 @@ use Rattle.sections.specs.declared.Item.the-variants.{Go, Stop}
 use Rattle.lists.specs.Load.{Load}
 use Rattle.sections.specs.Waits.{assignments}
 use Rattle.sections.specs.Program.{afterGroup, itemStep, ItemOutcome, StepOutcome, StepMeets, closes, followed, programFrom, programStep}
-use Rattle.sections.proofs.Ranges.{Fits}
-use Rattle.sections.proofs.Leads.{Told, Leads, item-leads}
-use Rattle.sections.proofs.Turns.{item-cases, item-length, Stands, item-stands, open-place}
+use Rattle.sections.proofs.Ranges.{StageFits}
+use Rattle.sections.proofs.Leads.{Told, ItemLeads, item-leads}
+use Rattle.sections.proofs.Turns.{item-cases, item-length, InPlace, item-in-place, open-place}
 
 -- two outcomes that meet the contract are equal
 pub one-outcome : (o : StepOutcome) (r r′ : Step) (core core′ : List ℕ) → StepMeets o r core → StepMeets o r′ core′ → (r ≡ r′) × (core ≡ core′)
@@ -38,12 +38,12 @@ one-outcome o r r′ core core′ p q = (p .told ∙ sym (q .told), p .left ∙ 
 -- ---- the answer
 module _ (x : Load) (block : List ℕ) where
   -- an answer for the next stage is one for this stage
-  told-through : (s t : Stage) (r : Step) → (Fits x s → Fits x t) → Told x t r → Told x s r
+  told-through : (s t : Stage) (r : Step) → (StageFits x s → StageFits x t) → Told x t r → Told x s r
   told-through s t (More u) h k = λ f. k (h f)
   told-through s t (Done a) h k = k
   told-through s t (Refused f) h k = k
 
-  follow-told : (s : Stage) (i : ℕ) (it : Item) (core : List ℕ) (next : LabelCounts → Due → ℕ → List ℕ → StepOutcome) → Leads x s i it
+  follow-told : (s : Stage) (i : ℕ) (it : Item) (core : List ℕ) (next : LabelCounts → Due → ℕ → List ℕ → StepOutcome) → ItemLeads x s i it
       → ((d : LabelCounts) (t : Due) (p : ℕ) → Told x (Program d t) (next d t p core .step)) → Told x s (followed it core next .step)
   follow-told s i (Go d t p) core next l h = told-through s (Program d t) (next d t p core .step) (l .2) (h d t p)
   follow-told s i (Stop r) core next l h = l
@@ -63,7 +63,7 @@ module _ (x : Load) (block : List ℕ) where
     unfolding programStep
     program-told = from-told 254 c due 1 core
 
-    pub program-fits : (t : Stage) → Fits x (Program c due) → programStep x c due block core .step ≡ More t → Fits x t
+    pub program-fits : (t : Stage) → StageFits x (Program c due) → programStep x c due block core .step ≡ More t → StageFits x t
     program-fits t f e = (rw e at program-told) f
 
     pub program-not-done : (a : Absolute) → programStep x c due block core .step ≡ Done a → ⊥
@@ -76,37 +76,37 @@ module _ (x : Load) (block : List ℕ) where
 module _ (x : Load) (block : List ℕ) where
   -- what each item keeps, the block keeps
   module _ (P : List ℕ → List ℕ → Type 0) (same : (core : List ℕ) → P core core) (both : (a b c : List ℕ) → P a b → P b c → P a c)
-      (item : (c : LabelCounts) (due : Due) (i : ℕ) (core : List ℕ) → Stands x (Program c due) core → P core (itemStep x c due block i core .core)) where
+      (item : (c : LabelCounts) (due : Due) (i : ℕ) (core : List ℕ) → InPlace x (Program c due) core → P core (itemStep x c due block i core .core)) where
     follow-keeps : (core : List ℕ) (it : Item) (after : List ℕ) (next : LabelCounts → Due → ℕ → List ℕ → StepOutcome) → P core after
         → ((d : LabelCounts) (t : Due) (p : ℕ) → it ≡ Go d t p → P after (next d t p after .core)) → P core (followed it after next .core)
     follow-keeps core (Go d t p) after next h k = both core after (next d t p after .core) h (k d t p refl)
     follow-keeps core (Stop r) after next h k = h
 
-    from-keeps : (n : ℕ) (c : LabelCounts) (due : Due) (i : ℕ) (core : List ℕ) → Stands x (Program c due) core → P core (programFrom n x c due block i core .core)
+    from-keeps : (n : ℕ) (c : LabelCounts) (due : Due) (i : ℕ) (core : List ℕ) → InPlace x (Program c due) core → P core (programFrom n x c due block i core .core)
     unfolding programFrom
     from-keeps zero c due i core w = same core
     from-keeps (suc n) c due i core w = by-test (closes block i)
         (λ q. rw q (same core))
         (λ q. rw q
         (follow-keeps core (itemStep x c due block i core .item) (itemStep x c due block i core .core) _ (item c due i core w)
-        (λ d t p e. from-keeps n d t p (itemStep x c due block i core .core) (item-stands x block c due i core d t p e (open-place x block i q) w))))
+        (λ d t p e. from-keeps n d t p (itemStep x c due block i core .core) (item-in-place x block c due i core d t p e (open-place x block i q) w))))
 
-    program-keeps : (c : LabelCounts) (due : Due) (core : List ℕ) → Stands x (Program c due) core → P core (programStep x c due block core .core)
+    program-keeps : (c : LabelCounts) (due : Due) (core : List ℕ) → InPlace x (Program c due) core → P core (programStep x c due block core .core)
     unfolding programStep
     program-keeps c due core w = from-keeps 254 c due 1 core w
 
-  pub program-length : (c : LabelCounts) (due : Due) (core : List ℕ) → Stands x (Program c due) core → length (programStep x c due block core .core) ≡ length core
+  pub program-length : (c : LabelCounts) (due : Due) (core : List ℕ) → InPlace x (Program c due) core → length (programStep x c due block core .core) ≡ length core
   program-length = program-keeps (λ (a b : List ℕ). length b ≡ length a) (λ core. refl) (λ a b c h k. k ∙ h) (item-length x block)
 
   -- no word outside the area changes
-  pub program-area : (j : ℕ) → Beside j (x .area .at .0) (x .area .size) → (c : LabelCounts) (due : Due) (core : List ℕ) → Stands x (Program c due) core
+  pub program-area : (j : ℕ) → Beside j (x .area .at .0) (x .area .size) → (c : LabelCounts) (due : Due) (core : List ℕ) → InPlace x (Program c due) core
       → getD (programStep x c due block core .core) j 0 ≡ getD core j 0
   program-area j o = program-keeps (λ (a b : List ℕ). getD b j 0 ≡ getD a j 0) (λ core. refl) (λ a b c h k. k ∙ h)
       (λ c due i core w. item-cases x block i (λ (f : List ℕ → ItemOutcome). getD (f core .core) j 0 ≡ getD core j 0) (λ it. refl) c
       (λ same least ibank section room. group-area (assignments x c) section block i core room (w .inside) j o) due (w .tables) (w .stage))
 
   -- what is stored is words below 2^36, whatever the core held
-  pub program-words : every isWord block ≡ true → (c : LabelCounts) (due : Due) (core : List ℕ) → Stands x (Program c due) core
+  pub program-words : every isWord block ≡ true → (c : LabelCounts) (due : Due) (core : List ℕ) → InPlace x (Program c due) core
       → StoredWords core (programStep x c due block core .core)
   program-words words = program-keeps StoredWords stored-none stored-then
       (λ c due i core w. item-cases x block i (λ (f : List ℕ → ItemOutcome). StoredWords core (f core .core)) (λ it. stored-none core) c
@@ -114,7 +114,7 @@ module _ (x : Load) (block : List ℕ) where
 
 -- ---- two cores that a load could have
 module _ (x : Load) (block : List ℕ) where
-  item-same : (c : LabelCounts) (due : Due) (i : ℕ) (core core′ : List ℕ) → Stands x (Program c due) core
+  item-same : (c : LabelCounts) (due : Due) (i : ℕ) (core core′ : List ℕ) → InPlace x (Program c due) core
       → itemStep x c due block i core .item ≡ itemStep x c due block i core′ .item
   item-same c due i core core′ w =
       item-cases x block i (λ (f : List ℕ → ItemOutcome). f core .item ≡ f core′ .item) (λ it. refl) c
@@ -122,7 +122,7 @@ module _ (x : Load) (block : List ℕ) where
 
   -- what each item keeps of two cores, the block keeps; and it answers the same of both
   module _ (P : List ℕ → List ℕ → Type 0)
-      (item : (c : LabelCounts) (due : Due) (i : ℕ) (core core′ : List ℕ) → Stands x (Program c due) core → Stands x (Program c due) core′ → P core core′
+      (item : (c : LabelCounts) (due : Due) (i : ℕ) (core core′ : List ℕ) → InPlace x (Program c due) core → InPlace x (Program c due) core′ → P core core′
       → P (itemStep x c due block i core .core) (itemStep x c due block i core′ .core)) where
     abbrev Same : StepOutcome → StepOutcome → Type 0
     Same o o′ = (o .step ≡ o′ .step) × P (o .core) (o′ .core)
@@ -132,7 +132,7 @@ module _ (x : Load) (block : List ℕ) where
     follow-both (Go d t p) it′ core core′ next e h k = rw (← e) (k d t p refl)
     follow-both (Stop r) it′ core core′ next e h k = rw (← e) (refl, h)
 
-    from-both : (n : ℕ) (c : LabelCounts) (due : Due) (i : ℕ) (core core′ : List ℕ) → Stands x (Program c due) core → Stands x (Program c due) core′ → P core core′
+    from-both : (n : ℕ) (c : LabelCounts) (due : Due) (i : ℕ) (core core′ : List ℕ) → InPlace x (Program c due) core → InPlace x (Program c due) core′ → P core core′
         → Same (programFrom n x c due block i core) (programFrom n x c due block i core′)
     unfolding programFrom
     from-both zero c due i core core′ w w′ h = (refl, h)
@@ -144,14 +144,14 @@ module _ (x : Load) (block : List ℕ) where
         (follow-both (itemStep x c due block i core .item) (itemStep x c due block i core′ .item) (itemStep x c due block i core .core) (itemStep x c due block i core′ .core) _
         e (item c due i core core′ w w′ h)
         (λ d t p g. from-both n d t p (itemStep x c due block i core .core) (itemStep x c due block i core′ .core)
-        (item-stands x block c due i core d t p g l w) (item-stands x block c due i core′ d t p (sym e ∙ g) l w′) (item c due i core core′ w w′ h))))
+        (item-in-place x block c due i core d t p g l w) (item-in-place x block c due i core′ d t p (sym e ∙ g) l w′) (item c due i core core′ w w′ h))))
 
-    program-both : (c : LabelCounts) (due : Due) (core core′ : List ℕ) → Stands x (Program c due) core → Stands x (Program c due) core′ → P core core′
+    program-both : (c : LabelCounts) (due : Due) (core core′ : List ℕ) → InPlace x (Program c due) core → InPlace x (Program c due) core′ → P core core′
         → Same (programStep x c due block core) (programStep x c due block core′)
     unfolding programStep
     program-both c due core core′ w w′ h = from-both 254 c due 1 core core′ w w′ h
 
-  module _ (c : LabelCounts) (due : Due) (core core′ : List ℕ) (w : Stands x (Program c due) core) (w′ : Stands x (Program c due) core′) where
+  module _ (c : LabelCounts) (due : Due) (core core′ : List ℕ) (w : InPlace x (Program c due) core) (w′ : InPlace x (Program c due) core′) where
     -- the answer does not hang on the core
     pub program-same : programStep x c due block core .step ≡ programStep x c due block core′ .step
     program-same = program-both (λ (a b : List ℕ). Unit {0}) (λ d t i a b v v′ h. tt) c due core core′ w w′ tt .0

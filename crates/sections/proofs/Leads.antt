@@ -41,18 +41,18 @@ use Rattle.lists.specs.Load.{Load}
 use Rattle.sections.specs.Waits.{assignments}
 use Rattle.sections.specs.Heads.{banksFit, withSegment, segmentStep, withSection, sectionStep}
 use Rattle.sections.specs.Program.{inSection, afterLast, afterGroup, itemStep}
-use Rattle.sections.proofs.Ranges.{Fits, LabelCountsFit, BankFits, says-first, says-segment, says-section, says-table}
+use Rattle.sections.proofs.Ranges.{StageFits, LabelCountsFit, BankFits, says-first, says-segment, says-section, says-table}
 
 -- an answer for a load that waited for s
 abbrev pub Told : Load → Stage → Step → Type 0
-Told x s (More t) = Fits x s → Fits x t
+Told x s (More t) = StageFits x s → StageFits x t
 Told x s (Done a) = ⊥
 Told x s (Refused f) = Among 17 21 f
 
 -- an item at place i, where s is due
-abbrev pub Leads : Load → Stage → ℕ → Item → Type 0
-Leads x s i (Go c due p) = (i < p) × (p ≤ 255) × (Fits x s → Fits x (Program c due))
-Leads x s i (Stop r) = Told x s r
+abbrev pub ItemLeads : Load → Stage → ℕ → Item → Type 0
+ItemLeads x s i (Go c due p) = (i < p) × (p ≤ 255) × (StageFits x s → StageFits x (Program c due))
+ItemLeads x s i (Stop r) = Told x s r
 
 -- ---- heads
 abbrev ofBank : BankRead → Type 0
@@ -99,18 +99,18 @@ module _ (x : Load) where
       (and-left i _ q, and-left d _ (and-right i _ q))
 
   with-segment : (c : LabelCounts) (i : ℕ) → i + 3 ≤ 254 → (r : SegmentRead) → ofSegment r
-      → Leads x (Program c segment-due) i (withSegment (x .area) (x .tables) c (i + 4) r)
+      → ItemLeads x (Program c segment-due) i (withSegment (x .area) (x .tables) c (i + 4) r)
   unfolding withSegment
   with-segment c i h (segment-read g) k =
-      when (Leads x (Program c segment-due) i) (banksFit (x .area) (x .tables) g)
+      when (ItemLeads x (Program c segment-due) i) (banksFit (x .area) (x .tables) g)
       (λ q. (omega arith, omega arith, λ f. says-segment x c g .test (says-first x c .fact f .0, banks-both g q)))
       (λ q. (omega arith, omega arith))
   with-segment c i h (no-segment f) k = k
 
-  segment-leads : (c : LabelCounts) (block : List ℕ) (i : ℕ) → Leads x (Program c segment-due) i (segmentStep (x .area) (x .tables) c block i)
+  segment-leads : (c : LabelCounts) (block : List ℕ) (i : ℕ) → ItemLeads x (Program c segment-due) i (segmentStep (x .area) (x .tables) c block i)
   unfolding segmentStep
   segment-leads c block i =
-      when (Leads x (Program c segment-due) i) (leb (i + 3) 254)
+      when (ItemLeads x (Program c segment-due) i) (leb (i + 3) 254)
       (λ q. with-segment c i (leb-true (i + 3) 254 q) (segmentOf (getD block i 0) (getD block (i + 1) 0)) (segment-fault (getD block i 0) (getD block (i + 1) 0)))
       (λ q. (omega arith, omega arith))
 
@@ -122,43 +122,43 @@ module _ (x : Load) where
       says-and (says-le (c .channels) io) (says-le (c .sections - 1) tables) .test (s .0, omega arith)
 
   with-section : (c : LabelCounts) (least : Reference) (ibank : Bank) (i : ℕ) → i ≤ 254 → (r : TableSectionRead) → ofSection r
-      → Leads x (Program c (section-due least ibank)) i (withSection (x .tables) c (least .0) ibank (i + 1) r)
+      → ItemLeads x (Program c (section-due least ibank)) i (withSection (x .tables) c (least .0) ibank (i + 1) r)
   unfolding withSection
   with-section c least ibank i h (section-read t) k =
-      both (Leads x (Program c (section-due least ibank)) i) (leb (least .0) (t .number .0))
-      (when (Leads x (Program c (section-due least ibank)) i) (sectionFits (x .tables) t)
+      both (ItemLeads x (Program c (section-due least ibank)) i) (leb (least .0) (t .number .0))
+      (when (ItemLeads x (Program c (section-due least ibank)) i) (sectionFits (x .tables) t)
       (λ q. (omega arith, omega arith, λ f. let d = says-section x c least ibank .fact f in says-table x (record { channels = c .channels; sections = c .sections - 1 }) t ibank .test (fewer-fits _ _ c (d .0), (q, d .1))))
       (λ q. (omega arith, omega arith)))
       (omega arith, omega arith)
   with-section c least ibank i h (no-section f) k = k
 
   section-leads : (c : LabelCounts) (least : Reference) (ibank : Bank) (block : List ℕ) (i : ℕ) → i ≤ 254
-      → Leads x (Program c (section-due least ibank)) i (sectionStep (x .tables) c (least .0) ibank block i)
+      → ItemLeads x (Program c (section-due least ibank)) i (sectionStep (x .tables) c (least .0) ibank block i)
   unfolding sectionStep
   section-leads c least ibank block i h = with-section c least ibank i h (tableSectionOf (getD block i 0)) (section-fault (getD block i 0))
 
   -- ---- groups: their section's stage fits, so what the section leaves fits
-  module _ (c : LabelCounts) (same : Due) (least i : ℕ) (ibank : Bank) (fits : Fits x (Program c same) → LabelCountsFit x c × BankFits x ibank) where
-    last-leads : (p : ℕ) → i < p → p ≤ 255 → Leads x (Program c same) i (afterLast c least ibank p)
+  module _ (c : LabelCounts) (same : Due) (least i : ℕ) (ibank : Bank) (fits : StageFits x (Program c same) → LabelCountsFit x c × BankFits x ibank) where
+    last-leads : (p : ℕ) → i < p → p ≤ 255 → ItemLeads x (Program c same) i (afterLast c least ibank p)
     unfolding afterLast stageFits
     last-leads p h k =
-        both (Leads x (Program c same) i) (eqb (c .sections) 0) (λ f. fits f .1) (h, k, λ f. says-section x c (record { 0 = least }) ibank .test (fits f))
+        both (ItemLeads x (Program c same) i) (eqb (c .sections) 0) (λ f. fits f .1) (h, k, λ f. says-section x c (record { 0 = least }) ibank .test (fits f))
 
     answer-leads : (r : GroupStep) → ofGroup r → ((p : ℕ) (last : Bool) → r ≡ group-done p last → (i < p) × (p ≤ 255))
-        → Leads x (Program c same) i (afterGroup c same least ibank r)
+        → ItemLeads x (Program c same) i (afterGroup c same least ibank r)
     unfolding afterGroup
     answer-leads (group-done p last) h k =
         let l = k p last refl in
-        both (Leads x (Program c same) i) last (last-leads p (l .0) (l .1)) (l .0, l .1, λ f. f)
+        both (ItemLeads x (Program c same) i) last (last-leads p (l .0) (l .1)) (l .0, l .1, λ f. f)
     answer-leads (group-refused f) h k = (omega arith, h .1)
 
     group-leads : (section : Section) (block core : List ℕ)
-        → Leads x (Program c same) i (afterGroup c same least ibank (groupStep (assignments x c) section block i core .answer))
+        → ItemLeads x (Program c same) i (afterGroup c same least ibank (groupStep (assignments x c) section block i core .answer))
     group-leads section block core =
         answer-leads (groupStep (assignments x c) section block i core .answer) (group-faults (assignments x c) section block i core)
         (λ p last q. let e = groups.group-done (assignments x c) section block i core p last q in (e .after, e .most))
 
-  pub item-leads : (c : LabelCounts) (due : Due) (block : List ℕ) (i : ℕ) (core : List ℕ) → i ≤ 254 → Leads x (Program c due) i (itemStep x c due block i core .item)
+  pub item-leads : (c : LabelCounts) (due : Due) (block : List ℕ) (i : ℕ) (core : List ℕ) → i ≤ 254 → ItemLeads x (Program c due) i (itemStep x c due block i core .item)
   unfolding itemStep
   item-leads c segment-due block i core h = segment-leads c block i
   item-leads c (SegmentGroup g) block i core h =
@@ -174,11 +174,11 @@ module _ (x : Load) where
   -- an item that goes on goes to a later place, at most 255, and keeps the stage's numbers in their ranges
   module _ (c : LabelCounts) (due : Due) (block : List ℕ) (i : ℕ) (core : List ℕ) (d : LabelCounts) (t : Due) (p : ℕ) (e : itemStep x c due block i core .item ≡ Go d t p)
       (h : i ≤ 254) where
-    leads : Leads x (Program c due) i (Go d t p)
+    leads : ItemLeads x (Program c due) i (Go d t p)
     leads = rw e at (item-leads c due block i core h)
 
     pub item-onward : (i < p) × (p ≤ 255)
     item-onward = (leads .0, leads .1)
 
-    pub item-fits : Fits x (Program c due) → Fits x (Program d t)
+    pub item-fits : StageFits x (Program c due) → StageFits x (Program d t)
     item-fits = leads .2

@@ -39,8 +39,8 @@ unfolding sectionFits
 count-inside ts t = says-and (says-lt (t .number .0) (length ts)) (says-le (t .count) (getD ts (t .number .0) noTable .len)) .fact
 
 -- a stage's numbers are in their ranges, and what that says of each stage that a program block is read for
-abbrev pub Fits : Load → Stage → Type 0
-Fits x s = stageFits (x .area) (x .tables) (length (x .ios)) s ≡ true
+abbrev pub StageFits : Load → Stage → Type 0
+StageFits x s = stageFits (x .area) (x .tables) (length (x .ios)) s ≡ true
 
 abbrev pub LabelCountsFit : Load → LabelCounts → Type 0
 LabelCountsFit x c = labelCountsFit (length (x .ios)) (length (x .tables)) c ≡ true
@@ -80,16 +80,16 @@ module _ (x : Load) (c : LabelCounts) where
 
 module _ (x : Load) where
   -- the section's room lies in the area
-  pub segment-room : (c : LabelCounts) (g : Segment) → Fits x (Program c (SegmentGroup g)) → InArea (x .area) (in-segment g)
+  pub segment-room : (c : LabelCounts) (g : Segment) → StageFits x (Program c (SegmentGroup g)) → InArea (x .area) (in-segment g)
   segment-room c g q =
       let f = says-segment x c g .fact q in
       (bank-inside (x .area) (g .ibank) (f .1 .0), bank-inside (x .area) (g .dbank) (f .1 .1))
 
-  pub table-there : (c : LabelCounts) (t : TableSection) (ibank : Bank) → Fits x (Program c (SectionGroup t ibank))
+  pub table-there : (c : LabelCounts) (t : TableSection) (ibank : Bank) → StageFits x (Program c (SectionGroup t ibank))
       → (t .number .0 < length (x .tables)) × (t .count ≤ getD (x .tables) (t .number .0) noTable .len)
   table-there c t ibank q = count-inside (x .tables) t (says-table x c t ibank .fact q .1 .0)
 
-  pub table-room : (c : LabelCounts) (t : TableSection) (ibank : Bank) → every (tableInside (x .area)) (x .tables) ≡ true → Fits x (Program c (SectionGroup t ibank))
+  pub table-room : (c : LabelCounts) (t : TableSection) (ibank : Bank) → every (tableInside (x .area)) (x .tables) ≡ true → StageFits x (Program c (SectionGroup t ibank))
       → InArea (x .area) (in-table (getD (x .tables) (t .number .0) noTable) (t .count))
   table-room c t ibank e q =
       let h = table-there c t ibank q in

@@ -35,7 +35,7 @@ use Rattle.sections.specs.declared.Item.the-variants.{Go, Stop}
 use Rattle.lists.specs.Load.{Load, loadOf, coreTable, coreTables, Readable}
 use Rattle.sections.specs.Waits.{assignments, Waits}
 use Rattle.sections.specs.Program.{inSection, afterGroup, grouped, headed, itemStep, ItemOutcome, ItemMeets, StepOutcome, StepMeets, closes, followed, programFrom}
-use Rattle.sections.proofs.Ranges.{Fits, segment-room, table-there, table-room}
+use Rattle.sections.proofs.Ranges.{StageFits, segment-room, table-there, table-room}
 use Rattle.sections.proofs.Leads.{item-onward, item-fits}
 
 -- ---- a group: what its fields are changed by is what the code hands over
@@ -61,12 +61,12 @@ module _ (g : Given) (l : List ℕ) (readable : Readable g l) (c : LabelCounts) 
   table-read r e = e ∙ sym (core-at g l readable (t .number .0) noTable (omega (arith, there, core-length g l readable)))
 
 -- what the laws below ask of a load: its area lies in the core, its tables in the area, and its stage is in range
-pub record Stands (x : Load) (s : Stage) (core : List ℕ) : Type 0 where
+pub record InPlace (x : Load) (s : Stage) (core : List ℕ) : Type 0 where
   pub inside : x .area .at .0 + x .area .size ≤ length core
   pub tables : every (tableInside (x .area)) (x .tables) ≡ true
-  pub stage : Fits x s
+  pub stage : StageFits x s
 
-pub stands : (x : Load) (s : Stage) (block core : List ℕ) → Waits x s block core → Stands x s core
+pub stands : (x : Load) (s : Stage) (block core : List ℕ) → Waits x s block core → InPlace x s core
 stands x s block core w = record { inside = w .inside; tables = w .tables; stage = w .stage }
 
 module _ (x : Load) (block : List ℕ) where
@@ -74,21 +74,21 @@ module _ (x : Load) (block : List ℕ) where
   module _ (i : ℕ) (P : (List ℕ → ItemOutcome) → Type 0) (none : (it : Item) → P (headed it)) (c : LabelCounts)
       (group : (same : Due) (least : ℕ) (ibank : Bank) (section : Section) → InArea (x .area) section
       → P (λ core. grouped c same least ibank (groupStep (assignments x c) section block i core))) where
-    pub item-cases : (due : Due) → every (tableInside (x .area)) (x .tables) ≡ true → Fits x (Program c due) → P (itemStep x c due block i)
+    pub item-cases : (due : Due) → every (tableInside (x .area)) (x .tables) ≡ true → StageFits x (Program c due) → P (itemStep x c due block i)
     unfolding itemStep
     item-cases segment-due e f = none _
     item-cases (SegmentGroup g) e f = group (SegmentGroup g) 0 (g .ibank) (in-segment g) (segment-room x c g f)
     item-cases (section-due t ibank) e f = none _
     item-cases (SectionGroup t ibank) e f = group (SectionGroup t ibank) (t .number .0 + 1) ibank (inSection x t) (table-room x c t ibank e f)
 
-  pub item-length : (c : LabelCounts) (due : Due) (i : ℕ) (core : List ℕ) → Stands x (Program c due) core → length (itemStep x c due block i core .core) ≡ length core
+  pub item-length : (c : LabelCounts) (due : Due) (i : ℕ) (core : List ℕ) → InPlace x (Program c due) core → length (itemStep x c due block i core .core) ≡ length core
   item-length c due i core w =
       item-cases i (λ (f : List ℕ → ItemOutcome). length (f core .core) ≡ length core) (λ it. refl) c
       (λ same least ibank section room. group-length (assignments x c) section block i core room (w .inside)) due (w .tables) (w .stage)
 
   module _ (c : LabelCounts) (due : Due) (i : ℕ) (core : List ℕ) (d : LabelCounts) (t : Due) (p : ℕ) (e : itemStep x c due block i core .item ≡ Go d t p) (h : i ≤ 254) where
-    pub item-stands : Stands x (Program c due) core → Stands x (Program d t) (itemStep x c due block i core .core)
-    item-stands w = record {
+    pub item-in-place : InPlace x (Program c due) core → InPlace x (Program d t) (itemStep x c due block i core .core)
+    item-in-place w = record {
       inside = rw (item-length c due i core w) (w .inside);
       tables = w .tables;
       stage = item-fits x c due block i core d t p e h (w .stage);

@@ -56,12 +56,14 @@ segmentStep area ts c block i =
 
 -- ---- a table section
 
--- "a count from 1 to the assigned length, .. the table's number, rising from section to section": at least `least`. One section fewer
--- is then to come.
+-- "a count from 1 to the assigned length, .. the table's number, rising from section to section": at least `least`. One section
+-- fewer is then to come.
 unfoldable pub withSection : List CoreTable → LabelCounts → ℕ → Bank → ℕ → TableSectionRead → Item
 withSection ts c least ibank p (section-read t) =
     cond (leb least (t .number .0))
-    (cond (sectionFits ts t) (Go (record { channels = c .channels; sections = c .sections - 1 }) (SectionGroup t ibank) p) headFault)
+    (cond (sectionFits ts t)
+    (Go (record { channels = c .channels; sections = c .sections - 1 }) (SectionGroup t ibank) p)
+    headFault)
     headFault
 withSection ts c least ibank p (no-section f) = Stop (Refused f)
 

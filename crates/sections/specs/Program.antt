@@ -1,5 +1,5 @@
--- A program block, from place 1 on: "where an identifier's first word is due, a zero word or the end at word 254 closes the block. A
--- section runs on through as many blocks as it needs."
+-- A program block, from place 1 on: "where an identifier's first word is due, a zero word or the end at word 254 closes the block.
+-- A section runs on through as many blocks as it needs."
 use Prim.Native.Nat.{ℕ, zero, suc, _+_}
 use mathlib.Core.Path.{_≡_}
 use mathlib.Core.Bool.{Bool, cond, _||_}

@@ -7,6 +7,7 @@ use lib.ListN.{length}
 use Rattle.word.specs.Limits.{coreMost, ioMost, tablesMost, wordsInBlock}
 use Rattle.word.specs.Lists.{every}
 use Rattle.word.specs.Word.{isWord}
+use Rattle.program.specs.Sections.{lastWord}
 use Rattle.lists.specs.declared.Given.{Given}
 use Rattle.lists.specs.Load.{Load, loadOf, Readable}
 use Rattle.lists.specs.Obey.{tableInside}
@@ -34,3 +35,9 @@ pub record Waits (x : Load) (s : Stage) (block core : List ℕ) : Type 0 where
 pub record KeptWaits (g : Given) (l : List ℕ) (s : Stage) (block core : List ℕ) : Type 0 where
   pub lists : Readable g l
   pub waits : Waits (loadOf g l) s block core
+
+-- the part of that which the words that head a section need, i the place of the first
+pub record HeadReady (g : Given) (l block : List ℕ) (i : ℕ) : Type 0 where
+  pub lists : Readable g l
+  pub long : length block ≡ wordsInBlock
+  pub place : i ≤ lastWord

@@ -1,11 +1,9 @@
 // The words that head a section: the segment's four, and a table section's one.
 ghost use mathlib.Core.Path.{_≡_};
-ghost use Prim.Native.Nat.{_+_, _-_, _≤_};
-ghost use lib.ListN.{length};
-ghost use Rattle.program.specs.Sections.{lastWord};
-ghost use Rattle.word.specs.Limits.{wordsInBlock};
+ghost use Prim.Native.Nat.{_-_, _≤_};
 ghost use Rattle.word.specs.Lists.{every};
 ghost use Rattle.lists.specs.Load.{coreTables, Readable};
+ghost use Rattle.sections.specs.Waits.{HeadReady};
 ghost use Rattle.sections.specs.Heads.{besideTable, banksFit, segmentStep, sectionStep};
 use crate::Item;
 use crate::Onward;
@@ -23,7 +21,7 @@ use word::Reference;
 
 // The segment section's four words at place i: 17 where they do not stay in the block, are none, or the banks do not fit.
 pub fn segment_head(g: Given, lists: &[u64], c: LabelCounts, block: &[u64], i: usize) -> Item
-    requires { ⌜ (Readable g (now lists)) × (length (now block) ≡ wordsInBlock) × (i ≤ lastWord) ⌝ }
+    requires { ⌜ HeadReady g (now lists) (now block) i ⌝ }
     ensures { λ r. ⌜ r ≡ segmentStep (g .area) (coreTables g (now (lists .entry))) c (now (block .entry)) i ⌝ }
 {
     if LAST_WORD < i + 3 {
@@ -50,7 +48,7 @@ pub fn section_head(
     block: &[u64],
     i: usize,
 ) -> Item
-    requires { ⌜ (Readable g (now lists)) × (length (now block) ≡ wordsInBlock) × (i ≤ lastWord) ⌝ }
+    requires { ⌜ HeadReady g (now lists) (now block) i ⌝ }
     ensures { λ r. ⌜ r ≡ sectionStep (coreTables g (now (lists .entry))) c (o .least .0) (o .ibank) (now (block .entry)) i ⌝ }
 {
     match program::read_table_section(block[i]) {

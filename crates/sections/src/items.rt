@@ -1,6 +1,6 @@
 // A program block, item after item: what is due at a place says how the word there is read.
 ghost use mathlib.Core.Path.{_≡_};
-ghost use Prim.Native.Nat.{_+_, _≤_};
+ghost use Prim.Native.Nat.{_≤_};
 ghost use Rattle.program.specs.Sections.{lastWord};
 ghost use Rattle.lists.specs.Load.{loadOf, Readable};
 ghost use Rattle.sections.specs.Waits.{KeptWaits};
@@ -43,7 +43,8 @@ pub fn program_step(
     core: &mut [u64],
 ) -> Step
     requires { ⌜ KeptWaits g (now lists) (Stage.Program c due) (now block) (now core) ⌝ }
-    ensures { λ r. ⌜ StepMeets (programStep (loadOf g (now (lists .entry))) c due (now (block .entry)) (now (core .entry))) r (now (core .exit)) ⌝ }
+    ensures { λ r. ⌜ StepMeets (programStep (loadOf g (now (lists .entry))) c due (now (block .entry)) (now (core .entry)))
+        r (now (core .exit)) ⌝ }
 {
     let mut b = [0u64; BLOCK_WORDS];
     word::slices::copy_in(&mut b, 0, block);
@@ -60,7 +61,8 @@ fn walk_items(
     core: &mut [u64],
 ) -> Step
     requires { ⌜ KeptWaits g (now lists) (Stage.Program c due) (now block) (now core) ⌝ }
-    ensures { λ r. ⌜ StepMeets (programStep (loadOf g (now (lists .entry))) c due (now (block .entry)) (now (core .entry))) r (now (core .exit)) ⌝ }
+    ensures { λ r. ⌜ StepMeets (programStep (loadOf g (now (lists .entry))) c due (now (block .entry)) (now (core .entry)))
+        r (now (core .exit)) ⌝ }
 {
     let mut counts = c;
     let mut next = due;
@@ -84,11 +86,12 @@ fn walk_items(
     Step::More(Stage::Program(counts, next))
 }
 
-// What stands at place i, where w is awaited. Groups of either section are read here, at one place, so that the compiler makes their
-// code once and for this place.
+// What stands at place i, where w is awaited. Groups of either section are read here, at one place, so that the compiler makes
+// their code once and for this place.
 fn item_step(g: Given, lists: &[u64], w: Awaited, block: &[u64], i: usize, core: &mut [u64]) -> Item
     requires { ⌜ (KeptWaits g (now lists) (Stage.Program (w .counts) (w .due)) (now block) (now core)) × (i ≤ lastWord) ⌝ }
-    ensures { λ r. ⌜ ItemMeets (itemStep (loadOf g (now (lists .entry))) (w .counts) (w .due) (now (block .entry)) i (now (core .entry))) r (now (core .exit)) ⌝ }
+    ensures { λ r. ⌜ ItemMeets (itemStep (loadOf g (now (lists .entry))) (w .counts) (w .due) (now (block .entry)) i
+        (now (core .entry))) r (now (core .exit)) ⌝ }
 {
     let c = w.counts;
     let due = w.due;

@@ -20,7 +20,8 @@ pub struct Awaited {
     pub due: Due,
 }
 
-// What a section hands on to those after it: the least number that a table section may have, and the IBANK, where the start must lie.
+// What a section hands on to those after it: the least number that a table section may have, and the IBANK, where the start must
+// lie.
 pub struct Onward {
     pub least: Reference,
     pub ibank: Bank,

@@ -27,7 +27,9 @@ bankFits area b = within (b .at .0) (b .count) 0 (area .size)
 
 -- a table section is of a table that there is, and of no more words than the table has
 unfoldable pub sectionFits : List CoreTable → TableSection → Bool
-sectionFits ts t = ltb (t .number .0) (length ts) && leb (t .count) (getD ts (t .number .0) (record { at = record { 0 = 0 }; len = 0 }) .len)
+sectionFits ts t =
+    ltb (t .number .0) (length ts)
+    && leb (t .count) (getD ts (t .number .0) (record { at = record { 0 = 0 }; len = 0 }) .len)
 
 -- what is due of the program blocks
 unfoldable pub dueFits : Area → List CoreTable → Due → Bool

@@ -2,7 +2,8 @@
 -- complete or broken waits for none; it meets refusal 10 before its record is asked for.
 use mathlib.Core.Bool.{Bool, true, false}
 use Rattle.block.specs.declared.Record.{Record}
-use Rattle.block.specs.declared.Record.the-variants.{Label as label-record, Modification, Program as program-record, Termination as termination-record}
+use Rattle.block.specs.declared.Record.the-variants.{Label as label-record, Modification}
+use Rattle.block.specs.declared.Record.the-variants.{Program as program-record, Termination as termination-record}
 use Rattle.stage.specs.declared.Stage.{Stage}
 use Rattle.stage.specs.declared.Stage.the-variants.{Label, Entry, Program, Termination, Complete, Broken}
 

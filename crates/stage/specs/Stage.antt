@@ -13,8 +13,8 @@ use Rattle.stage.specs.declared.Due.the-variants.{Segment as segment-due
 use Rattle.stage.specs.declared.Stage.{Stage}
 use Rattle.stage.specs.declared.Stage.the-variants.{Label, Entry, Program, Termination, Complete, Broken}
 
--- the numbers are: what is due; the label counts' two; a table's number, a block's, or whether longer tables are forbidden; a second of
--- these; the IBANK's address and count; the DBANK's
+-- the numbers are: what is due; the label counts' two; a table's number, a block's, or whether longer tables are forbidden; a
+-- second of these; the IBANK's address and count; the DBANK's
 abbrev pub flag : Bool → ℕ
 flag exact = cond exact 1 0
 
@@ -25,7 +25,8 @@ numbersOf (Program c segment-due) = 2 ∷ c .channels ∷ c .sections ∷ 0 ∷ 
 numbersOf (Program c (SegmentGroup g)) =
     3 ∷ c .channels ∷ c .sections ∷ 0 ∷ 0 ∷ g .ibank .at .0 ∷ g .ibank .count ∷ g .dbank .at .0 ∷ g .dbank .count ∷ []
 numbersOf (Program c (Section t i)) = 4 ∷ c .channels ∷ c .sections ∷ t .0 ∷ 0 ∷ i .at .0 ∷ i .count ∷ 0 ∷ 0 ∷ []
-numbersOf (Program c (SectionGroup t i)) = 5 ∷ c .channels ∷ c .sections ∷ t .number .0 ∷ t .count ∷ i .at .0 ∷ i .count ∷ 0 ∷ 0 ∷ []
+numbersOf (Program c (SectionGroup t i)) =
+    5 ∷ c .channels ∷ c .sections ∷ t .number .0 ∷ t .count ∷ i .at .0 ∷ i .count ∷ 0 ∷ 0 ∷ []
 numbersOf (Termination i) = 6 ∷ 0 ∷ 0 ∷ 0 ∷ 0 ∷ i .at .0 ∷ i .count ∷ 0 ∷ 0 ∷ []
 numbersOf Complete = 7 ∷ 0 ∷ 0 ∷ 0 ∷ 0 ∷ 0 ∷ 0 ∷ 0 ∷ 0 ∷ []
 numbersOf Broken = 8 ∷ 0 ∷ 0 ∷ 0 ∷ 0 ∷ 0 ∷ 0 ∷ 0 ∷ 0 ∷ []

@@ -195,8 +195,8 @@ fn section_of(number: u64, count: u64) -> TableSection
     }
 }
 
-// Whether a stage's numbers are in their ranges, by what the load was given and its lists. What is due is tested before its label counts,
-// so that the compiled code tells the variants apart once.
+// Whether a stage's numbers are in their ranges, by what the load was given and its lists. What is due is tested before its label
+// counts, so that the compiled code tells the variants apart once.
 pub fn stage_fits(g: Given, lists: &[u64], s: Stage) -> bool
     requires { ⌜ Readable g (now lists) ⌝ }
     ensures { λ r. ⌜ r ≡ stageFits (g .area) (coreTables g (now (lists .entry))) (g .io) s ⌝ }

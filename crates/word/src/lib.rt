@@ -108,7 +108,7 @@ pub fn runs_apart(a: u64, n: u64, b: u64, m: u64) -> bool
 // The bits from `high` down to `low`, as 01 counts them: bits(w, 33, 18) is 01's "bits 33-18". With numbers for both it compiles
 // to a shift and a mask.
 pub fn bits(w: u64, high: u64, low: u64) -> u64
-    requires { ⌜ (low ≤ high) × (high + 1 < 64 + low) × (low < 64) ⌝ }
+    requires { ⌜ (low ≤ high) × (high < 63) ⌝ }
     ensures { λ r. ⌜ r ≡ bits high low w ⌝ }
 {
     (w >> low) % (1 << (high + 1 - low))

@@ -11,7 +11,7 @@ use Rattle.word.specs.Limits.{wordsInBlock}
 use Rattle.word.specs.Word.{wordLimit, isWord}
 use Rattle.word.specs.Lists.{every}
 use Rattle.block.specs.Block.{sealVerdict}
-use Rattle.block.proofs.Checksum.{low, low-more, low-end, Taken, taken}
+use Rattle.block.proofs.Checksum.{low, low-more, low-end, TakenAway, taken-away}
 use Rattle.word.proofs.Range.{any-more, any-end}
 use Rattle.block.proofs.check_words.Statement.{statement}
 use Rattle.block.proofs.check_words.Tie as tie
@@ -68,12 +68,12 @@ all c =
     any-end 36 _ (l .any) (l .i) (omega arith) (l .inv .3) ∙ lt-ltb (l .any) wordLimit (c .if1 .left)
 
 ended : (c : tie.Else1 Inv-loop μ-loop) →
-    Taken (now (c .before .before .before .before .args .block)) (c .before .before .before .before .args .p)
+    TakenAway (now (c .before .before .before .before .args .block)) (c .before .before .before .before .args .p)
     (c .before .before .loop .sum)
 ended c =
     let l = c .before .before .loop in
     let a = c .before .before .before .before .args in
-    taken (now (a .block)) (a .p) (l .sum) (omega arith) (all c) (low-end (now (a .block)) (l .i) (l .sum) (omega arith) (l .inv .2))
+    taken-away (now (a .block)) (a .p) (l .sum) (omega arith) (all c) (low-end (now (a .block)) (l .i) (l .sum) (omega arith) (l .inv .2))
 
 sub-s : tie.Need-sub-s Inv-loop μ-loop
 sub-s c = ended (c .before) .fits

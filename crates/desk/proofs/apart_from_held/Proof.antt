@@ -11,7 +11,7 @@ shared-slice-read-if1 c = search needs
 
 returns : tie.Need-returns
 unfolding areasApart ownOf
-returns c = rw (ne-eqb _ _ (c .before .before .before .before .pre .2), eq-eqb _ _ (c .if1 .taken))
+returns c = rw (ne-eqb _ _ (c .before .before .before .before .pre .held), eq-eqb _ _ (c .if1 .taken))
 
 shared-slice-read-runs-apart : tie.Need-shared-slice-read-runs-apart
 shared-slice-read-runs-apart c = search needs
@@ -32,7 +32,7 @@ returns-2 : tie.Need-returns-2
 unfolding areasApart ownOf
 returns-2 c =
     let b = c .before .before .before .before .before in
-    rw (ne-eqb _ _ (b .before .before .before .before .pre .2), ne-eqb _ _ (b .if1 .left)) (c .runs-apart .ensures)
+    rw (ne-eqb _ _ (b .before .before .before .before .pre .held), ne-eqb _ _ (b .if1 .left)) (c .runs-apart .ensures)
 
 pub apart-from-held-spec : {M : Type 1} → statement M
 apart-from-held-spec =

@@ -20,11 +20,12 @@ place-at-requires c κs = search needs
 apart-from-held-requires : tie.Need-apart-from-held-requires
 apart-from-held-requires c κs =
     let b = c .before .before .before .before in
-    let h : 0 < b .args .q = omega arith in (
-      rw (c .place-at .ensures) (place-length (now (b .args .desk)) (b .pre .0) (b .args .q - 1) (omega arith)),
-      b .pre .2,
-      rw (c .place-at .ensures) (b .pre .3 h),
-    )
+    let h : 0 < b .args .q = omega arith in
+    record {
+      first = rw (c .place-at .ensures) (place-length (now (b .args .desk)) (b .pre .desk) (b .args .q - 1) (omega (arith, b .pre .most)));
+      second = b .pre .long;
+      held = rw (c .place-at .ensures) (b .pre .held h);
+    }
 
 returns-2 : tie.Need-returns-2
 returns-2 c = rw (ne-eqb _ 0 (c .before .before .if1 .left), ← c .before .place-at .ensures) (c .apart-from-held .ensures)

@@ -56,11 +56,12 @@ slice-aggregate-places-fit c = c .before .before .before .held-places .ensures .
 
 places-fit-requires : tie.Need-places-fit-requires
 places-fit-requires c κs =
-    let r = c .before .before .before .before .before .before .before .before .before .read-holders .ensures in (
-      c .before .before .before .before .before .before .before .before .before .before .before .pre,
-      sym (rw r at (c .before .before .before .before .before .before .before .fair .ensures)) ∙ not-false _ (c .before .before .before .before .before .before .if1 .left),
-      held-lent-on (c .before .before .before) ∙ ap (heldPlaces 0) r,
-    )
+    let r = c .before .before .before .before .before .before .before .before .before .read-holders .ensures in
+    record {
+      map = c .before .before .before .before .before .before .before .before .before .before .before .pre;
+      rooms = sym (rw r at (c .before .before .before .before .before .before .before .fair .ensures)) ∙ not-false _ (c .before .before .before .before .before .before .if1 .left);
+      named = held-lent-on (c .before .before .before) ∙ ap (heldPlaces 0) r;
+    }
 
 returns-3 : tie.Need-returns-3
 returns-3 c =

@@ -39,7 +39,12 @@ unfolding sound
 returns-4 c = rw (eq-eqb _ _ (c .before .before .before .before .before .before .if1 .left), le-leb _ _ (c .before .before .before .before .if2 .left), le-leb _ _ (c .before .before .before .if3 .left), sym (map-test (c .before)) ∙ not-true _ (c .if4 .taken))
 
 holders-fit-requires : tie.Need-holders-fit-requires
-holders-fit-requires c κs = (c .before .before .before .before .before .before .if1 .left, c .before .before .before .if3 .left, sym (map-test (c .before)) ∙ not-false _ (c .if4 .left))
+holders-fit-requires c κs =
+    record {
+      long = c .before .before .before .before .before .before .if1 .left;
+      most = c .before .before .before .if3 .left;
+      obeys = sym (map-test (c .before)) ∙ not-false _ (c .if4 .left);
+    }
 
 returns-5 : tie.Need-returns-5
 unfolding sound

@@ -21,7 +21,7 @@ abbrev μ-loop : tie.MeasureT-loop
 μ-loop desk held last₀ past₀ i₀ last past i = length held - i
 
 loop-holds : tie.Need-loop-holds Inv-loop μ-loop
-loop-holds c = (omega arith, refl, looked-none _ _ (c .before .before .pre .2))
+loop-holds c = (omega arith, refl, looked-none _ _ (c .before .before .pre .named))
 
 mul-p : tie.Need-mul-p Inv-loop μ-loop
 mul-p c = omega arith
@@ -33,7 +33,7 @@ place-at-requires : tie.Need-place-at-requires Inv-loop μ-loop
 place-at-requires c κs =
     let b = c .before .before .before .before .before in
     let l = c .before .before .loop in
-    (b .pre .0 .0, next-inside _ _ _ (l .i) (l .past) (b .pre .1) (l .inv .2) (omega arith))
+    (b .pre .map .long, next-inside _ _ _ (l .i) (l .past) (b .pre .rooms) (l .inv .2) (omega arith))
 
 -- the next place, whose numbers were taken, is a room's
 module _ (c : tie.After-place-at Inv-loop μ-loop) where
@@ -53,18 +53,18 @@ module _ (c : tie.After-place-at Inv-loop μ-loop) where
   its-length =
       let l = c .before .before .before .loop in
       let b = c .before .before .before .before .before .before in
-      rw its-numbers (place-length the-desk (b .pre .0 .0) the-place (next-inside _ _ _ (l .i) (l .past) (b .pre .1) (l .inv .2) (omega arith)))
+      rw its-numbers (place-length the-desk (b .pre .map .long) the-place (next-inside _ _ _ (l .i) (l .past) (b .pre .rooms) (l .inv .2) (omega arith)))
 
   its-holder : holderOf (placeIn the-desk the-place) ≡ the-room + 1
   its-holder =
       let l = c .before .before .before .loop in
-      let z = next-held _ _ _ (l .i) (l .past) (c .before .before .before .before .before .before .pre .1) (l .inv .2) (omega arith) in
+      let z = next-held _ _ _ (l .i) (l .past) (c .before .before .before .before .before .before .pre .rooms) (l .inv .2) (omega arith) in
       omega (arith, z)
 
   its-room : the-room < 8
   its-room =
       let l = c .before .before .before .loop in
-      omega (arith, its-holder, next-known _ _ _ (l .i) (l .past) (c .before .before .before .before .before .before .pre .1) (l .inv .2) (omega arith))
+      omega (arith, its-holder, next-known _ _ _ (l .i) (l .past) (c .before .before .before .before .before .before .pre .rooms) (l .inv .2) (omega arith))
 
   room-read : getD (now (c .place-at .result)) 0 0 - 1 ≡ the-room
   room-read = rw its-numbers
@@ -76,12 +76,12 @@ sub-r : tie.Need-sub-r Inv-loop μ-loop
 sub-r c = omega (arith, its-holder (c .before), ap (λ (m : List ℕ). getD m 0 0) (its-numbers (c .before)))
 
 map-numbers-requires : tie.Need-map-numbers-requires Inv-loop μ-loop
-map-numbers-requires c κs = c .before .before .before .before .before .before .before .pre .0 .0
+map-numbers-requires c κs = c .before .before .before .before .before .before .before .pre .map .long
 
 stretch-at-requires : tie.Need-stretch-at-requires Inv-loop μ-loop
 stretch-at-requires c κs = (
   omega (arith, its-room (c .before .before), room-read (c .before .before)),
-  rw (c .map-numbers .ensures) (map-numbers-length _ (c .before .before .before .before .before .before .before .before .pre .0 .0)),
+  rw (c .map-numbers .ensures) (map-numbers-length _ (c .before .before .before .before .before .before .before .before .pre .map .long)),
 )
 
 -- its stretch
@@ -91,7 +91,7 @@ its-stretch c = c .stretch-at .ensures ∙ rw (c .before .map-numbers .ensures, 
 held-fits-requires : tie.Need-held-fits-requires Inv-loop μ-loop
 held-fits-requires c κs =
     let b = c .before .before .before .before .before .before .before .before .before in
-    (its-length (c .before .before .before), rw (its-stretch c) (stretch-small _ (b .pre .0 .1) (b .pre .0 .2) _ (its-room (c .before .before .before))))
+    (its-length (c .before .before .before), rw (its-stretch c) (stretch-small _ (b .pre .map .most) (b .pre .map .obeys) _ (its-room (c .before .before .before))))
 
 -- whether it fits in it
 its-test : (c : tie.After-held-fits Inv-loop μ-loop) → c .held-fits .result ≡ heldFits (stretchOf (mapNumbers (the-desk (c .before .before .before .before))) (the-room (c .before .before .before .before))) (placeIn (the-desk (c .before .before .before .before)) (the-place (c .before .before .before .before)))
@@ -101,7 +101,7 @@ returns : tie.Need-returns Inv-loop μ-loop
 returns c =
     let l = c .before .before .before .before .before .before .before .before .loop in
     let e = c .before .before .before .before .before in
-    looked-unfit _ _ _ (l .i) (l .past) (c .before .before .before .before .before .before .before .before .before .before .before .pre .1) (l .inv .2) (omega arith) (the-room e) (its-room e) (its-holder e)
+    looked-unfit _ _ _ (l .i) (l .past) (c .before .before .before .before .before .before .before .before .before .before .before .pre .rooms) (l .inv .2) (omega arith) (the-room e) (its-room e) (its-holder e)
     (sym (its-test (c .before)) ∙ not-true _ (c .if1 .taken))
 
 mul-apart-from-last : tie.Need-mul-apart-from-last Inv-loop μ-loop
@@ -114,24 +114,25 @@ apart-from-last-requires : tie.Need-apart-from-last-requires Inv-loop μ-loop
 apart-from-last-requires c κs =
     let l = c .before .before .before .before .before .before .before .before .loop in
     let b = c .before .before .before .before .before .before .before .before .before .before .before in
-    let e = c .before .before .before .before .before in (
-      b .pre .0 .0,
-      rw (room-read e) (last-inside _ _ _ (l .i) (l .past) (b .pre .1) (l .inv .2) (omega arith) (the-room e) (its-room e) (its-holder e)),
-      its-length e,
-      rw (room-read e) (last-held _ _ _ (l .i) (l .past) (b .pre .1) (l .inv .2) (omega arith) (the-room e) (its-room e) (its-holder e)),
-    )
+    let e = c .before .before .before .before .before in
+    record {
+      desk = b .pre .map .long;
+      most = rw (room-read e) (last-inside _ _ _ (l .i) (l .past) (b .pre .rooms) (l .inv .2) (omega arith) (the-room e) (its-room e) (its-holder e));
+      long = its-length e;
+      held = rw (room-read e) (last-held _ _ _ (l .i) (l .past) (b .pre .rooms) (l .inv .2) (omega arith) (the-room e) (its-room e) (its-holder e));
+    }
 
 returns-2 : tie.Need-returns-2 Inv-loop μ-loop
 returns-2 c =
     let l = c .before .before .before .before .before .before .before .before .before .before .loop in
     let e = c .before .before .before .before .before .before .before in
-    looked-shared _ _ _ (l .i) (l .past) (c .before .before .before .before .before .before .before .before .before .before .before .before .before .pre .1) (l .inv .2) (omega arith) (the-room e) (its-room e) (its-holder e)
+    looked-shared _ _ _ (l .i) (l .past) (c .before .before .before .before .before .before .before .before .before .before .before .before .before .pre .rooms) (l .inv .2) (omega arith) (the-room e) (its-room e) (its-holder e)
     (sym (rw (its-numbers e) at (c .before .apart-from-last .ensures)) ∙ not-true _ (c .if2 .taken))
 
 add-past : tie.Need-add-past Inv-loop μ-loop
 add-past c =
     let l = c .before .before .before .before .before .before .before .before .before .before .loop in
-    omega (arith, next-inside _ _ _ (l .i) (l .past) (c .before .before .before .before .before .before .before .before .before .before .before .before .before .pre .1) (l .inv .2) (omega arith))
+    omega (arith, next-inside _ _ _ (l .i) (l .past) (c .before .before .before .before .before .before .before .before .before .before .before .before .before .pre .rooms) (l .inv .2) (omega arith))
 
 mul-last : tie.Need-mul-last Inv-loop μ-loop
 mul-last c = omega (arith, its-room (c .before .before .before .before .before .before .before), room-read (c .before .before .before .before .before .before .before))
@@ -152,14 +153,14 @@ loop-again c =
     let e = c .before .before .before .before .before .before .before in (
       omega arith,
       simp length-set (omega arith),
-      rw (room-read e) (looked-more _ _ _ (l .i) (l .past) (b .pre .1) (l .inv .2) (omega arith) (the-room e) (its-room e) (its-holder e) (b .pre .0 .2)
+      rw (room-read e) (looked-more _ _ _ (l .i) (l .past) (b .pre .rooms) (l .inv .2) (omega arith) (the-room e) (its-room e) (its-holder e) (b .pre .map .obeys)
           (sym (its-test (c .before .before .before)) ∙ not-false _ (c .before .before .if1 .left))
           (sym (rw (its-numbers e) at (c .before .apart-from-last .ensures)) ∙ not-false _ (c .if2 .left))
           (l .inv .1)),
     )
 
 returns-3 : tie.Need-returns-3 Inv-loop μ-loop
-returns-3 c = let l = c .before .loop in looked-end _ _ _ (l .i) (l .past) (c .before .before .before .before .pre .1) (l .inv .2) (omega arith)
+returns-3 c = let l = c .before .loop in looked-end _ _ _ (l .i) (l .past) (c .before .before .before .before .pre .rooms) (l .inv .2) (omega arith)
 
 pub places-fit-spec : {M : Type 1} → statement M
 places-fit-spec =

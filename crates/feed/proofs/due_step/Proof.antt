@@ -16,7 +16,7 @@ enum-known-s : tie.Need-enum-known-s
 enum-known-s c = search needs
 
 entry-step-requires : tie.Need-entry-step-requires
-entry-step-requires c κs = let w = c .before .before .before .before .before .before .pre in (w .lists, entry-block-small _ _ _ _ _ _ (rw (c .before .s .given .1) at (w .waits)), w .waits .long)
+entry-step-requires c κs = let w = c .before .before .before .before .before .before .pre in record { lists = w .lists; few = entry-block-small _ _ _ _ _ _ (rw (c .before .s .given .1) at (w .waits)); long = w .waits .long }
 
 enum-known-s-2 : tie.Need-enum-known-s-2
 enum-known-s-2 c = search needs

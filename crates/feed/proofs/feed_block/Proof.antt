@@ -42,7 +42,7 @@ feed-held-requires c κs =
     let b = a .before .before .before in
     let k = entry-shows _ _ _ _ (b .before .entry-refusal .ensures) (b .if1 .left) in
     let h = sym (a .before .holds-place .ensures) ∙ not-false _ (a .if2 .left) in
-    (k .desk, k .core, holds-inside _ _ _ h, omega (arith, holds-holder _ _ _ h))
+    record { desk = k .desk; long = k .core; place = holds-inside _ _ _ h; held = omega (arith, holds-holder _ _ _ h) }
 
 same-length-3 : tie.Need-same-length-3
 same-length-3 c = search needs

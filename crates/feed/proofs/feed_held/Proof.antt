@@ -11,10 +11,10 @@ use Rattle.feed.proofs.feed_held.Statement.{statement}
 use Rattle.feed.proofs.feed_held.Tie as tie
 
 place-at-requires : tie.Need-place-at-requires
-place-at-requires c κs = let q = c .before .before .before .before .pre in (sound-long _ (q .0), q .2)
+place-at-requires c κs = let q = c .before .before .before .before .pre in (sound-long _ (q .desk), q .place)
 
 stage-of-requires : tie.Need-stage-of-requires
-stage-of-requires c κs = let q = c .before .before .before .before .before .pre in rw (c .place-at .ensures) (place-length _ (sound-long _ (q .0)) _ (q .2))
+stage-of-requires c κs = let q = c .before .before .before .before .before .pre in rw (c .place-at .ensures) (place-length _ (sound-long _ (q .desk)) _ (q .place))
 
 is-over-requires : tie.Need-is-over-requires
 is-over-requires c κs = search needs
@@ -41,9 +41,9 @@ take-block-requires c κs = let q = c .before .before .before .before .before .b
     let e = rw (c .before .before .before .before .before .before .before .before .before .place-at .ensures) at (c .before .before .before .before .before .before .before .before .stage-of .ensures) in
     let v = verdict-pass _ _ (sym (c .before .before .before .before .check-block .ensures) ∙ c .before .before .enum-told .given .1) in
     record {
-      long = sound-long _ (q .0);
-      place = q .2;
-      load = rw e (held-kept-waits _ (q .0) _ (q .2) (λ z. omega (arith, q .3)) _ _ (q .1) (v .0) (v .1));
+      long = sound-long _ (q .desk);
+      place = q .place;
+      load = rw e (held-kept-waits _ (q .desk) _ (q .place) (λ z. omega (arith, q .held)) _ _ (q .long) (v .0) (v .1));
     }
 
 enum-known-f : tie.Need-enum-known-f

@@ -21,7 +21,11 @@ load-step-requires c κs = rw (c .before .lists-of .ensures, c .before .before .
 
 settle-requires : tie.Need-settle-requires
 settle-requires c κs = let q = c .before .before .before .before .before .before .before .before .before .before .before .before .before .before .pre in
-    (q .long, q .place, rw (c .before .before .before .before .before .before .before .before .own-of .ensures, c .before .before .before .before .before .before .before .before .before .place-at .ensures) (omega (arith, q .load .waits .inside)))
+    record {
+      long = q .long;
+      place = q .place;
+      inside = rw (c .before .before .before .before .before .before .before .before .own-of .ensures, c .before .before .before .before .before .before .before .before .before .place-at .ensures) (omega (arith, q .load .waits .inside));
+    }
 
 same-length : tie.Need-same-length
 same-length c = search needs

@@ -32,28 +32,28 @@ start-requires : tie.Need-start-requires Inv-loop μ-loop
 start-requires c κs = search needs
 
 refill-requires : tie.Need-refill-requires Inv-loop μ-loop
-refill-requires c κs = (search needs, c .before .loop .inv .1, omega arith, omega arith)
+refill-requires c κs = record { words = search needs; sees = c .before .loop .inv .1; near = omega arith; few = omega arith }
 
 move-on-requires : tie.Need-move-on-requires Inv-loop μ-loop
 move-on-requires c κs = let b = c .before .before .before .before .before in
     let a = b .args in
     let l = c .before .before .loop in
-    let s = refill-sees (now (a .block)) (a .end) (a .n) (b .pre .0) (l .c) (l .inv .1) (omega arith) in
+    let s = refill-sees (now (a .block)) (a .end) (a .n) (b .pre .words) (l .c) (l .inv .1) (omega arith) in
     let e = refill-at (now (a .block)) (a .end) (a .n) (l .c) in
-    rw (c .refill .ensures) (omega arith, omega arith, omega (arith, s .near), omega arith)
+    rw (c .refill .ensures) (record { more = omega arith; inside = omega arith; few = omega (arith, s .near); near = omega arith })
 
 loop-less : tie.Need-loop-less Inv-loop μ-loop
 loop-less c = let b = c .before .before .before .before .before .before .before in
     let a = b .args in
     let l = c .before .before .before .before .loop in
-    let t = turn-refilled (now (a .block)) (a .end) (a .n) (b .pre .0) (l .c) (l .inv .1) (omega arith) (a .last) (l .i) (omega arith) (omega arith) in
+    let t = turn-refilled (now (a .block)) (a .end) (a .n) (b .pre .words) (l .c) (l .inv .1) (omega arith) (a .last) (l .i) (omega arith) (omega arith) in
     rw (rw (c .before .before .refill .ensures) at (c .before .move-on .ensures)) (omega (arith, t .on))
 
 loop-again : tie.Need-loop-again Inv-loop μ-loop
 loop-again c = let b = c .before .before .before .before .before .before .before in
     let a = b .args in
     let l = c .before .before .before .before .loop in
-    let t = turn-refilled (now (a .block)) (a .end) (a .n) (b .pre .0) (l .c) (l .inv .1) (omega arith) (a .last) (l .i) (omega arith) (omega arith) in
+    let t = turn-refilled (now (a .block)) (a .end) (a .n) (b .pre .words) (l .c) (l .inv .1) (omega arith) (a .last) (l .i) (omega arith) (omega arith) in
     rw (rw (c .before .before .refill .ensures) at (c .before .move-on .ensures)) (omega (arith, t .reach), t .sees, t .left ∙ l .inv .2)
 
 mul-if1 : tie.Need-mul-if1 Inv-loop μ-loop

@@ -17,18 +17,18 @@ returns c = search tests
 
 sub-w : tie.Need-sub-w
 sub-w c = let z = c .before .before .before in
-    omega (arith, edge-wants _ _ _ (z .pre .0) (z .args .c) (z .pre .1) (z .pre .2) (c .if1 .left), z .pre .0 .first)
+    omega (arith, edge-wants _ _ _ (z .pre .words) (z .args .c) (z .pre .sees) (z .pre .near) (c .if1 .left), z .pre .words .first)
 
 sub-w-2 : tie.Need-sub-w-2
 sub-w-2 c = let z = c .before .before .before in
-    omega (arith, edge-wants _ _ _ (z .pre .0) (z .args .c) (z .pre .1) (z .pre .2) (c .if1 .left), z .pre .0 .first)
+    omega (arith, edge-wants _ _ _ (z .pre .words) (z .args .c) (z .pre .sees) (z .pre .near) (c .if1 .left), z .pre .words .first)
 
 mul-w : tie.Need-mul-w
 mul-w c = search needs
 
 shared-slice-read-w : tie.Need-shared-slice-read-w
 shared-slice-read-w c = let z = c .before .before .before .before in
-    omega (arith, edge-wants _ _ _ (z .pre .0) (z .args .c) (z .pre .1) (z .pre .2) (c .before .if1 .left), z .pre .0 .first, z .pre .0 .last)
+    omega (arith, edge-wants _ _ _ (z .pre .words) (z .args .c) (z .pre .sees) (z .pre .near) (c .before .if1 .left), z .pre .words .first, z .pre .words .last)
 
 add-t9 : tie.Need-add-t9
 add-t9 c = search needs
@@ -38,20 +38,20 @@ mul-t10 c = search needs
 
 sub-t11 : tie.Need-sub-t11
 sub-t11 c = let z = c .before .before .before .before in
-    omega (arith, edge-wants _ _ _ (z .pre .0) (z .args .c) (z .pre .1) (z .pre .2) (c .before .if1 .left))
+    omega (arith, edge-wants _ _ _ (z .pre .words) (z .args .c) (z .pre .sees) (z .pre .near) (c .before .if1 .left))
 
 shl-t14 : tie.Need-shl-t14
 shl-t14 c = let z = c .before .before .before .before in
-    let g = edge-wants _ _ _ (z .pre .0) (z .args .c) (z .pre .1) (z .pre .2) (c .before .if1 .left) in
-    omega (arith, g, z .pre .1 .room (g .0))
+    let g = edge-wants _ _ _ (z .pre .words) (z .args .c) (z .pre .sees) (z .pre .near) (c .before .if1 .left) in
+    omega (arith, g, z .pre .sees .room (g .0))
 
 add-t15 : tie.Need-add-t15
 add-t15 c = let b = c .before .before .before .before .before in
     let a = b .args in
-    let g = edge-wants _ _ _ (b .pre .0) (a .c) (b .pre .1) (b .pre .2) (c .before .before .if1 .left) in
+    let g = edge-wants _ _ _ (b .pre .words) (a .c) (b .pre .sees) (b .pre .near) (c .before .before .if1 .left) in
     omega (
       arith,
-      refill-number (now (a .block)) (a .end) (a .n) (b .pre .0) (a .c) (b .pre .1) (g .0) (g .1),
+      refill-number (now (a .block)) (a .end) (a .n) (b .pre .words) (a .c) (b .pre .sees) (g .0) (g .1),
       number-below (now (a .block)) (a .end) (a .c .words + 1) (a .c .at) 64,
     )
 

@@ -24,7 +24,7 @@ core-table-requires : tie.Need-core-table-requires Inv-loop μ-loop
 core-table-requires c κs = let z = c .before .before .before .before in z .pre .0
 
 entry-fits-requires : tie.Need-entry-fits-requires Inv-loop μ-loop
-entry-fits-requires c κs = (omega arith, omega arith, omega arith)
+entry-fits-requires c κs = record { references = omega arith; table = omega arith; long = omega arith }
 
 returns : tie.Need-returns Inv-loop μ-loop
 returns c =

@@ -14,7 +14,7 @@ use Rattle.calls.proofs.open.grant.Statement.{statement}
 use Rattle.calls.proofs.open.grant.Tie as tie
 
 read-holders-requires : tie.Need-read-holders-requires
-read-holders-requires c κs = sound-long _ (c .before .before .before .before .before .pre .0)
+read-holders-requires c κs = sound-long _ (c .before .before .before .before .before .pre .desk)
 
 slice-aggregate-place-refusal : tie.Need-slice-aggregate-place-refusal
 slice-aggregate-place-refusal c = search needs
@@ -34,7 +34,7 @@ returns c =
 area-fits-requires : tie.Need-area-fits-requires
 area-fits-requires c κs =
     let s = c .before .before .before .before .before .before .before .before .before .before in
-    (sound-long _ (s .pre .0), s .pre .2)
+    (sound-long _ (s .pre .desk), s .pre .room)
 
 same-length-2 : tie.Need-same-length-2
 same-length-2 c = search needs
@@ -54,7 +54,7 @@ take-lists-requires : tie.Need-take-lists-requires
 take-lists-requires c κs =
     let s = c .before .before .before .before .before .before .before .before .before .before .before .before .before in
     let g = sym (c .before .before .area-fits .ensures) ∙ not-false _ (c .before .if2 .left) in
-    (area-small _ (s .pre .0) _ _ (s .pre .2) g, refl)
+    (area-small _ (s .pre .desk) _ _ (s .pre .room) g, refl)
 
 enum-known-n : tie.Need-enum-known-n
 enum-known-n c = search needs
@@ -72,7 +72,7 @@ part-write-place-end c =
     let s = n .before .before .before .before .before .before .before .before in
     let e = n .before .before .read-holders .ensures in
     let f = none-due _ _ e _ _ (n .place-refusal .ensures) (i .if1 .left) in
-    omega (arith, place-inside _ _ e _ (s .pre .0) (s .pre .2) f _ (c .lowest-free .ensures), sound-long _ (s .pre .0))
+    omega (arith, place-inside _ _ e _ (s .pre .desk) (s .pre .room) f _ (c .lowest-free .ensures), sound-long _ (s .pre .desk))
 
 mul-b : tie.Need-mul-b
 mul-b c = omega (arith, part-write-place-end c)
@@ -111,24 +111,25 @@ write-place-requires c κs =
     let s = t .before .before .before .before .before .before .before .before .before .before .before .before .before .before in
     let k = rw (c .before .before .before .before .before .n .given .1) at (t .take-lists .ensures) in
     let g = sym (t .before .before .before .area-fits .ensures) ∙ not-false _ (t .before .before .if2 .left) in
-    let n = sound-long _ (s .pre .0) in
-    let m = place-long _ (l .lowest-free .result) _ n (omega (arith, part-write-place-end l)) refl in (
-      m,
-      s .pre .2,
-      record {
+    let n = sound-long _ (s .pre .desk) in
+    let m = place-long _ (l .lowest-free .result) _ n (omega (arith, part-write-place-end l)) refl in
+    record {
+      long = m;
+      room = s .pre .room;
+      lists = record {
         long = lists-length _ m;
-        small = area-small _ (s .pre .0) _ _ (s .pre .2) g;
+        small = area-small _ (s .pre .desk) _ _ (s .pre .room) g;
         obey = taken-words _ _ _ _ _ _ k .0;
         words = words-lent _ _ _ _ _ _ k refl;
-      },
-    )
+      };
+    }
 
 clear-requires : tie.Need-clear-requires
 clear-requires c κs =
     let t = c .before .before .before .before .before .before .before .before .before .before .before .before in
     let s = t .before .before .before .before .before .before .before .before .before .before .before .before .before .before in
     let g = sym (t .before .before .before .area-fits .ensures) ∙ not-false _ (t .before .before .if2 .left) in
-    omega (arith, s .pre .1, area-in-core (now (s .args .desk)) (s .pre .0) (s .args .room) (s .args .area) (s .pre .2) g)
+    omega (arith, s .pre .core, area-in-core (now (s .args .desk)) (s .pre .desk) (s .args .room) (s .args .area) (s .pre .room) g)
 
 enum-told : tie.Need-enum-told
 enum-told c = search needs
@@ -150,9 +151,9 @@ returns-3 c =
     let f = none-due _ _ e _ _ (i .before .place-refusal .ensures) (i .if1 .left) in
     let g = sym (t .before .before .before .area-fits .ensures) ∙ not-false _ (t .before .before .if2 .left) in
     let o = taken-words _ _ _ _ _ _ k .0 in
-    let n = sound-long _ (s .pre .0) in
+    let n = sound-long _ (s .pre .desk) in
     grant-given _ _ _ _ _ _ f g _ _ _ o (l .lowest-free .ensures ∙ ap lowestFree e)
-    (desk-written _ _ _ _ _ _ _ _ n (omega (arith, part-write-place-end l)) refl (area-small _ (s .pre .0) _ _ (s .pre .2) g) o
+    (desk-written _ _ _ _ _ _ _ _ n (omega (arith, part-write-place-end l)) refl (area-small _ (s .pre .desk) _ _ (s .pre .room) g) o
     (c .before .before .before .before .before .before .write-place .ensures))
     (c .before .before .clear .ensures)
 

@@ -18,7 +18,7 @@ returns c = entered-refused _ _ _ _ _ _ (c .before .entry-refusal .ensures) (c .
 grant-requires : tie.Need-grant-requires
 grant-requires c κs =
     let b = c .before .before in
-    let k = entry-shows _ _ _ _ (b .before .entry-refusal .ensures) (b .if1 .left) in (k .desk, k .core, k .room)
+    entry-shows _ _ _ _ (b .before .entry-refusal .ensures) (b .if1 .left)
 
 same-length-2 : tie.Need-same-length-2
 same-length-2 c = search needs

@@ -32,7 +32,7 @@ returns : tie.Need-returns
 returns c =
     let w = c .before .before .before .before .before .before in
     let s = w .before .before .before .before .before .before .before in
-    place-written _ _ _ _ _ (s .pre .0) _ _ _ (s .pre .2) (w .copy-in .ensures) (c .before .before .keep-lists .ensures)
+    place-written _ _ _ _ _ (s .pre .long) _ _ _ (s .pre .lists) (w .copy-in .ensures) (c .before .before .keep-lists .ensures)
 
 pub write-place-spec : {M : Type 1} → statement M
 write-place-spec =

@@ -28,7 +28,7 @@ refill-requires : tie.Need-refill-requires Inv-loop μ-loop
 refill-requires c κs = let p = c .before .before .before .before .before .before .before .pre .0 in
     let w = c .before .loop .inv in
     let r = turn-near _ _ _ _ _ _ p _ _ _ _ w (c .loop-test .taken) in
-    (p .indicators, w .sees, omega (arith, r), omega (arith, p .indicators .first, p .indicators .last, p .long))
+    record { words = p .indicators; sees = w .sees; near = omega (arith, r); few = omega (arith, p .indicators .first, p .indicators .last, p .long) }
 
 change-next-requires : tie.Need-change-next-requires Inv-loop μ-loop
 change-next-requires c κs = turn-ready _ _ _ _ _ _ (c .before .before .before .before .before .before .before .before .before .pre .0) _ _ _ _ (c .before .before .before .loop .inv) (c .before .before .loop-test .taken) _ (c .before .refill .ensures)

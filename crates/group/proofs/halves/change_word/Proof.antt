@@ -23,7 +23,11 @@ right-half-requires c κs = let z = c .before .before .before .before .before in
     let a = z .args in
     let k = assignedBy (a .s) (now (a .lists)) in
     let e = sym (c .before .before .before .left-half .ensures) ∙ c .before .v .given .1 in
-    (z .pre .0, half-fits k Left (a .w) (a .c) _ _ (z .pre .1) e, rw (half-reach k Left (a .w) (a .c) _ _ e) (omega (arith, past-at-most (a .c) (fieldOf Left (a .w)), z .pre .2)))
+    record {
+      lists = z .pre .lists;
+      word = half-fits k Left (a .w) (a .c) _ _ (z .pre .word) e;
+      near = rw (half-reach k Left (a .w) (a .c) _ _ e) (omega (arith, past-at-most (a .c) (fieldOf Left (a .w)), z .pre .near));
+    }
 
 enum-known-f : tie.Need-enum-known-f
 enum-known-f c = search needs
