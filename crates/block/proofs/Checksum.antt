@@ -19,7 +19,8 @@ low [] = 0
 low (w ∷ ws) = w % 2 ^ 36 + low ws
 
 -- a turn of the loop: what was summed and what is left to sum is the whole; at the end nothing is left
-pub low-more : (l : List ℕ) (i s : ℕ) → i < length l → s + low (drop i l) ≡ low l → s + getD l i 0 % 2 ^ 36 + low (drop (i + 1) l) ≡ low l
+pub low-more : (l : List ℕ) (i s : ℕ) → i < length l → s + low (drop i l) ≡ low l
+    → s + getD l i 0 % 2 ^ 36 + low (drop (i + 1) l) ≡ low l
 unfolding low
 low-more l i s h q = let e = ap low (drop-cons l i 0 h) in rw add-one (omega (arith, e, q))
 

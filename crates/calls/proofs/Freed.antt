@@ -6,6 +6,7 @@ use mathlib.Core.List.{List, [], _∷_}
 use native.Mathlib.Omega.{arith}
 use lib.ListN.{length, set, length-set}
 use lib.Seq.{getD-set-same}
+use Rattle.word.specs.Limits.{placeCount}
 use Rattle.word.specs.Lists.{splice}
 use Rattle.word.proofs.Cases.{by-eq, both, when}
 use Rattle.word.proofs.Lists.{set-splice}
@@ -20,7 +21,7 @@ use Rattle.calls.specs.Release.{releaseOf}
 use Rattle.calls.proofs.Entry.{entered-cases}
 
 -- ---- a place freed: every other place, the core length and the map are as they were
-module _ (d : List ℕ) (long : length d ≡ deskWords) (p : ℕ) (h : p < 12) where
+module _ (d : List ℕ) (long : length d ≡ deskWords) (p : ℕ) (h : p < placeCount) where
   freed-as : set d (base p) 0 ≡ splice d (base p + 0) (0 ∷ [])
   freed-as = set-splice d (base p) 0 (omega arith) ∙ ap (λ (i : ℕ). splice d i (0 ∷ [])) (omega arith)
 
@@ -39,7 +40,7 @@ module _ (d : List ℕ) (long : length d ≡ deskWords) (p : ℕ) (h : p < 12) w
   freed-free : holderOf (placeIn (set d (base p) 0) p) ≡ 0
   freed-free = sym (holder-at (set d (base p) 0) p) ∙ getD-set-same d (base p) 0 0 (omega arith)
 
-pub freed-sound : (d : List ℕ) (p : ℕ) → p < 12 → Sound d → Sound (set d (base p) 0)
+pub freed-sound : (d : List ℕ) (p : ℕ) → p < placeCount → Sound d → Sound (set d (base p) 0)
 freed-sound d p h s =
     let c = freed-core d (s .long) p h in
     let m = freed-map d (s .long) p h in

@@ -6,6 +6,7 @@ use mathlib.Core.List.{List, [], _∷_, _++_}
 use native.Mathlib.Omega.{arith}
 use lib.ListN.{length, getD, take, drop}
 use borrow.Author.Tests.{eq-eqb, ne-eqb}
+use Rattle.word.specs.Limits.{roomCount, placeCount, coreMost}
 use Rattle.word.specs.Lists.{every, splice, range, cleared}
 use Rattle.word.specs.Runs.{apart}
 use Rattle.word.specs.Fault.{fault}
@@ -18,7 +19,7 @@ use Rattle.rooms.specs.Rooms.{placeRefusal, lowestFree}
 use Rattle.rooms.proofs.Rooms.{given-place}
 use Rattle.lists.specs.Obey.{tablesOf, listsObey}
 use Rattle.lists.specs.HowKeep.{wordsKept, TakesLists}
-use Rattle.lists.specs.Load.{givenBy, keptLists, Keepable}
+use Rattle.lists.specs.Load.{listWords, givenBy, keptLists, Keepable}
 use Rattle.lists.specs.declared.Taken.the-variants.{Words}
 use Rattle.lists.proofs.Keep.{lists-obey}
 use Rattle.lists.proofs.Take.{taken-words}
@@ -26,7 +27,8 @@ use Rattle.lists.proofs.Lent.{lent-length}
 use Rattle.lists.proofs.Back.{lent-start, kept-long}
 use Rattle.lists.proofs.Ranks.{words-few}
 use Rattle.stage.specs.Stage.{numbersOf}
-use Rattle.layout.specs.Layout.{deskWords, coreLength, mapNumbers, base, placeIn, places, holderOf, ownOf, listsIn, holders}
+use Rattle.layout.specs.Layout.{placeWords, deskWords, coreLength, mapNumbers, base, placeIn, places, holderOf, ownOf, listsIn}
+use Rattle.layout.specs.Layout.{holders}
 use Rattle.layout.proofs.Places.{lists-length}
 use Rattle.desk.specs.Sound.{areaIn, sound}
 use Rattle.desk.proofs.Facts.{core-small, sound-fair, stretch-in-core}
@@ -35,7 +37,7 @@ use Rattle.calls.specs.Outcome.{Meets}
 use Rattle.calls.specs.Open.{besideOwn, areaFits, openedOwn, openedPlace, openedDesk, opened, grantOf}
 
 -- ---- an area that fits lies in its room's stretch, and so in the core
-module _ (d : List ℕ) (s : sound d ≡ true) (r : ℕ) (a : Area) (h : r < 8) (q : areaFits d r a ≡ true) where
+module _ (d : List ℕ) (s : sound d ≡ true) (r : ℕ) (a : Area) (h : r < roomCount) (q : areaFits d r a ≡ true) where
   pub area-held : areaIn (getD (mapOf (mapNumbers d)) r none) a ≡ true
   unfolding areaFits
   area-held = and-left (areaIn (getD (mapOf (mapNumbers d)) r none) a) _ q
@@ -43,7 +45,7 @@ module _ (d : List ℕ) (s : sound d ≡ true) (r : ℕ) (a : Area) (h : r < 8) 
   pub area-in-core : a .at .0 + a .size ≤ coreLength d
   area-in-core = stretch-in-core d s r a h area-held
 
-  pub area-small : a .at .0 + a .size ≤ 65536
+  pub area-small : a .at .0 + a .size ≤ coreMost
   area-small = omega (arith, area-in-core, core-small d s)
 
 -- ---- a place is given: h are the holders as they were read
@@ -51,7 +53,7 @@ module _ (d h : List ℕ) (e : h ≡ holders d) (r : ℕ) where
   pub none-due : (n : ℕ) → n ≡ placeRefusal r h → n ≡ 0 → placeRefusal r (holders d) ≡ 0
   none-due n q z = sym (q ∙ ap (placeRefusal r) e) ∙ z
 
-  pub place-inside : sound d ≡ true → r < 8 → placeRefusal r (holders d) ≡ 0 → (p : ℕ) → p ≡ lowestFree h → p < 12
+  pub place-inside : sound d ≡ true → r < roomCount → placeRefusal r (holders d) ≡ 0 → (p : ℕ) → p ≡ lowestFree h → p < placeCount
   place-inside s k f p q = omega (arith, q ∙ ap lowestFree e, given-place (holders d) r (sound-fair d s) k f)
 
 -- ---- an area beside those that the room holds
@@ -82,8 +84,9 @@ lent-whole l a n vs h k =
     rw (splice-whole t vs e) at (splice-lent l a n vs h (omega arith))
 
 -- the numbers of place p, from b on
-pub place-long : (d : List ℕ) (p b : ℕ) → length d ≡ deskWords → p < 12 → b ≡ base p → length (take (b + 303 - b) (drop b d)) ≡ 303
-place-long d p b n h e = ap length (range-lent d b 303) ∙ length-range d b 303 (omega arith)
+pub place-long : (d : List ℕ) (p b : ℕ) → length d ≡ deskWords → p < placeCount → b ≡ base p
+    → length (take (b + placeWords - b) (drop b d)) ≡ placeWords
+place-long d p b n h e = ap length (range-lent d b placeWords) ∙ length-range d b placeWords (omega arith)
 
 -- ---- the words of the tables, in the array that they were taken to
 lent-inside : (l vs ws : List ℕ) (n : ℕ) → ws ≡ splice l 0 vs → n ≡ length vs → length vs ≤ length l → n ≤ length ws
@@ -114,15 +117,15 @@ module _ (r : ℕ) (a : Area) (ios tables : List ℕ) where
   own-written n e = rw (e, lent-length tables)
 
   -- a place whose numbers were l
-  module _ (l : List ℕ) (long : length l ≡ 303) where
-    pub with-own : length (splice l 0 (openedOwn r (givenBy a ios tables))) ≡ 303
+  module _ (l : List ℕ) (long : length l ≡ placeWords) where
+    pub with-own : length (splice l 0 (openedOwn r (givenBy a ios tables))) ≡ placeWords
     with-own = length-splice l 0 (openedOwn r (givenBy a ios tables)) (omega (arith, own-length)) ∙ long
 
-    module _ (small : a .at .0 + a .size ≤ 65536) (obey : listsObey a ios tables ≡ true) where
-      pub lists-long : length (keptLists ios tables (listsIn l)) ≡ 288
+    module _ (small : a .at .0 + a .size ≤ coreMost) (obey : listsObey a ios tables ≡ true) where
+      pub lists-long : length (keptLists ios tables (listsIn l)) ≡ listWords
       lists-long = kept-long a ios tables (listsIn l) small obey (lists-length l long)
 
-      pub opened-length : length (openedPlace r a ios tables l) ≡ 303
+      pub opened-length : length (openedPlace r a ios tables l) ≡ placeWords
       unfolding openedPlace
       opened-length =
           length-splice (splice l 0 (openedOwn r (givenBy a ios tables))) 15 (keptLists ios tables (listsIn l))
@@ -133,27 +136,29 @@ module _ (r : ℕ) (a : Area) (ios tables : List ℕ) where
     pub place-written : (ws e k : List ℕ) → Keepable a ios tables ws (listsIn l)
         → e ≡ splice l 0
         ((r + 1) ∷ a .at .0 ∷ a .size ∷ length ios ∷ (length tables / 2) ∷ length ws ∷ 0 ∷ 0 ∷ 0 ∷ 0 ∷ 0 ∷ 0 ∷ 0 ∷ 0 ∷ 0 ∷ [])
-        → k ≡ keptLists ios tables (take 288 (drop 15 e))
-        → take 15 e ++ (k ++ drop 288 (drop 15 e)) ≡ openedPlace r a ios tables l
+        → k ≡ keptLists ios tables (take listWords (drop 15 e))
+        → take 15 e ++ (k ++ drop listWords (drop 15 e)) ≡ openedPlace r a ios tables l
     unfolding openedPlace listsIn range
     place-written ws e k t x z =
         let own = openedOwn r (givenBy a ios tables) in
         let y : e ≡ splice l 0 own = x ∙ ap (splice l 0) (own-written (length ws) (ap length (t .words))) in
         let n : length own ≡ 15 = own-length in
-        let h : take 288 (drop 15 e) ≡ listsIn l = rw y (range-splice-after l 0 own 15 288 (omega arith) (omega arith)) in
+        let h : take listWords (drop 15 e) ≡ listsIn l = rw y
+        (range-splice-after l 0 own 15 listWords (omega arith) (omega arith)) in
         let q : k ≡ keptLists ios tables (listsIn l) = z ∙ ap (keptLists ios tables) h in
-        lent-whole e 15 288 k (omega (arith, ap length y, with-own)) (ap length q ∙ lists-long (t .small) (t .obey)) ∙ rw (y, q)
+        lent-whole e 15 listWords k (omega (arith, ap length y, with-own)) (ap length q ∙ lists-long (t .small) (t .obey))
+        ∙ rw (y, q)
 
   -- and so in its desk, from its first number b on
-  pub desk-written : (d : List ℕ) (p b : ℕ) (k : List ℕ) → length d ≡ deskWords → p < 12 → b ≡ base p
-      → a .at .0 + a .size ≤ 65536 → listsObey a ios tables ≡ true
-      → k ≡ openedPlace r a ios tables (take (b + 303 - b) (drop b d))
-      → take b d ++ (k ++ drop (b + 303 - b) (drop b d)) ≡ openedDesk d p r a ios tables
+  pub desk-written : (d : List ℕ) (p b : ℕ) (k : List ℕ) → length d ≡ deskWords → p < placeCount → b ≡ base p
+      → a .at .0 + a .size ≤ coreMost → listsObey a ios tables ≡ true
+      → k ≡ openedPlace r a ios tables (take (b + placeWords - b) (drop b d))
+      → take b d ++ (k ++ drop (b + placeWords - b) (drop b d)) ≡ openedDesk d p r a ios tables
   unfolding openedDesk placeIn
   desk-written d p b k n h e small obey q =
-      lent-whole d b 303 k (omega arith)
-      (ap length q ∙ opened-length (take (b + 303 - b) (drop b d)) (place-long d p b n h e) small obey)
-      ∙ rw (q, range-lent d b 303, e)
+      lent-whole d b placeWords k (omega arith)
+      (ap length q ∙ opened-length (take (b + placeWords - b) (drop b d)) (place-long d p b n h e) small obey)
+      ∙ rw (q, range-lent d b placeWords, e)
 
 -- ---- the answers
 module _ (d core : List ℕ) (r : ℕ) (a : Area) (ios tables : List ℕ) where

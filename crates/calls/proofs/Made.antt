@@ -9,6 +9,7 @@ use lib.ListN.{length, set, length-set, getD-replicate}
 use lib.Seq.{ext-getD, getD-set-same, getD-set-other}
 use lib.Dec.{eqb}
 use borrow.Author.Tests.{eqb-true}
+use Rattle.word.specs.Limits.{placeCount}
 use Rattle.word.specs.Lists.{splice}
 use Rattle.word.proofs.Cases.{by-eq, by-lt, both, when}
 use Rattle.word.proofs.Lists.{length-splice, range-splice-same, getD-splice-out}
@@ -66,7 +67,7 @@ module _ (d : List ℕ) (long : length d ≡ deskWords) where
   holders-freed : holders (freed 12 d) ≡ allFree
   holders-freed =
       ext-getD 0 _ _ (length-holders (freed 12 d))
-      (λ q g. let k : q < 12 = omega (arith, length-holders (freed 12 d)) in
+      (λ q g. let k : q < placeCount = omega (arith, length-holders (freed 12 d)) in
       getD-holders (freed 12 d) q k ∙ none-held 12 (omega arith) q k ∙ sym (getD-replicate 12 q 0 0 k))
 
 -- ---- the core length first and the map behind it is one stretch written
@@ -96,7 +97,7 @@ module _ (d : List ℕ) (n : ℕ) (m : List ℕ) (long : length d ≡ deskWords)
   -- all holders are 0, so that the map is all that is asked
   fresh-sound : coreFits n ≡ true → mapObeys n (mapOf m) ≡ true → Sound (freshDesk d n m)
   fresh-sound c o =
-      let f : (p : ℕ) → p < 12 → holderOf (placeIn (freshDesk d n m) p) ≡ 0 =
+      let f : (p : ℕ) → p < placeCount → holderOf (placeIn (freshDesk d n m) p) ≡ 0 =
       λ p h. sym (holder-at (freshDesk d n m) p) ∙ rw (← fresh-as) (none-held _ fixed-length 12 (omega arith) p h) in
       record {
         long = rw (← fresh-as) (length-freed 12 _ ∙ fixed-length);

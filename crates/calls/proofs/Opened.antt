@@ -7,6 +7,7 @@ use native.Mathlib.Omega.{arith}
 use lib.ListN.{length, getD, set}
 use lib.Dec.{eqb, leb}
 use borrow.Author.Tests.{eq-eqb, ne-eqb, eqb-true, le-leb}
+use Rattle.word.specs.Limits.{roomCount, placeCount, coreMost}
 use Rattle.word.specs.Lists.{splice}
 use Rattle.word.specs.Runs.{apart}
 use Rattle.word.specs.declared.Area.{Area}
@@ -28,7 +29,7 @@ use Rattle.lists.proofs.Back.{words-most, kept-words, kept-back}
 use Rattle.stage.specs.Stage.{numbersOf, stageOf}
 use Rattle.stage.specs.Ranges.{stageFits}
 use Rattle.stage.specs.declared.Stage.the-variants.{Label}
-use Rattle.layout.specs.Layout.{mapNumbers, base, placeIn, places, holderOf, holderIn, ownOf, stageIn, listsIn, holders}
+use Rattle.layout.specs.Layout.{placeWords, mapNumbers, base, placeIn, places, holderOf, holderIn, ownOf, stageIn, listsIn, holders}
 use Rattle.layout.proofs.Places.{holder-at, getD-holders, place-length, lists-length}
 use Rattle.desk.specs.Sound.{areaIn, countsFit, loadFits, heldFits, placeFits, areasApart, sound}
 use Rattle.desk.proofs.Facts.{sound-says, sound-long, free-first, sound-map, sound-fair}
@@ -51,7 +52,7 @@ stretches-areas s t a b w x y =
     (λ i e f g h. w i (omega (arith, u .0)) (omega (arith, u .1)) (omega (arith, v .0)) (omega (arith, v .1)))
 
 -- ---- what is read of a place just opened, whose numbers were l
-module _ (r : ℕ) (a : Area) (ios tables l : List ℕ) (long : length l ≡ 303) (small : a .at .0 + a .size ≤ 65536)
+module _ (r : ℕ) (a : Area) (ios tables l : List ℕ) (long : length l ≡ placeWords) (small : a .at .0 + a .size ≤ coreMost)
     (obey : listsObey a ios tables ≡ true) where
   abbrev given : Given
   given = givenBy a ios tables
@@ -130,7 +131,7 @@ module _ (r : ℕ) (a : Area) (ios tables l : List ℕ) (long : length l ≡ 303
       rw (holder-opened, ne-eqb (r + 1) 0 (λ y. omega arith), z, own-opened, h, counts-opened, fits-opened)
 
 -- ---- open keeps a desk sound
-module _ (d : List ℕ) (s : sound d ≡ true) (r : ℕ) (a : Area) (ios tables : List ℕ) (room : r < 8)
+module _ (d : List ℕ) (s : sound d ≡ true) (r : ℕ) (a : Area) (ios tables : List ℕ) (room : r < roomCount)
     (given : placeRefusal r (holders d) ≡ 0) (fit : areaFits d r a ≡ true) (obey : listsObey a ios tables ≡ true) where
   abbrev place : ℕ
   place = lowestFree (holders d)
@@ -138,17 +139,17 @@ module _ (d : List ℕ) (s : sound d ≡ true) (r : ℕ) (a : Area) (ios tables 
   abbrev numbers : List ℕ
   numbers = openedPlace r a ios tables (placeIn d place)
 
-  pub in-desk : place < 12
+  pub in-desk : place < placeCount
   in-desk = given-place (holders d) r (sound-fair d s) room given
 
   -- the place that is given was free
   pub given-free : holderIn d place ≡ 0
   given-free = sym (getD-holders d place in-desk) ∙ lowest-is-free (holders d)
 
-  pub old-length : length (placeIn d place) ≡ 303
+  pub old-length : length (placeIn d place) ≡ placeWords
   old-length = place-length d (sound-long d s) place in-desk
 
-  small : a .at .0 + a .size ≤ 65536
+  small : a .at .0 + a .size ≤ coreMost
   small = area-small d s r a room fit
 
   -- every other place, the map and the core length are as they were
@@ -167,7 +168,7 @@ module _ (d : List ℕ) (s : sound d ≡ true) (r : ℕ) (a : Area) (ios tables 
       ∙ ap (λ (h : ℕ). set (holders d) place h) (holder-opened r a ios tables (placeIn d place) old-length small obey)
 
   -- with the area of a place that any room holds it shares no word
-  beside-each : (q : ℕ) → q < 12 → areasApart (placeIn d q) numbers ≡ true
+  beside-each : (q : ℕ) → q < placeCount → areasApart (placeIn d q) numbers ≡ true
   unfolding placeFits heldFits besideOwn areaFits
   beside-each q h =
       let m = mapOf (mapNumbers d) in
@@ -199,7 +200,7 @@ abbrev SoundLeft : Outcome → Type 0
 SoundLeft o = sound (o .desk) ≡ true
 
 module _ (d core : List ℕ) (r : ℕ) (a : Area) (ios tables : List ℕ) where
-  grant-sound : sound d ≡ true → r < 8 → sound (grantOf d core r a ios tables .desk) ≡ true
+  grant-sound : sound d ≡ true → r < roomCount → sound (grantOf d core r a ios tables .desk) ≡ true
   unfolding grantOf opened
   grant-sound s h =
       when SoundLeft (eqb (placeRefusal r (holders d)) 0)
@@ -226,7 +227,7 @@ refusal-small r l =
     (both SmallNumber (eqb (held r l) 1) (both SmallNumber (leb (free l) (idle l)) (omega arith) (omega arith)) (omega arith))
 
 module _ (d core : List ℕ) (r : ℕ) (a : Area) (ios tables : List ℕ) where
-  grant-small : sound d ≡ true → r < 8 → Small (grantOf d core r a ios tables .answer)
+  grant-small : sound d ≡ true → r < roomCount → Small (grantOf d core r a ios tables .answer)
   unfolding grantOf opened
   grant-small s h =
       when SmallAnswer (eqb (placeRefusal r (holders d)) 0)

@@ -7,6 +7,7 @@ use native.Mathlib.Omega.{arith}
 use lib.ListN.{length, getD}
 use lib.Dec.{eqb, leb}
 use borrow.Author.Tests.{leb-true, le-leb, eqb-true}
+use Rattle.word.specs.Limits.{roomCount}
 use Rattle.word.specs.Lists.{tab}
 use Rattle.word.proofs.Cases.{by-eq, by-lt, both, when}
 use Rattle.rooms.specs.Rooms.{mostHeld, hit, count, free, held, heldEach, idle, Fair, lowestFree, placeRefusal}
@@ -81,7 +82,7 @@ module _ (ts : List Told) (l : List ℕ) (agree : (r : ℕ) → heldBy r ts ≡ 
   idle-told = none-told 8
 
 -- ---- a room that holds none finds a place free
-pub place-free : (l : List ℕ) (r : ℕ) → Fair l → r < 8 → held r l ≡ 0 → 0 < free l
+pub place-free : (l : List ℕ) (r : ℕ) → Fair l → r < roomCount → held r l ≡ 0 → 0 < free l
 unfolding free
 place-free l r f h z =
     count-some 0 l (lowestFree l) (omega (arith, f .twelve, given-place l r f h (none-denied l r z))) (lowest-is-free l)

@@ -18,7 +18,7 @@ use Rattle.stage.proofs.Back.{stage-length}
 use Rattle.rooms.specs.Rooms.{hit, count, held, allFree, lowestFree}
 use Rattle.rooms.proofs.Count.{hit-yes, hit-no, lowest-is-free}
 use Rattle.rooms.proofs.Rooms.{held-set, given-place}
-use Rattle.layout.specs.Layout.{coreLength, holders, holds}
+use Rattle.layout.specs.Layout.{stageAt, placeWords, coreLength, holders, holds}
 use Rattle.layout.proofs.Places.{length-holders, getD-holders, holders-kept, core-kept, holds-inside, holds-holder}
 use Rattle.desk.specs.Sound.{sound}
 use Rattle.desk.proofs.Facts.{sound-long, sound-fair}
@@ -117,7 +117,7 @@ release-counts d n q p =
 -- feed writes a stage and nothing else on the desk
 module _ (d core block : List ℕ) (q p : ℕ) where
   module _ (s : sound d ≡ true) (h : holds d q p ≡ true) (t : Stage) where
-    few : 6 + length (numbersOf t) ≤ 303
+    few : stageAt + length (numbersOf t) ≤ placeWords
     few = omega (arith, stage-length t)
 
     staged-held : (r : ℕ) → held r (holders (staged d p t)) ≡ held r (holders d)

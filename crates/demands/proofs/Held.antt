@@ -7,6 +7,7 @@ use mathlib.Core.List.{List}
 use native.Mathlib.Omega.{arith}
 use lib.ListN.{List·getD-eq-default}
 use borrow.Author.Tests.{ne-eqb}
+use Rattle.word.specs.Limits.{placeCount}
 use Rattle.word.specs.Runs.{Apart}
 use Rattle.word.specs.declared.Area.{Area}
 use Rattle.word.proofs.Cases.{by-lt}
@@ -27,11 +28,11 @@ pub held-by : (d : List ℕ) (r p : ℕ) → holds d r p ≡ true → holderOf (
 held-by d r p q = sym (holder-at d p) ∙ holds-holder d r p q
 
 module _ (d : List ℕ) (s : sound d ≡ true) where
-  pub free-past : (p : ℕ) → 12 ≤ p → holderOf (placeIn d p) ≡ 0
+  pub free-past : (p : ℕ) → placeCount ≤ p → holderOf (placeIn d p) ≡ 0
   free-past p h = sym (holder-at d p) ∙ List·getD-eq-default d 0 (omega (arith, sound-long d s))
 
   module _ (p : ℕ) (held : holderOf (placeIn d p) ≡ 0 → ⊥) where
-    pub held-place : p < 12
+    pub held-place : p < placeCount
     held-place = by-lt p 12 (λ h. h) (λ h. absurd (held (free-past p h)))
 
     at-holder : holderIn d p ≡ 0 → ⊥

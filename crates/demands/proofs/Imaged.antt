@@ -7,6 +7,7 @@ use native.Mathlib.Omega.{arith}
 use lib.ListN.{length, getD, drop}
 use lib.Dec.{eqb, ltb}
 use borrow.Author.Tests.{eqb-true, eqb-false, ltb-true, ltb-false}
+use Rattle.program.specs.Sections.{lastWord}
 use Rattle.word.specs.Lists.{every, range}
 use Rattle.word.proofs.Cases.{when, and-left, and-right}
 use Rattle.block.specs.Records.{ofRecord}
@@ -66,7 +67,7 @@ module _ (x : Load) (after : List ℕ) where
           → Reads x channels after (Program c due) core (pieces (block ∷ blocks))
       unfolding programStep pieces
       program-by c due (More t) e h =
-          program-leads x channels tables block t (pieces blocks) after 254 c due 1 core e (ih t _ h)
+          program-leads x channels tables block t (pieces blocks) after lastWord c due 1 core e (ih t _ h)
       program-by c due (Done a) e h = absurd (program-not-done x block c due core a e)
       program-by c due (Refused f) e h = absurd h
 

@@ -14,6 +14,7 @@ pub mod Parts
 pub mod Turns
 pub mod Held
 pub mod Views
+pub mod Rest
 pub mod Reach
 pub mod Frames
 pub mod Loaded

@@ -8,6 +8,7 @@ use native.Mathlib.Omega.{arith}
 use lib.ListN.{length, getD}
 use lib.Dec.{eqb}
 use borrow.Author.Tests.{eq-eqb}
+use Rattle.word.specs.Limits.{placeCount}
 use Rattle.word.specs.Lists.{every, range}
 use Rattle.word.specs.declared.Absolute.{Absolute}
 use Rattle.stage.specs.declared.Stage.{Stage}
@@ -63,7 +64,7 @@ module _ (r p : ℕ) (x : Load) (a : Absolute) (others : List Absolute) where
     abbrev held : holderOf (placeIn (s .desk) p) ≡ 0 → ⊥
     held z = omega (arith, h)
 
-    in-p : p < 12
+    in-p : p < placeCount
     in-p = held-place (s .desk) (k .desk) p held
 
     fit : FitToFeed x g

@@ -6,12 +6,13 @@ use mathlib.Core.Bool.{true}
 use mathlib.Core.List.{List}
 use native.Mathlib.Omega.{arith}
 use lib.ListN.{length}
+use Rattle.word.specs.Limits.{roomCount, coreMost}
 use Rattle.word.specs.declared.Area.{Area}
 use Rattle.rooms.specs.Rooms.{placeRefusal, lowestFree}
 use Rattle.lists.specs.Obey.{tablesOf, listsObey}
 use Rattle.stage.specs.declared.Stage.the-variants.{Label}
 use Rattle.layout.specs.declared.Place.{Place}
-use Rattle.layout.specs.Layout.{placeIn, holderOf, stageIn, holders}
+use Rattle.layout.specs.Layout.{placeWords, placeIn, holderOf, stageIn, holders}
 use Rattle.desk.specs.Sound.{sound}
 use Rattle.calls.specs.Open.{areaFits, openedPlace, openedDesk}
 use Rattle.calls.proofs.Grant.{area-small}
@@ -20,7 +21,7 @@ use Rattle.feed.specs.Feed.{loadIn}
 use Rattle.demands.proofs.Held.{areaOf}
 
 -- ---- open where it is granted
-module _ (d : List ℕ) (s : sound d ≡ true) (r : ℕ) (a : Area) (ios tables : List ℕ) (room : r < 8)
+module _ (d : List ℕ) (s : sound d ≡ true) (r : ℕ) (a : Area) (ios tables : List ℕ) (room : r < roomCount)
     (given : placeRefusal r (holders d) ≡ 0)
     (fit : areaFits d r a ≡ true) (obey : listsObey a ios tables ≡ true) where
   abbrev place : ℕ
@@ -35,10 +36,10 @@ module _ (d : List ℕ) (s : sound d ≡ true) (r : ℕ) (a : Area) (ios tables 
   is-new : placeIn after place ≡ openedPlace r a ios tables old
   is-new = opened-replaced d s r a ios tables room given fit obey .here
 
-  long : length old ≡ 303
+  long : length old ≡ placeWords
   long = old-length d s r a ios tables room given fit obey
 
-  small : a .at .0 + a .size ≤ 65536
+  small : a .at .0 + a .size ≤ coreMost
   small = area-small d s r a room fit
 
   pub opened-load : loadIn (placeIn after place) ≡ record { area = a; tables = tablesOf tables; ios = ios }

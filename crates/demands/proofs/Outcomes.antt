@@ -7,7 +7,7 @@ use mathlib.Core.Logic.{_⊎_, inl, inr}
 use lib.ListN.{length, set}
 use lib.Dec.{eqb}
 use borrow.Author.Tests.{eqb-true}
-use Rattle.word.specs.Limits.{mapWords}
+use Rattle.word.specs.Limits.{roomCount, mapWords}
 use Rattle.word.specs.declared.Area.{Area}
 use Rattle.word.specs.declared.Fault.{Fault}
 use Rattle.word.proofs.Cases.{both, when}
@@ -46,7 +46,7 @@ module _ (d : List ℕ) (n : ℕ) (m : List ℕ) where
 pub record Granted (d core : List ℕ) (r : ℕ) (a : Area) (ios tables : List ℕ) : Type 0 where
   pub desk : sound d ≡ true
   pub long : length core ≡ coreLength d
-  pub room : r < 8
+  pub room : r < roomCount
   pub given : placeRefusal r (holders d) ≡ 0
   pub fit : areaFits d r a ≡ true
   pub obey : listsObey a ios tables ≡ true
@@ -55,7 +55,7 @@ module _ (d core : List ℕ) (r : ℕ) (a : Area) (ios tables : List ℕ) where
   abbrev Sorted : Outcome → Type 0
   Sorted o = Denies d core o ⊎ (Granted d core r a ios tables × (o ≡ opened d core r a ios tables))
 
-  grant-sorted : sound d ≡ true → length core ≡ coreLength d → r < 8 → Sorted (grantOf d core r a ios tables)
+  grant-sorted : sound d ≡ true → length core ≡ coreLength d → r < roomCount → Sorted (grantOf d core r a ios tables)
   unfolding grantOf
   grant-sorted s e h =
       when Sorted (eqb (placeRefusal r (holders d)) 0)

@@ -10,7 +10,7 @@ use lib.Dec.{ltb}
 use Rattle.word.specs.Lists.{range}
 use Rattle.word.proofs.Cases.{when}
 use Rattle.word.proofs.Stretch.{Beside, length-cleared, getD-cleared-beside}
-use Rattle.word.specs.Limits.{roomCount}
+use Rattle.word.specs.Limits.{placeCount, roomCount}
 use Rattle.block.specs.declared.Verdict.{Verdict}
 use Rattle.block.specs.declared.Verdict.the-variants.{Pass, Refused as refused-block}
 use Rattle.stage.specs.declared.Stage.{Stage}
@@ -40,7 +40,7 @@ module _ (laws : BlockLaws) (s : State) (p : ℕ) (block : List ℕ) where
   abbrev Kept : Outcome → Type 0
   Kept o = Confined p s (leftBy o)
 
-  module _ (ok : sound (s .desk) ≡ true) (e : length (s .core) ≡ coreLength (s .desk)) (in-p : p < 12)
+  module _ (ok : sound (s .desk) ≡ true) (e : length (s .core) ≡ coreLength (s .desk)) (in-p : p < placeCount)
       (held : holderOf (placeIn (s .desk) p) ≡ 0 → ⊥) where
     abbrev numbers : List ℕ
     numbers = placeIn (s .desk) p
@@ -110,7 +110,7 @@ module _ (laws : BlockLaws) (s t : State) (p : ℕ) (same : view p s ≡ view p 
 
   module _ (ok : sound (s .desk) ≡ true) (ot : sound (t .desk) ≡ true) (es : length (s .core) ≡ coreLength (s .desk))
       (et : length (t .core) ≡ coreLength (t .desk)) (block : List ℕ) where
-    module _ (in-p : p < 12) (held : holderOf (placeIn (s .desk) p) ≡ 0 → ⊥) where
+    module _ (in-p : p < placeCount) (held : holderOf (placeIn (s .desk) p) ≡ 0 → ⊥) where
       abbrev l : List ℕ
       l = placeIn (s .desk) p
 

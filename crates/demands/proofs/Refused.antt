@@ -19,7 +19,7 @@ use Rattle.stage.proofs.Back.{stage-length}
 use Rattle.map.specs.Map.{mapOf, mapObeys}
 use Rattle.rooms.specs.Rooms.{held, free, idle, placeRefusal}
 use Rattle.lists.specs.Obey.{listsObey}
-use Rattle.layout.specs.Layout.{deskWords, coreLength, base, placeIn, ownOf, stageIn, holders, holds}
+use Rattle.layout.specs.Layout.{stageAt, deskWords, coreLength, base, placeIn, ownOf, stageIn, holders, holds}
 use Rattle.desk.specs.Sound.{coreFits, sound}
 use Rattle.desk.proofs.Facts.{sound-long}
 use Rattle.calls.specs.Answer.{codeOf, valueOf, packed, Small}
@@ -163,7 +163,7 @@ module _ (s : State) (r p : ℕ) (block : List ℕ) where
     unfolding loadIn
     in-core = let k = holds-place (s .desk) r p h in rw e (held-inside (s .desk) ok p (k .0) (k .1))
 
-    in-desk : base p + 6 + length (numbersOf Broken) ≤ length (s .desk)
+    in-desk : base p + stageAt + length (numbersOf Broken) ≤ length (s .desk)
     in-desk = omega (arith, holds-place (s .desk) r p h .0, sound-long (s .desk) ok, stage-length Broken)
 
     broken-off : BrokenOff p area s (record { desk = staged (s .desk) p Broken; core = wiped area (s .core) })
@@ -175,9 +175,9 @@ module _ (s : State) (r p : ℕ) (block : List ℕ) where
           beside = λ j o. getD-cleared-beside (s .core) _ _ j in-core (outside-beside j _ _ (outside-area area j o));
           core-long = length-cleared (s .core) _ _ in-core;
           stage = staged-stage (s .desk) ok p (k .0) Broken;
-          others = unfold staged in (λ i o. getD-splice-beside (s .desk) (base p + 6) (numbersOf Broken) i in-desk
+          others = unfold staged in (λ i o. getD-splice-beside (s .desk) (base p + stageAt) (numbersOf Broken) i in-desk
               (outside-beside i _ _ (λ a b. o a (omega arith))));
-          desk-long = unfold staged in (length-splice (s .desk) (base p + 6) (numbersOf Broken) in-desk);
+          desk-long = unfold staged in (length-splice (s .desk) (base p + stageAt) (numbersOf Broken) in-desk);
         }
 
   feed-breaks : Breaks (feedOf (s .desk) (s .core) r p block)

@@ -24,7 +24,7 @@ use Rattle.program.specs.declared.TableSection.{TableSection}
 use Rattle.program.specs.declared.TableSectionRead.{TableSectionRead}
 use Rattle.program.specs.declared.TableSectionRead.the-variants.{Good as section-read, Bad as no-section}
 use Rattle.program.specs.declared.Group.{Group}
-use Rattle.program.specs.Sections.{segmentOf, tableSectionOf}
+use Rattle.program.specs.Sections.{lastWord, segmentOf, tableSectionOf}
 use Rattle.lists.specs.declared.Table.{Table as CoreTable}
 use Rattle.lists.specs.Obey.{noTable, tableInside}
 use Rattle.field.specs.Field.{Assignments}
@@ -229,7 +229,7 @@ module _ (x : Load) (channels : ℕ) (tables : every (tableInside (x .area)) (x 
       segment-leads : Heads (segmentStep (x .area) (x .tables) c block i)
       unfolding segmentStep
       segment-leads =
-          when Heads (leb (i + 3) 254)
+          when Heads (leb (i + 3) lastWord)
           (λ _. segment-read-leads (segmentOf (getD block i 0) (getD block (i + 1) 0)) refl)
           (λ _. refuses _ (fault 17) core)
 

@@ -9,6 +9,7 @@ use native.Mathlib.Omega.{arith}
 use lib.ListN.{length, getD}
 use lib.Dec.{eqb}
 use borrow.Author.Tests.{ne-eqb}
+use Rattle.word.specs.Limits.{roomCount, placeCount}
 use Rattle.word.specs.Fault.{fault}
 use Rattle.word.specs.Lists.{every}
 use Rattle.word.specs.declared.Area.{Area}
@@ -69,7 +70,7 @@ run-sound [] s k = k
 run-sound (e ∷ es) s k = run-sound es (event e s) (event-sound e s k)
 
 -- ---- refusals 5 and 6 of open are those of the holders
-module _ (d : List ℕ) (ok : sound d ≡ true) (r : ℕ) (room : r < 8) (q : Asked) where
+module _ (d : List ℕ) (ok : sound d ≡ true) (r : ℕ) (room : r < roomCount) (q : Asked) where
   abbrev Tells : ℕ → Outcome → Type 0
   Tells n o = o .answer ≡ Refused (fault n) → placeRefusal r (holders d) ≡ n
 
@@ -94,7 +95,7 @@ module _ (d : List ℕ) (ok : sound d ≡ true) (r : ℕ) (room : r < 8) (q : As
 
 -- ---- a room that holds nothing: nothing of its own is in the way of an area in its stretch
 module _ (d : List ℕ) (r : ℕ) (none-held : held r (holders d) ≡ 0) where
-  not-own : (p : ℕ) → p < 12 → holderOf (placeIn d p) ≡ r + 1 → ⊥
+  not-own : (p : ℕ) → p < placeCount → holderOf (placeIn d p) ≡ r + 1 → ⊥
   unfolding held
   not-own p h e =
       omega (
@@ -108,14 +109,14 @@ module _ (d : List ℕ) (r : ℕ) (none-held : held r (holders d) ≡ 0) where
   unfolding besideOwn
   all-beside a =
       every-by [] (besideOwn r a) (places d)
-      (λ p h. let k : p < 12 = omega (arith, places-length d) in
+      (λ p h. let k : p < placeCount = omega (arith, places-length d) in
       rw (places-at d p k, ne-eqb (holderOf (placeIn d p)) (r + 1) (not-own p k)))
 
   area-fits : (a : Area) → areaIn (getD (mapOf (mapNumbers d)) r none) a ≡ true → areaFits d r a ≡ true
   unfolding areaFits
   area-fits a q = and-both (areaIn (getD (mapOf (mapNumbers d)) r none) a) (every (besideOwn r a) (places d)) q (all-beside a)
 
-  gives-place : sound d ≡ true → r < 8 → (q : Asked) → length (q .core) ≡ coreLength d
+  gives-place : sound d ≡ true → r < roomCount → (q : Asked) → length (q .core) ≡ coreLength d
       → areaIn (getD (mapOf (mapNumbers d)) r none) (q .area) ≡ true → listsObey (q .area) (q .ios) (q .tables) ≡ true
       → openAnswer d r q ≡ Opened (lowestFree (holders d))
   unfolding answerTo openOf grantOf opened
@@ -136,7 +137,7 @@ gives-back d k r p e =
 
 -- ---- what the counts say, where they are the desk's
 module _ (ts : List Told) (d : List ℕ) (ok : sound d ≡ true) (agree : (r : ℕ) → heldBy r ts ≡ held r (holders d)) (r : ℕ)
-    (room : r < 8) where
+    (room : r < roomCount) where
   abbrev l : List ℕ
   l = holders d
 

@@ -8,6 +8,7 @@ use native.Mathlib.Omega.{arith}
 use lib.ListN.{length}
 use lib.Dec.{eqb}
 use borrow.Author.Tests.{eq-eqb}
+use Rattle.word.specs.Limits.{placeCount}
 use Rattle.word.specs.declared.Absolute.{Absolute}
 use Rattle.word.specs.declared.Area.{Area}
 use Rattle.lists.specs.Load.{Load}
@@ -153,7 +154,7 @@ module _ (r p : ℕ) (area : Area) (a : Absolute) (others : List Absolute) where
     abbrev due : Stage
     due = stageIn (placeIn (s .desk) p)
 
-    in-p : p < 12
+    in-p : p < placeCount
     in-p = held-place (s .desk) ok p (λ z. omega (arith, held))
 
     holder-t : holderOf (placeIn (t .desk) p) ≡ r + 1

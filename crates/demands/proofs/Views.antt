@@ -10,6 +10,7 @@ use lib.ListN.{length, getD, replicate, length-replicate}
 use lib.Seq.{ext-getD}
 use lib.Dec.{eqb}
 use borrow.Author.Tests.{eq-eqb, ne-eqb, le-leb, lt-ltb}
+use Rattle.word.specs.Limits.{placeCount}
 use Rattle.word.specs.Lists.{range, splice, cleared}
 use Rattle.word.specs.declared.Area.{Area}
 use Rattle.word.proofs.Cases.{by-eq, by-lt}
@@ -21,7 +22,7 @@ use Rattle.stage.specs.Stage.{numbersOf}
 use Rattle.stage.proofs.Back.{stage-length, stage-back}
 use Rattle.lists.specs.Load.{listWords}
 use Rattle.layout.specs.declared.Place.{Place}
-use Rattle.layout.specs.Layout.{base, placeIn, holderOf, ownOf, stageIn, listsAt, listsIn}
+use Rattle.layout.specs.Layout.{stageAt, placeWords, fixedWords, base, placeIn, holderOf, ownOf, stageIn, listsAt, listsIn}
 use Rattle.layout.proofs.Places.{place-length, written-length, place-written, place-kept}
 use Rattle.desk.specs.Sound.{sound}
 use Rattle.desk.proofs.Facts.{sound-long}
@@ -102,7 +103,7 @@ cleared-words core a n h =
 -- ---- a state that differs at most at place p, not in what the place holds, and in its area's words
 pub record Confined (p : ℕ) (s t : State) : Type 0 where
   pub long : length (t .desk) ≡ length (s .desk)
-  pub fixed : range (t .desk) 0 17 ≡ range (s .desk) 0 17
+  pub fixed : range (t .desk) 0 fixedWords ≡ range (s .desk) 0 fixedWords
   pub others : (q : ℕ) → (q ≡ p → ⊥) → placeIn (t .desk) q ≡ placeIn (s .desk) q
   pub own : ownOf (placeIn (t .desk) p) ≡ ownOf (placeIn (s .desk) p)
   pub core : length (t .core) ≡ length (s .core)
@@ -156,23 +157,23 @@ module _ (p : ℕ) (s t : State) (ok : sound (s .desk) ≡ true) (c : Confined p
   view-kept = view-by s t q (c .others q n) (c .core) untouched
 
 -- ---- a place whose stage alone is written
-own-staged : (l : List ℕ) (t : Stage) → length l ≡ 303 → ownOf (splice l 6 (numbersOf t)) ≡ ownOf l
+own-staged : (l : List ℕ) (t : Stage) → length l ≡ placeWords → ownOf (splice l stageAt (numbersOf t)) ≡ ownOf l
 unfolding ownOf
 own-staged l t h =
     let e = stage-length t in
-    let at : (i : ℕ) → i < 6 → getD (splice l 6 (numbersOf t)) i 0 ≡ getD l i 0 =
+    let at : (i : ℕ) → i < 6 → getD (splice l stageAt (numbersOf t)) i 0 ≡ getD l i 0 =
     λ i g. getD-splice-out l 6 (numbersOf t) i (omega arith) (λ x y. omega arith) in
     rw (at 0 (omega arith), at 1 (omega arith), at 2 (omega arith), at 3 (omega arith), at 4 (omega arith), at 5 (omega arith))
 
 -- the lists stand behind it
-load-staged : (l : List ℕ) (t : Stage) → length l ≡ 303 → loadIn (splice l 6 (numbersOf t)) ≡ loadIn l
+load-staged : (l : List ℕ) (t : Stage) → length l ≡ placeWords → loadIn (splice l stageAt (numbersOf t)) ≡ loadIn l
 unfolding loadIn listsIn
 load-staged l t h =
     let n = stage-length t in
     rw (own-staged l t h, range-splice-after l 6 (numbersOf t) listsAt listWords (omega arith) (omega arith))
 
-module _ (d : List ℕ) (ok : sound d ≡ true) (p : ℕ) (h : p < 12) (t : Stage) where
-  few : 6 + length (numbersOf t) ≤ 303
+module _ (d : List ℕ) (ok : sound d ≡ true) (p : ℕ) (h : p < placeCount) (t : Stage) where
+  few : stageAt + length (numbersOf t) ≤ placeWords
   few = omega (arith, stage-length t)
 
   pub staged-place : placeIn (staged d p t) p ≡ splice (placeIn d p) 6 (numbersOf t)
@@ -199,7 +200,7 @@ module _ (d : List ℕ) (ok : sound d ≡ true) (p : ℕ) (h : p < 12) (t : Stag
   staged-confined core k e b =
       let l = sound-long d ok in record {
         long = written-length d l p h 6 (numbersOf t) few ∙ sym l;
-        fixed = range-splice-before d (base p + 6) (numbersOf t) 0 17 (omega arith) (omega (arith, few));
+        fixed = range-splice-before d (base p + stageAt) (numbersOf t) 0 17 (omega arith) (omega (arith, few));
         others = place-kept d l p h 6 (numbersOf t) few;
         own = staged-own;
         core = e;

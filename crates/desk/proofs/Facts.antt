@@ -7,6 +7,7 @@ use native.Mathlib.Omega.{arith}
 use lib.ListN.{length, getD}
 use lib.Dec.{eqb, leb}
 use borrow.Author.Tests.{eq-eqb, ne-eqb, leb-true}
+use Rattle.word.specs.Limits.{roomCount, placeCount, coreMost}
 use Rattle.word.specs.Runs.{Says}
 use Rattle.word.specs.declared.Area.{Area}
 use Rattle.word.proofs.Cases.{by-test, and-left, and-right}
@@ -22,7 +23,8 @@ use Rattle.lists.specs.Load.{wordsIn, coreTables, Readable}
 use Rattle.lists.proofs.Reading.{io-obey, core-length}
 use Rattle.layout.specs.Layout.{deskWords, coreLength, mapNumbers, placeIn, holderOf, holderIn, holders}
 use Rattle.layout.proofs.Places.{holder-at, length-holders, getD-holders, place-length}
-use Rattle.desk.specs.Sound.{sound, coreFits, areaIn, countsFit, loadFits, heldFits, placeFits, areasApart, Sound, givenIn, listsHeld, HeldFacts}
+use Rattle.desk.specs.Sound.{sound, coreFits, areaIn, countsFit, loadFits, heldFits, placeFits, areasApart, Sound, givenIn}
+use Rattle.desk.specs.Sound.{listsHeld, HeldFacts}
 use Rattle.desk.proofs.Tested.{lists-readable, says-self, places-say}
 
 pub sound-says : (d : List ℕ) → Says (sound d) (Sound d)
@@ -62,7 +64,7 @@ sound-long d q = sound-says d .fact q .long
 
 -- ---- what a sound desk has
 module _ (d : List ℕ) (s : sound d ≡ true) where
-  pub core-small : coreLength d ≤ 65536
+  pub core-small : coreLength d ≤ coreMost
   core-small = leb-true (coreLength d) 65536 (and-right (leb 1 (coreLength d)) _ (sound-says d .fact s .core))
 
   pub sound-map : MapObeys (coreLength d) (λ r. getD (mapOf (mapNumbers d)) r none)
@@ -72,7 +74,8 @@ module _ (d : List ℕ) (s : sound d ≡ true) where
   sound-fair = sound-says d .fact s .fair
 
   -- an area in a room's stretch lies in the core
-  pub stretch-in-core : (r : ℕ) (a : Area) → r < 8 → areaIn (getD (mapOf (mapNumbers d)) r none) a ≡ true → a .at .0 + a .size ≤ coreLength d
+  pub stretch-in-core : (r : ℕ) (a : Area) → r < roomCount → areaIn (getD (mapOf (mapNumbers d)) r none) a ≡ true
+      → a .at .0 + a .size ≤ coreLength d
   unfolding areaIn
   stretch-in-core r a h q =
       let t = getD (mapOf (mapNumbers d)) r none in
@@ -80,7 +83,7 @@ module _ (d : List ℕ) (s : sound d ≡ true) where
       omega (arith, w .1, sound-map .inside r h)
 
   -- ---- and what it says of a held place
-  module _ (p : ℕ) (in-p : p < 12) where
+  module _ (p : ℕ) (in-p : p < placeCount) where
     pub holder-known : holderOf (placeIn d p) ≤ 8
     holder-known = omega (arith, sound-fair .known p in-p, getD-holders d p in-p, holder-at d p)
 

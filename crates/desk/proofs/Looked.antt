@@ -10,6 +10,7 @@ use lib.ListN.{length, getD, set, drop, drop-of-length-le, replicate, getD-repli
 use lib.Seq.{drop-cons, getD-set-same, getD-set-other}
 use lib.Dec.{eqb, leb}
 use borrow.Author.Tests.{ne-eqb, eq-eqb}
+use Rattle.word.specs.Limits.{roomCount, placeCount, coreMost}
 use Rattle.word.proofs.Cases.{by-test, by-eq, by-lt, and-left, and-right}
 use Rattle.word.proofs.Lists.{length-range}
 use Rattle.word.proofs.Says.{says-within, says-apart}
@@ -52,23 +53,24 @@ unfolding mapNumbers
 map-numbers-length d h = length-range d 1 16 (omega arith)
 
 -- a room's stretch ends in the numbers of a core
-pub stretch-small : (d : List ℕ) → coreLength d ≤ 65536 → mapObeys (coreLength d) (mapOf (mapNumbers d)) ≡ true → (r : ℕ) → r < 8
+pub stretch-small : (d : List ℕ) → coreLength d ≤ coreMost → mapObeys (coreLength d) (mapOf (mapNumbers d)) ≡ true → (r : ℕ)
+    → r < roomCount
     → SmallStretch (stretchOf (mapNumbers d) r)
 stretch-small d h q r k = omega (arith, map-of-says (coreLength d) (mapNumbers d) .fact q .inside r k)
 
 -- who holds a place, by the list of the holders
-holder-of : (d : List ℕ) (q : ℕ) → q < 12 → getD (holders d) q 0 ≡ holderOf (placeIn d q)
+holder-of : (d : List ℕ) (q : ℕ) → q < placeCount → getD (holders d) q 0 ≡ holderOf (placeIn d q)
 holder-of d q h = getD-holders d q h ∙ holder-at d q
 
--- the places of `held` before its ith are those that are held before place p: they are in order, no two share a word, and `last` has
--- for each room one more than the last that it holds, or 0
+-- the places of `held` before its ith are those that are held before place p: they are in order, no two share a word, and `last`
+-- has for each room one more than the last that it holds, or 0
 pub record Looked (d held : List ℕ) (i p : ℕ) (last : List ℕ) : Type 0 where
   pub left : drop i held ≡ heldPlaces p (drop p (holders d))
   pub fit : (q : ℕ) → q < p → placeFits (mapOf (mapNumbers d)) (placeIn d q) ≡ true
   pub two : (q k : ℕ) → q < k → k < p → areasApart (placeIn d q) (placeIn d k) ≡ true
-  pub most : (r : ℕ) → r < 8 → getD last r 0 ≤ p
-  pub theirs : (r : ℕ) → r < 8 → 0 < getD last r 0 → holderOf (placeIn d (getD last r 0 - 1)) ≡ r + 1
-  pub latest : (r q : ℕ) → r < 8 → q < p → holderOf (placeIn d q) ≡ r + 1 → q < getD last r 0
+  pub most : (r : ℕ) → r < roomCount → getD last r 0 ≤ p
+  pub theirs : (r : ℕ) → r < roomCount → 0 < getD last r 0 → holderOf (placeIn d (getD last r 0 - 1)) ≡ r + 1
+  pub latest : (r q : ℕ) → r < roomCount → q < p → holderOf (placeIn d q) ≡ r + 1 → q < getD last r 0
 
 pub looked-none : (d held : List ℕ) → held ≡ heldPlaces 0 (holders d) → Looked d held 0 0 (replicate 8 0)
 looked-none d held e = record {
@@ -86,9 +88,10 @@ module _ (d held last : List ℕ) (i p : ℕ) (f : fair (holders d) ≡ true) (l
 
   -- at the end no more place is held
   module _ (end : length held ≤ i) where
-    free-left : (q : ℕ) → p ≤ q → q < 12 → holderOf (placeIn d q) ≡ 0
+    free-left : (q : ℕ) → p ≤ q → q < placeCount → holderOf (placeIn d q) ≡ 0
     free-left q h k =
-        sym (holder-of d q k) ∙ held-none (holders d) p (sym (drop-of-length-le held end) ∙ l .left) q h (omega (arith, length-holders d))
+        sym (holder-of d q k)
+        ∙ held-none (holders d) p (sym (drop-of-length-le held end) ∙ l .left) q h (omega (arith, length-holders d))
 
     pub looked-end : true ≡ placesFit d
     looked-end = sym (places-say d .test (
@@ -114,8 +117,9 @@ module _ (d held last : List ℕ) (i p : ℕ) (f : fair (holders d) ≡ true) (l
     free-between q h k = sym (holder-of d q (omega (arith, next-inside))) ∙ next .free q h k
 
     -- it is in order just when it fits in its room's stretch
-    module _ (r : ℕ) (room : r < 8) (e : holderOf (placeIn d (getD held i 0)) ≡ r + 1) where
-      next-fits : placeFits (mapOf (mapNumbers d)) (placeIn d (getD held i 0)) ≡ heldFits (stretchOf (mapNumbers d) r) (placeIn d (getD held i 0))
+    module _ (r : ℕ) (room : r < roomCount) (e : holderOf (placeIn d (getD held i 0)) ≡ r + 1) where
+      next-fits : placeFits (mapOf (mapNumbers d)) (placeIn d (getD held i 0)) ≡ heldFits (stretchOf (mapNumbers d) r)
+          (placeIn d (getD held i 0))
       unfolding placeFits
       next-fits =
           let z : holderOf (placeIn d (getD held i 0)) - 1 ≡ r = omega arith in
@@ -143,7 +147,8 @@ module _ (d held last : List ℕ) (i p : ℕ) (f : fair (holders d) ≡ true) (l
       looked-shared g = by-eq (getD last r 0) 0
           (λ z. absurd (true≢false (rw (eq-eqb (getD last r 0) 0 z) at g)))
           (λ z. by-test (placesFit d)
-          (λ t. absurd (true≢false (sym (places-say d .fact t .1 (getD last r 0 - 1) (getD held i 0) (omega (arith, last-before)) next-inside)
+          (λ t. absurd (true≢false
+          (sym (places-say d .fact t .1 (getD last r 0 - 1) (getD held i 0) (omega (arith, last-before)) next-inside)
           ∙ (rw (ne-eqb (getD last r 0) 0 z) at g))))
           sym)
 
@@ -156,7 +161,8 @@ module _ (d held last : List ℕ) (i p : ℕ) (f : fair (holders d) ≡ true) (l
             (λ z. rw z (next-fits ∙ g))
             (λ z. free-fits _ _ (free-between q o (omega arith))))
 
-        held-before : (q o : ℕ) → q < p → o < 8 → holderOf (placeIn d q) ≡ o + 1 → heldFits (stretchOf (mapNumbers d) o) (placeIn d q) ≡ true
+        held-before : (q o : ℕ) → q < p → o < 8 → holderOf (placeIn d q) ≡ o + 1
+            → heldFits (stretchOf (mapNumbers d) o) (placeIn d q) ≡ true
         unfolding placeFits
         held-before q o k j b =
             let z : holderOf (placeIn d q) - 1 ≡ o = omega arith in
@@ -168,7 +174,8 @@ module _ (d held last : List ℕ) (i p : ℕ) (f : fair (holders d) ≡ true) (l
             let o = l .latest r q room k b in
             by-eq q (getD last r 0 - 1)
             (λ z. rw z (rw (ne-eqb (getD last r 0) 0 (λ y. omega arith)) at h))
-            (λ z. absurd (no-third (holders d) r q (getD last r 0 - 1) (getD held i 0) is-fair room (omega arith) (omega (arith, last-before)) next-inside
+            (λ z. absurd (no-third (holders d) r q (getD last r 0 - 1) (getD held i 0) is-fair room (omega arith)
+            (omega (arith, last-before)) next-inside
             (holder-of d q (omega (arith, next .low, next-inside)) ∙ b)
             (holder-of d (getD last r 0 - 1) (omega (arith, last-before, next-inside)) ∙ l .theirs r room (omega arith))
             (holder-of d (getD held i 0) next-inside ∙ e)))
@@ -177,12 +184,14 @@ module _ (d held last : List ℕ) (i p : ℕ) (f : fair (holders d) ≡ true) (l
         other-room : (q : ℕ) → q < p → (holderOf (placeIn d q) ≡ 0 → ⊥) → (holderOf (placeIn d q) ≡ r + 1 → ⊥)
             → areasApart (placeIn d q) (placeIn d (getD held i 0)) ≡ true
         other-room q k z y =
-            let in-q : q < 12 = omega (arith, next .low, next-inside) in
+            let in-q : q < placeCount = omega (arith, next .low, next-inside) in
             let o : holderOf (placeIn d q) - 1 < 8 = omega (arith, is-fair .known q in-q, holder-of d q in-q) in
             let b : holderOf (placeIn d q) ≡ holderOf (placeIn d q) - 1 + 1 = omega arith in
-            other-rooms-apart (stretchOf (mapNumbers d) (holderOf (placeIn d q) - 1)) (stretchOf (mapNumbers d) r) (placeIn d q) (placeIn d (getD held i 0))
+            other-rooms-apart (stretchOf (mapNumbers d) (holderOf (placeIn d q) - 1)) (stretchOf (mapNumbers d) r) (placeIn d q)
+            (placeIn d (getD held i 0))
             (held-before q (holderOf (placeIn d q) - 1) k o b) g
-            (map-of-says (coreLength d) (mapNumbers d) .fact obeys .separate (holderOf (placeIn d q) - 1) r o room (λ w. y (omega arith)))
+            (map-of-says (coreLength d) (mapNumbers d) .fact obeys .separate (holderOf (placeIn d q) - 1) r o room
+            (λ w. y (omega arith)))
 
         apart-next : (q : ℕ) → q < getD held i 0 → areasApart (placeIn d q) (placeIn d (getD held i 0)) ≡ true
         apart-next q k = by-lt q p
@@ -199,7 +208,8 @@ module _ (d held last : List ℕ) (i p : ℕ) (f : fair (holders d) ≡ true) (l
         looked-more w =
             let at = getD held i 0 in
             let same : getD (set last r (at + 1)) r 0 ≡ at + 1 = getD-set-same last r (at + 1) 0 (omega arith) in
-            let other : (o : ℕ) → (o ≡ r → ⊥) → getD (set last r (at + 1)) o 0 ≡ getD last o 0 = λ o z. getD-set-other last r o (at + 1) 0 z in
+            let other : (o : ℕ) → (o ≡ r → ⊥)
+            → getD (set last r (at + 1)) o 0 ≡ getD last o 0 = λ o z. getD-set-other last r o (at + 1) 0 z in
             record {
               left = rw (add-one i) (next .rest);
               fit = fit-next;
@@ -221,4 +231,5 @@ module _ (d held last : List ℕ) (i p : ℕ) (f : fair (holders d) ≡ true) (l
 
 -- where no place is held there is nothing to look at
 pub nothing-held : (d : List ℕ) → fair (holders d) ≡ true → length (heldPlaces 0 (holders d)) ≡ 0 → true ≡ placesFit d
-nothing-held d f e = looked-end d (heldPlaces 0 (holders d)) (replicate 8 0) 0 0 f (looked-none d (heldPlaces 0 (holders d)) refl) (omega arith)
+nothing-held d f e = looked-end d (heldPlaces 0 (holders d)) (replicate 8 0) 0 0 f (looked-none d (heldPlaces 0 (holders d)) refl)
+    (omega arith)

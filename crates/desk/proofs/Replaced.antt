@@ -9,6 +9,7 @@ use lib.ListN.{length, getD, set, length-set}
 use lib.Seq.{ext-getD, getD-set-same, getD-set-other, set-getD}
 use lib.Dec.{eqb}
 use borrow.Author.Tests.{ne-eqb}
+use Rattle.word.specs.Limits.{placeCount}
 use Rattle.word.specs.Lists.{splice}
 use Rattle.word.specs.Runs.{apart}
 use Rattle.word.proofs.Cases.{by-test, by-eq, by-lt, and-left, and-right}
@@ -19,15 +20,17 @@ use Rattle.map.specs.Map.{mapOf, none}
 use Rattle.rooms.specs.Rooms.{Fair}
 use Rattle.lists.specs.HowChain.{chain}
 use Rattle.lists.specs.Obey.{tablesObey}
-use Rattle.lists.specs.Load.{wordsIn, coreTables}
+use Rattle.lists.specs.Load.{listWords, wordsIn, coreTables}
 use Rattle.lists.specs.declared.Given.{Given}
 use Rattle.stage.specs.Stage.{numbersOf, stageOf}
 use Rattle.stage.specs.Ranges.{stageFits}
 use Rattle.stage.specs.declared.Stage.{Stage}
 use Rattle.stage.proofs.Back.{stage-back, stage-length}
 use Rattle.layout.specs.declared.Place.{Place}
-use Rattle.layout.specs.Layout.{deskWords, coreLength, mapNumbers, base, placeIn, holderOf, ownOf, stageIn, listsIn, holders}
-use Rattle.layout.proofs.Places.{holder-at, length-holders, getD-holders, place-length, written-length, place-written, place-kept, map-kept, core-kept}
+use Rattle.layout.specs.Layout.{stageAt, placeWords, deskWords, coreLength, mapNumbers, base, placeIn, holderOf, ownOf, stageIn}
+use Rattle.layout.specs.Layout.{listsIn, holders}
+use Rattle.layout.proofs.Places.{holder-at, length-holders, getD-holders, place-length, written-length, place-written, place-kept}
+use Rattle.layout.proofs.Places.{map-kept, core-kept}
 use Rattle.desk.specs.Sound.{areaIn, countsFit, loadFits, heldFits, placeFits, areasApart, sound, ownIn, givenIn, listsHeld}
 use Rattle.desk.proofs.Facts.{sound-says, sound-long, free-fits}
 
@@ -42,7 +45,7 @@ pub record Replaced (d : List ℕ) (p : ℕ) (l e : List ℕ) : Type 0 where
 pub replaced-none : (d : List ℕ) (p : ℕ) → length d ≡ deskWords → Replaced d p (placeIn d p) d
 replaced-none d p h = record { long = h; core = refl; map-same = refl; here = refl; others = λ q n. refl }
 
-pub replaced-more : (d : List ℕ) (p : ℕ) (l e : List ℕ) (o : ℕ) (vs : List ℕ) → p < 12 → o + length vs ≤ 303
+pub replaced-more : (d : List ℕ) (p : ℕ) (l e : List ℕ) (o : ℕ) (vs : List ℕ) → p < placeCount → o + length vs ≤ placeWords
     → Replaced d p l e → Replaced d p (splice l o vs) (splice e (base p + o) vs)
 replaced-more d p l e o vs h k w = record {
   long = written-length e (w .long) p h o vs k;
@@ -52,18 +55,21 @@ replaced-more d p l e o vs h k w = record {
   others = λ q n. place-kept e (w .long) p h o vs k q n ∙ w .others q n;
 }
 
-pub holders-replaced : (d : List ℕ) (p : ℕ) (l e : List ℕ) → p < 12 → Replaced d p l e → holders e ≡ set (holders d) p (holderOf l)
+pub holders-replaced : (d : List ℕ) (p : ℕ) (l e : List ℕ) → p < placeCount → Replaced d p l e
+    → holders e ≡ set (holders d) p (holderOf l)
 holders-replaced d p l e h w =
     ext-getD 0 _ _ (length-holders e ∙ sym (length-set (holders d) p (holderOf l) ∙ length-holders d))
-    (λ q g. let k : q < 12 = omega (arith, length-holders e) in
+    (λ q g. let k : q < placeCount = omega (arith, length-holders e) in
     getD-holders e q k ∙ holder-at e q ∙ by-eq q p
-    (λ y. rw y (ap (λ (m : List ℕ). getD m 0 0) (w .here) ∙ sym (getD-set-same (holders d) p (holderOf l) 0 (omega (arith, length-holders d)))))
+    (λ y. rw y (ap (λ (m : List ℕ). getD m 0 0) (w .here)
+    ∙ sym (getD-set-same (holders d) p (holderOf l) 0 (omega (arith, length-holders d)))))
     (λ y. ap (λ (m : List ℕ). getD m 0 0) (w .others q y)
     ∙ sym (getD-set-other (holders d) p q (holderOf l) 0 y ∙ getD-holders d q k ∙ holder-at d q)))
 
 -- ---- areas that share no word
 pub areas-by : (l k : List ℕ)
-    → apart (ownOf l .given .area .at .0) (ownOf l .given .area .size) (ownOf k .given .area .at .0) (ownOf k .given .area .size) ≡ true
+    → apart (ownOf l .given .area .at .0) (ownOf l .given .area .size) (ownOf k .given .area .at .0)
+    (ownOf k .given .area .size) ≡ true
     → areasApart l k ≡ true
 unfolding areasApart
 areas-by l k h = rw (h, or-true (eqb (holderOf k) 0), or-true (eqb (holderOf l) 0))
@@ -79,10 +85,10 @@ areas-turned l k q =
     rw (x, y) (says-apart (b .at .0) (b .size) (a .at .0) (a .size) .test (λ i s t u v. f i u v s t))))
 
 -- ---- a sound desk stays sound where the new numbers of one place are in order beside the others
-module _ (d : List ℕ) (s : sound d ≡ true) (p : ℕ) (in-p : p < 12) (l e : List ℕ) (w : Replaced d p l e)
+module _ (d : List ℕ) (s : sound d ≡ true) (p : ℕ) (in-p : p < placeCount) (l e : List ℕ) (w : Replaced d p l e)
     (fits : placeFits (mapOf (mapNumbers d)) l ≡ true)
-    (beside : (q : ℕ) → q < 12 → (q ≡ p → ⊥) → areasApart (placeIn d q) l ≡ true) where
-  each-fits : (q : ℕ) → q < 12 → placeFits (mapOf (mapNumbers d)) (placeIn e q) ≡ true
+    (beside : (q : ℕ) → q < placeCount → (q ≡ p → ⊥) → areasApart (placeIn d q) l ≡ true) where
+  each-fits : (q : ℕ) → q < placeCount → placeFits (mapOf (mapNumbers d)) (placeIn e q) ≡ true
   each-fits q h =
       by-eq q p (λ y. rw (y, w .here) fits)
       (λ y. rw (w .others q y) (sound-says d .fact s .place q h))
@@ -116,7 +122,7 @@ areas-as : (l k m : List ℕ) → ownOf l ≡ ownOf m → areasApart k l ≡ are
 unfolding areasApart
 areas-as l k m q = rw (own-holder l m q, q)
 
-pub same-own-sound : (d : List ℕ) (s : sound d ≡ true) (p : ℕ) (in-p : p < 12) (l e : List ℕ) → Replaced d p l e
+pub same-own-sound : (d : List ℕ) (s : sound d ≡ true) (p : ℕ) (in-p : p < placeCount) (l e : List ℕ) → Replaced d p l e
     → ownOf l ≡ ownIn d p → placeFits (mapOf (mapNumbers d)) l ≡ true → sound e ≡ true
 same-own-sound d s p in-p l e w own fits =
     let t = sound-says d .fact s in
@@ -128,11 +134,11 @@ same-own-sound d s p in-p l e w own fits =
     (rw (h, set-getD (holders d) p 0) (t .fair))
 
 -- ---- a place whose stage alone is written
-module _ (l : List ℕ) (long : length l ≡ 303) (s : Stage) where
+module _ (l : List ℕ) (long : length l ≡ placeWords) (s : Stage) where
   abbrev staged : List ℕ
-  staged = splice l 6 (numbersOf s)
+  staged = splice l stageAt (numbersOf s)
 
-  fits-in : 6 + length (numbersOf s) ≤ length l
+  fits-in : stageAt + length (numbersOf s) ≤ length l
   fits-in = omega (arith, stage-length s)
 
   staged-first : (i : ℕ) → i < 6 → getD staged i 0 ≡ getD l i 0
@@ -156,7 +162,7 @@ module _ (l : List ℕ) (long : length l ≡ 303) (s : Stage) where
 
   pub staged-lists : listsIn staged ≡ listsIn l
   unfolding listsIn
-  staged-lists = range-splice-after l 6 (numbersOf s) 15 288 (omega (arith, stage-length s)) fits-in
+  staged-lists = range-splice-after l 6 (numbersOf s) 15 listWords (omega (arith, stage-length s)) fits-in
 
   -- its lists are as they were, so the new stage is all that is asked
   staged-load : (g : Given) → loadFits g l ≡ true
@@ -199,9 +205,9 @@ module _ (l : List ℕ) (long : length l ≡ 303) (s : Stage) where
       rw (h, ne-eqb (holderOf l) 0 z) (staged-held (getD m (holderOf l - 1) none) g f))
 
 -- a sound desk stays sound where a stage in range is written
-pub stage-written-sound : (d : List ℕ) (p : ℕ) (s : Stage) → sound d ≡ true → p < 12
+pub stage-written-sound : (d : List ℕ) (p : ℕ) (s : Stage) → sound d ≡ true → p < placeCount
     → stageFits (givenIn d p .area) (coreTables (givenIn d p) (listsHeld d p)) (givenIn d p .io) s ≡ true
-    → sound (splice d (base p + 6) (numbersOf s)) ≡ true
+    → sound (splice d (base p + stageAt) (numbersOf s)) ≡ true
 stage-written-sound d p s q h f =
     let l = placeIn d p in
     let k = place-length d (sound-long d q) p h in

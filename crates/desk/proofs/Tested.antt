@@ -7,6 +7,7 @@ use native.Mathlib.Omega.{arith}
 use lib.ListN.{length, getD, drop}
 use borrow.Author.Tests.{leb-true}
 use lib.Dec.{leb}
+use Rattle.word.specs.Limits.{placeCount, coreMost}
 use Rattle.word.specs.Runs.{within, Says}
 use Rattle.word.specs.Lists.{every}
 use Rattle.word.specs.declared.Area.{Area}
@@ -22,12 +23,12 @@ use Rattle.lists.proofs.Sound.{order-sound}
 use Rattle.stage.specs.Ranges.{stageFits}
 use Rattle.map.specs.declared.Stretch.{Stretch}
 use Rattle.map.specs.Map.{mapOf}
-use Rattle.layout.specs.Layout.{mapNumbers, placeIn, places, stageIn, listsIn}
+use Rattle.layout.specs.Layout.{placeWords, mapNumbers, placeIn, places, stageIn, listsIn}
 use Rattle.layout.proofs.Places.{lists-length}
 use Rattle.desk.specs.Sound.{areaIn, countsFit, loadFits, placeFits, areasApart, SmallStretch, placesFit}
 
 -- an area in a small stretch ends in the numbers of a core
-pub area-small : (s : Stretch) (a : Area) → SmallStretch s → areaIn s a ≡ true → a .at .0 + a .size ≤ 65536
+pub area-small : (s : Stretch) (a : Area) → SmallStretch s → areaIn s a ≡ true → a .at .0 + a .size ≤ coreMost
 unfolding areaIn within
 area-small s a h q =
     let w = and-right (leb 1 (a .size)) _ q in
@@ -46,7 +47,8 @@ counts-small g q =
     )
 
 -- so the lists of a place can be read
-pub lists-readable : (g : Given) (l : List ℕ) → length l ≡ 303 → countsFit g ≡ true → g .area .at .0 + g .area .size ≤ 65536
+pub lists-readable : (g : Given) (l : List ℕ) → length l ≡ placeWords → countsFit g ≡ true
+    → g .area .at .0 + g .area .size ≤ coreMost
     → Readable g (listsIn l)
 lists-readable g l h q k =
     let n = counts-small g q in
@@ -67,22 +69,23 @@ pub places-length : (d : List ℕ) → length (places d) ≡ 12
 unfolding places
 places-length d = length-tab (placeIn d) 12
 
-pub places-at : (d : List ℕ) (p : ℕ) → p < 12 → getD (places d) p [] ≡ placeIn d p
+pub places-at : (d : List ℕ) (p : ℕ) → p < placeCount → getD (places d) p [] ≡ placeIn d p
 unfolding places
 places-at d p h = getD-tab (placeIn d) 12 p [] h
 
 -- a loop over the places: a turn, a test that fails, the end
 module _ (f : List ℕ → Bool) (d : List ℕ) (p : ℕ) (b : Bool) where
-  inside : p < 12 → p < length (places d)
+  inside : p < placeCount → p < length (places d)
   inside h = omega (arith, places-length d)
 
-  pub places-more : (l : List ℕ) → p < 12 → l ≡ placeIn d p → f l ≡ true → b ≡ every f (drop p (places d)) → b ≡ every f (drop (p + 1) (places d))
+  pub places-more : (l : List ℕ) → p < placeCount → l ≡ placeIn d p → f l ≡ true → b ≡ every f (drop p (places d))
+      → b ≡ every f (drop (p + 1) (places d))
   places-more l h e t = every-more f [] (places d) p b (inside h) (rw (places-at d p h, ← e) t)
 
-  pub places-fail : (l : List ℕ) → p < 12 → l ≡ placeIn d p → f l ≡ false → b ≡ every f (drop p (places d)) → false ≡ b
+  pub places-fail : (l : List ℕ) → p < placeCount → l ≡ placeIn d p → f l ≡ false → b ≡ every f (drop p (places d)) → false ≡ b
   places-fail l h e t = every-fails f [] (places d) p b (inside h) (rw (places-at d p h, ← e) t)
 
-  pub places-end : 12 ≤ p → b ≡ every f (drop p (places d)) → true ≡ b
+  pub places-end : placeCount ≤ p → b ≡ every f (drop p (places d)) → true ≡ b
   places-end h = every-ends f [] (places d) p b (omega (arith, places-length d))
 
 -- a test that says that it passes
@@ -91,12 +94,21 @@ says-self b = record { fact = λ h. h; test = λ h. h }
 
 -- the tests of each place and of each two, by the places' numbers
 pub places-say : (d : List ℕ) → Says (placesFit d)
-    (((p : ℕ) → p < 12 → placeFits (mapOf (mapNumbers d)) (placeIn d p) ≡ true) × ((p q : ℕ) → p < q → q < 12 → areasApart (placeIn d p) (placeIn d q) ≡ true))
+    (((p : ℕ) → p < placeCount → placeFits (mapOf (mapNumbers d)) (placeIn d p) ≡ true)
+    × ((p q : ℕ) → p < q → q < placeCount → areasApart (placeIn d p) (placeIn d q) ≡ true))
 places-say d =
     let m = mapOf (mapNumbers d) in
     let e = places-length d in
     says-as
     (says-and (says-each [] (placeFits m) (λ l. placeFits m l ≡ true) (λ l. says-self (placeFits m l)) (places d))
     (says-two [] areasApart (λ l k. areasApart l k ≡ true) (λ l k. says-self (areasApart l k)) (places d)))
-    (λ h. (λ p k. rw (places-at d p k) at (h .0 p (omega arith)), λ p q l k. rw (places-at d p (omega arith), places-at d q k) at (h .1 p q l (omega arith))))
-    (λ s. (λ p k. rw (places-at d p (omega arith)) (s .0 p (omega arith)), λ p q l k. rw (places-at d p (omega arith), places-at d q (omega arith)) (s .1 p q l (omega arith))))
+    (λ h. (
+      λ p k. rw (places-at d p k) at (h .0 p (omega arith)),
+      λ p q l k. rw (places-at d p (omega arith), places-at d q k) at
+          (h .1 p q l (omega arith)),
+    ))
+    (λ s. (
+      λ p k. rw (places-at d p (omega arith)) (s .0 p (omega arith)),
+      λ p q l k. rw
+          (places-at d p (omega arith), places-at d q (omega arith)) (s .1 p q l (omega arith)),
+    ))

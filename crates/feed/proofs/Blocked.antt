@@ -22,19 +22,23 @@ use Rattle.stage.specs.declared.Step.{Step}
 use Rattle.stage.specs.declared.Step.the-variants.{More, Done, Refused}
 use Rattle.stage.specs.Record.{recordDue}
 use Rattle.records.specs.Termination.{terminationStep}
-use Rattle.records.proofs.Fits.{label-fits, entry-fits, label-not-done, entry-not-done, label-fault, entry-fault, termination-fault, termination-not-more}
+use Rattle.records.proofs.Fits.{label-fits, entry-fits, label-not-done, entry-not-done, label-fault, entry-fault, termination-fault}
+use Rattle.records.proofs.Fits.{termination-not-more}
 use Rattle.lists.specs.Load.{Load}
 use Rattle.sections.specs.Program.{StepOutcome, programStep}
 use Rattle.sections.proofs.Turns.{InPlace}
-use Rattle.sections.proofs.Blocks.{program-fits, program-not-done, program-faults, program-length, program-area, program-same, program-words, program-alike}
+use Rattle.sections.proofs.Blocks.{program-fits, program-not-done, program-faults, program-length, program-area, program-same}
+use Rattle.sections.proofs.Blocks.{program-words, program-alike}
 use Rattle.group.proofs.Acts.{Alike}
 use Rattle.group.proofs.Stored.{StoredWords, stored-none}
 use Rattle.feed.specs.Block.{storesNothing, dueStep, blockStep}
 use Rattle.feed.proofs.Laws.{FitToFeed, Holds, BlockLaws}
 
--- a record whose block is read whole stores nothing; a program block is read word by word. P speaks of the outcome as a function of the core.
+-- a record whose block is read whole stores nothing; a program block is read word by word. P speaks of the outcome as a function of
+-- the core.
 module _ (x : Load) (block : List ℕ) (P : (List ℕ → StepOutcome) → Type 0) (none : (r : Step) → P (storesNothing r)) where
-  due-cases : (s : Stage) → ((c : LabelCounts) (due : Due) → s ≡ Program c due → P (programStep x c due block)) → P (dueStep x s block)
+  due-cases : (s : Stage) → ((c : LabelCounts) (due : Due) → s ≡ Program c due → P (programStep x c due block))
+      → P (dueStep x s block)
   unfolding dueStep
   due-cases Label k = none _
   due-cases (Entry c exact b) k = none _
@@ -43,18 +47,21 @@ module _ (x : Load) (block : List ℕ) (P : (List ℕ → StepOutcome) → Type 
   due-cases Complete k = none _
   due-cases Broken k = none _
 
-  block-cases : (s : Stage) → ((c : LabelCounts) (due : Due) → s ≡ Program c due → P (programStep x c due block)) → P (blockStep x s block)
+  block-cases : (s : Stage) → ((c : LabelCounts) (due : Due) → s ≡ Program c due → P (programStep x c due block))
+      → P (blockStep x s block)
   unfolding blockStep
   block-cases s k = by-record (ofRecord (recordDue s) block) (due-cases s k)
     where
-      by-record : (b : Bool) → P (dueStep x s block) → P (λ core. cond b (dueStep x s block core) (storesNothing (Refused (fault 13)) core))
+      by-record : (b : Bool) → P (dueStep x s block)
+          → P (λ core. cond b (dueStep x s block core) (storesNothing (Refused (fault 13)) core))
       by-record true h = h
       by-record false h = none (Refused (fault 13))
 
 -- ---- what it leads to
 module _ (x : Load) (block core : List ℕ) where
   -- 13 comes before the record's own rules
-  due-or-13 : (s : Stage) (P : Step → Type 0) → P (Refused (fault 13)) → P (dueStep x s block core .step) → P (blockStep x s block core .step)
+  due-or-13 : (s : Stage) (P : Step → Type 0) → P (Refused (fault 13)) → P (dueStep x s block core .step)
+      → P (blockStep x s block core .step)
   unfolding blockStep
   due-or-13 s P n k = by-record (ofRecord (recordDue s) block)
     where
@@ -62,7 +69,8 @@ module _ (x : Load) (block core : List ℕ) where
       by-record true = k
       by-record false = n
 
-  due-fits : (s t : Stage) → FitToFeed x s → dueStep x s block core .step ≡ More t → stageFits (x .area) (x .tables) (length (x .ios)) t ≡ true
+  due-fits : (s t : Stage) → FitToFeed x s → dueStep x s block core .step ≡ More t
+      → stageFits (x .area) (x .tables) (length (x .ios)) t ≡ true
   unfolding dueStep
   due-fits Label t f q = label-fits (x .area) (x .tables) (x .ios) block t q
   due-fits (Entry c exact b) t f q = entry-fits (x .area) (x .tables) (length (x .ios)) c exact b block t (f .stage) q
@@ -80,7 +88,8 @@ module _ (x : Load) (block core : List ℕ) where
   due-faults Complete f q = let z : _≡_ {A = ℕ} 0 1 = cc in absurd (omega arith)
   due-faults Broken f q = let z : _≡_ {A = ℕ} 0 1 = cc in absurd (omega arith)
 
-  termination-value : (i : Bank) (a : Absolute) → terminationStep (x .area) i block ≡ Done a → a ≡ absoluteOf (x .area) (startOf block)
+  termination-value : (i : Bank) (a : Absolute) → terminationStep (x .area) i block ≡ Done a
+      → a ≡ absoluteOf (x .area) (startOf block)
   unfolding terminationStep
   termination-value i a =
       when (λ (r : Step). r ≡ Done a → a ≡ absoluteOf (x .area) (startOf block)) (inBank i (startOf block)) (λ t q. cc)
@@ -95,24 +104,30 @@ module _ (x : Load) (block core : List ℕ) where
   due-starts Complete a q = let z : _≡_ {A = ℕ} 0 1 = cc in absurd (omega arith)
   due-starts Broken a q = let z : _≡_ {A = ℕ} 0 1 = cc in absurd (omega arith)
 
-standing : (x : Load) (s : Stage) (c : LabelCounts) (due : Due) (core : List ℕ) → s ≡ Program c due → FitToFeed x s → Holds x core → InPlace x (Program c due) core
+standing : (x : Load) (s : Stage) (c : LabelCounts) (due : Due) (core : List ℕ) → s ≡ Program c due → FitToFeed x s → Holds x core
+    → InPlace x (Program c due) core
 standing x s c due core e f h = record { inside = h; tables = f .tables; stage = rw e at (f .stage) }
 
 pub block-laws : BlockLaws
 block-laws = record {
-  fits = λ x s t block core f. due-or-13 x block core s (λ (r : Step). r ≡ More t → stageFits (x .area) (x .tables) (length (x .ios)) t ≡ true)
+  fits = λ x s t block core f. due-or-13 x block core s
+      (λ (r : Step). r ≡ More t → stageFits (x .area) (x .tables) (length (x .ios)) t ≡ true)
       (λ q. let z : _≡_ {A = ℕ} 0 1 = cc in absurd (omega arith)) (due-fits x block core s t f);
   faults = λ x s block core f. due-or-13 x block core s (λ (r : Step). r ≡ Refused f → (13 ≤ f .number) × (f .number ≤ 22))
       (λ q. let e : fault 13 ≡ f = cc in rw (← e) (omega arith, omega arith)) (due-faults x block core s f);
   long = λ x s block core f h. block-cases x block (λ (g : List ℕ → StepOutcome). length (g core .core) ≡ length core) (λ r. refl) s
       (λ c due e. program-length x block c due core (standing x s c due core e f h));
-  beside = λ x s block core f h j b. block-cases x block (λ (g : List ℕ → StepOutcome). getD (g core .core) j 0 ≡ getD core j 0) (λ r. refl) s
+  beside = λ x s block core f h j b. block-cases x block (λ (g : List ℕ → StepOutcome). getD (g core .core) j 0 ≡ getD core j 0)
+      (λ r. refl) s
       (λ c due e. program-area x block j b c due core (standing x s c due core e f h));
-  same-step = λ x s block core other f h k. block-cases x block (λ (g : List ℕ → StepOutcome). g core .step ≡ g other .step) (λ r. refl) s
+  same-step = λ x s block core other f h k. block-cases x block (λ (g : List ℕ → StepOutcome). g core .step ≡ g other .step)
+      (λ r. refl) s
       (λ c due e. program-same x block c due core other (standing x s c due core e f h) (standing x s c due other e f k));
-  same-words = λ x s block core other f h k a. block-cases x block (λ (g : List ℕ → StepOutcome). Alike (x .area) (g core .core) (g other .core)) (λ r. a) s
+  same-words = λ x s block core other f h k a. block-cases x block
+      (λ (g : List ℕ → StepOutcome). Alike (x .area) (g core .core) (g other .core)) (λ r. a) s
       (λ c due e. program-alike x block c due core other (standing x s c due core e f h) (standing x s c due other e f k) a);
-  words = λ x s block core f h w. block-cases x block (λ (g : List ℕ → StepOutcome). StoredWords core (g core .core)) (λ r. stored-none core) s
+  words = λ x s block core f h w. block-cases x block (λ (g : List ℕ → StepOutcome). StoredWords core (g core .core))
+      (λ r. stored-none core) s
       (λ c due e. program-words x block w c due core (standing x s c due core e f h));
   starts = λ x s block core a. due-or-13 x block core s (λ (r : Step). r ≡ Done a → a ≡ absoluteOf (x .area) (startOf block))
       (λ q. let z : _≡_ {A = ℕ} 0 1 = cc in absurd (omega arith)) (due-starts x block core s a);

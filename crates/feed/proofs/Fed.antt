@@ -1,4 +1,5 @@
--- Feed: the desk that it leaves is sound, the core keeps its length, and its answer is small; for any numbers, block, desk and core.
+-- Feed: the desk that it leaves is sound, the core keeps its length, and its answer is small; for any numbers, block, desk and
+-- core.
 use Prim.Native.Nat.{ℕ, _≤_, _<_, _^_}
 use mathlib.Core.Path.{_≡_, refl, ap, _∙_}
 use mathlib.Core.Bool.{true, false}
@@ -7,6 +8,7 @@ use native.Mathlib.Omega.{arith}
 use lib.ListN.{length, getD}
 use lib.Dec.{eqb}
 use borrow.Author.Tests.{eqb-true}
+use Rattle.word.specs.Limits.{wordsInBlock, placeCount, coreMost}
 use Rattle.word.specs.Lists.{every}
 use Rattle.word.specs.Fault.{fault}
 use Rattle.word.specs.Sorts.{absoluteOf}
@@ -50,11 +52,12 @@ use Rattle.feed.proofs.Wiped.{settled-same}
 use Rattle.feed.proofs.Held.{held-inside, held-fit, fit-waiting}
 
 -- a place that a room holds is one, and is held
-pub holds-place : (d : List ℕ) (r p : ℕ) → holds d r p ≡ true → (p < 12) × (holderIn d p ≡ 0 → ⊥)
+pub holds-place : (d : List ℕ) (r p : ℕ) → holds d r p ≡ true → (p < placeCount) × (holderIn d p ≡ 0 → ⊥)
 holds-place d r p q = (holds-inside d r p q, λ z. omega (arith, holds-holder d r p q))
 
 -- a block passes, whole and of words; or it meets 11 or 12
-pub verdict-cases : (r : Record) (block : List ℕ) (P : Verdict → Type 0) → (length block ≡ 256 → every isWord block ≡ true → P Pass)
+pub verdict-cases : (r : Record) (block : List ℕ) (P : Verdict → Type 0)
+    → (length block ≡ wordsInBlock → every isWord block ≡ true → P Pass)
     → P (refused-block (fault 11)) → P (refused-block (fault 12)) → P (verdict r block)
 unfolding verdict sealVerdict
 verdict-cases r block P pass eleven twelve =
@@ -65,14 +68,17 @@ verdict-cases r block P pass eleven twelve =
     (λ l. eleven)
 
 -- so one that passes is whole, and of words
-pub verdict-pass : (r : Record) (block : List ℕ) → verdict r block ≡ Pass → (length block ≡ 256) × (every isWord block ≡ true)
-verdict-pass r block = verdict-cases r block (λ v. v ≡ Pass → (length block ≡ 256) × (every isWord block ≡ true)) (λ l w q. (l, w))
+pub verdict-pass : (r : Record) (block : List ℕ) → verdict r block ≡ Pass → (length block ≡ wordsInBlock)
+    × (every isWord block ≡ true)
+verdict-pass r block = verdict-cases r block (λ v. v ≡ Pass → (length block ≡ wordsInBlock) × (every isWord block ≡ true))
+    (λ l w q. (l, w))
     (λ q. let z : _≡_ {A = ℕ} 0 1 = cc in absurd (omega arith))
     (λ q. let z : _≡_ {A = ℕ} 0 1 = cc in absurd (omega arith))
 
 -- ---- every outcome of feed is a refusal that changes nothing, or what a block leads to at a held place
 module _ (d core block : List ℕ) (r p : ℕ) (P : Outcome → Type 0) (none : (n : ℕ) → 1 ≤ n → n ≤ 12 → P (refused n d core))
-    (takes : sound d ≡ true → length core ≡ coreLength d → holds d r p ≡ true → isOver (stageIn (placeIn d p)) ≡ false → length block ≡ 256
+    (takes : sound d ≡ true → length core ≡ coreLength d → holds d r p ≡ true → isOver (stageIn (placeIn d p)) ≡ false
+    → length block ≡ wordsInBlock
     → every isWord block ≡ true → P (takenOf d core p (loadIn (placeIn d p)) (stageIn (placeIn d p)) block)) where
   pub feed-outcomes : P (feedOf d core r p block)
   unfolding feedOf heldOf checkedOf
@@ -81,15 +87,17 @@ module _ (d core block : List ℕ) (r p : ℕ) (P : Outcome → Type 0) (none : 
       (λ k. when P (holds d r p)
       (λ h. when P (isOver (stageIn (placeIn d p)))
       (λ o. none 10 (omega arith) (omega arith))
-      (λ o. verdict-cases (recordDue (stageIn (placeIn d p))) block (λ v. P (checkedOf d core (takenOf d core p (loadIn (placeIn d p)) (stageIn (placeIn d p)) block) v))
+      (λ o. verdict-cases (recordDue (stageIn (placeIn d p))) block
+      (λ v. P (checkedOf d core (takenOf d core p (loadIn (placeIn d p)) (stageIn (placeIn d p)) block) v))
       (λ l w. takes (k .desk) (k .core) h o l w)
       (none 11 (omega arith) (omega arith))
       (none 12 (omega arith) (omega arith))))
       (λ h. none 9 (omega arith) (omega arith)))
 
 -- a stage in range is written
-written-sound : (d : List ℕ) (p : ℕ) (t : Stage) → sound d ≡ true → p < 12
-    → stageFits (loadIn (placeIn d p) .area) (loadIn (placeIn d p) .tables) (length (loadIn (placeIn d p) .ios)) t ≡ true → sound (staged d p t) ≡ true
+written-sound : (d : List ℕ) (p : ℕ) (t : Stage) → sound d ≡ true → p < placeCount
+    → stageFits (loadIn (placeIn d p) .area) (loadIn (placeIn d p) .tables) (length (loadIn (placeIn d p) .ios)) t ≡ true
+    → sound (staged d p t) ≡ true
 unfolding staged loadIn
 written-sound d p t s h f = stage-written-sound d p t s h (rw (io-length (givenIn d p) (listsHeld d p)) at f)
 
@@ -105,7 +113,7 @@ settled-cases d core p area (step-done a) after P m e b = e a refl
 settled-cases d core p area (step-refused f) after P m e b = b f refl
 
 -- a start is an address in a core, or a little past it
-start-small : (area : Area) (block : List ℕ) → area .at .0 ≤ 65536 → absoluteOf area (startOf block) .0 < 2 ^ 32
+start-small : (area : Area) (block : List ℕ) → area .at .0 ≤ coreMost → absoluteOf area (startOf block) .0 < 2 ^ 32
 start-small area block h = omega (arith, part-below 0 16 (getD block 1 0))
 
 module _ (d core block : List ℕ) (r p : ℕ) where
@@ -116,38 +124,47 @@ module _ (d core block : List ℕ) (r p : ℕ) where
   due = stageIn (placeIn d p)
 
   module _ (P : Outcome → Type 0) (none : (n : ℕ) → 1 ≤ n → n ≤ 12 → P (refused n d core))
-      (more : (t : Stage) → sound d ≡ true → length core ≡ coreLength d → holds d r p ≡ true → blockStep load due block core .step ≡ step-more t
+      (more : (t : Stage) → sound d ≡ true → length core ≡ coreLength d → holds d r p ≡ true
+      → blockStep load due block core .step ≡ step-more t
       → P (record { answer = More; desk = staged d p t; core = blockStep load due block core .core }))
-      (done : (a : Absolute) → sound d ≡ true → length core ≡ coreLength d → holds d r p ≡ true → blockStep load due block core .step ≡ step-done a
+      (done : (a : Absolute) → sound d ≡ true → length core ≡ coreLength d → holds d r p ≡ true
+      → blockStep load due block core .step ≡ step-done a
       → P (record { answer = Done a; desk = staged d p Complete; core = blockStep load due block core .core }))
-      (bad : (f : Fault) → sound d ≡ true → length core ≡ coreLength d → holds d r p ≡ true → blockStep load due block core .step ≡ step-refused f
+      (bad : (f : Fault) → sound d ≡ true → length core ≡ coreLength d → holds d r p ≡ true
+      → blockStep load due block core .step ≡ step-refused f
       → P (record { answer = Refused f; desk = staged d p Broken; core = wiped (load .area) core })) where
     pub feed-cases : P (feedOf d core r p block)
     unfolding takenOf
     feed-cases = feed-outcomes d core block r p P none
-        (λ s e h o l w. settled-cases d core p (load .area) (blockStep load due block core .step) (blockStep load due block core .core) P
+        (λ s e h o l w. settled-cases d core p (load .area) (blockStep load due block core .step)
+        (blockStep load due block core .core) P
         (λ t q. more t s e h q) (λ a q. done a s e h q) (λ f q. bad f s e h q))
 
   -- the desk stays sound
   pub feed-sound : sound d ≡ true → sound (feedOf d core r p block .desk) ≡ true
   feed-sound s = feed-cases (λ (o : Outcome). sound (o .desk) ≡ true) (λ n k h. s)
-      (λ t _ e h q. let k = holds-place d r p h in written-sound d p t s (k .0) (block-laws .fits load due t block core (held-fit d s p (k .0) (k .1)) q))
+      (λ t _ e h q. let k = holds-place d r p h in written-sound d p t s (k .0)
+      (block-laws .fits load due t block core (held-fit d s p (k .0) (k .1)) q))
       (λ a _ e h q. written-sound d p Complete s (holds-place d r p h .0) (unfold stageFits in refl))
       (λ f _ e h q. written-sound d p Broken s (holds-place d r p h .0) (unfold stageFits in refl))
 
   -- the core keeps its length
   pub feed-long : length (feedOf d core r p block .core) ≡ length core
   feed-long = feed-cases (λ (o : Outcome). length (o .core) ≡ length core) (λ n k h. refl)
-      (λ t s e h q. let k = holds-place d r p h in block-laws .long load due block core (held-fit d s p (k .0) (k .1)) (rw e (held-inside d s p (k .0) (k .1))))
-      (λ a s e h q. let k = holds-place d r p h in block-laws .long load due block core (held-fit d s p (k .0) (k .1)) (rw e (held-inside d s p (k .0) (k .1))))
-      (λ f s e h q. let k = holds-place d r p h in length-cleared core (load .area .at .0) (load .area .size) (rw e (held-inside d s p (k .0) (k .1))))
+      (λ t s e h q. let k = holds-place d r p h in block-laws .long load due block core (held-fit d s p (k .0) (k .1))
+      (rw e (held-inside d s p (k .0) (k .1))))
+      (λ a s e h q. let k = holds-place d r p h in block-laws .long load due block core (held-fit d s p (k .0) (k .1))
+      (rw e (held-inside d s p (k .0) (k .1))))
+      (λ f s e h q. let k = holds-place d r p h in length-cleared core (load .area .at .0) (load .area .size)
+      (rw e (held-inside d s p (k .0) (k .1))))
 
   -- the answer fits into one number
   pub feed-small : Small (feedOf d core r p block .answer)
   feed-small = feed-cases (λ (o : Outcome). Small (o .answer)) (λ n k h. omega arith)
       (λ t s e h q. tt)
       (λ a s e h q. let k = holds-place d r p h in
-      rw (block-laws .starts load due block core a q) (start-small (load .area) block (omega (arith, held-inside d s p (k .0) (k .1), core-small d s))))
+      rw (block-laws .starts load due block core a q)
+      (start-small (load .area) block (omega (arith, held-inside d s p (k .0) (k .1), core-small d s))))
       (λ f s e h q. omega (arith, block-laws .faults load due block core f q))
 
 -- a block that is taken, from what its step told and left

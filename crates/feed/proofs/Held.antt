@@ -4,6 +4,7 @@ use mathlib.Core.Path.{_≡_}
 use mathlib.Core.Bool.{true}
 use mathlib.Core.List.{List}
 use lib.ListN.{length}
+use Rattle.word.specs.Limits.{wordsInBlock, placeCount}
 use Rattle.word.specs.Lists.{every}
 use Rattle.word.specs.Word.{isWord}
 use Rattle.word.proofs.Cases.{and-left}
@@ -22,7 +23,7 @@ use Rattle.feed.proofs.Laws.{FitToFeed}
 pub fit-waiting : (x : Load) (s : Stage) (block core : List ℕ) → Waits x s block core → FitToFeed x s
 fit-waiting x s block core w = record { tables = w .tables; stage = w .stage }
 
-module _ (d : List ℕ) (s : sound d ≡ true) (p : ℕ) (h : p < 12) (z : holderIn d p ≡ 0 → ⊥) where
+module _ (d : List ℕ) (s : sound d ≡ true) (p : ℕ) (h : p < placeCount) (z : holderIn d p ≡ 0 → ⊥) where
   facts : HeldFacts d p
   facts = held-facts d s p h z
 
@@ -41,7 +42,7 @@ module _ (d : List ℕ) (s : sound d ≡ true) (p : ℕ) (h : p < 12) (z : holde
   }
 
   -- and so does its whole block
-  pub held-waits : (block core : List ℕ) → length core ≡ coreLength d → length block ≡ 256 → every isWord block ≡ true
+  pub held-waits : (block core : List ℕ) → length core ≡ coreLength d → length block ≡ wordsInBlock → every isWord block ≡ true
       → Waits (loadIn (placeIn d p)) (stageIn (placeIn d p)) block core
   held-waits block core e l w = record {
     inside = rw e held-inside;
@@ -54,6 +55,7 @@ module _ (d : List ℕ) (s : sound d ≡ true) (p : ℕ) (h : p < 12) (z : holde
     words = w;
   }
 
-  pub held-kept-waits : (block core : List ℕ) → length core ≡ coreLength d → length block ≡ 256 → every isWord block ≡ true
+  pub held-kept-waits : (block core : List ℕ) → length core ≡ coreLength d → length block ≡ wordsInBlock → every isWord block ≡ true
       → KeptWaits (givenIn d p) (listsHeld d p) (stageIn (placeIn d p)) block core
-  held-kept-waits block core e l w = record { lists = held-readable d s p h z; waits = unfold loadIn in (held-waits block core e l w) }
+  held-kept-waits block core e l w =
+      record { lists = held-readable d s p h z; waits = unfold loadIn in (held-waits block core e l w) }

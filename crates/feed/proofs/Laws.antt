@@ -34,12 +34,14 @@ pub record BlockLaws : Type 0 where
       → stageFits (x .area) (x .tables) (length (x .ios)) t ≡ true
   pub faults : (x : Load) (s : Stage) (block core : List ℕ) (f : Fault) → blockStep x s block core .step ≡ Refused f
       → (13 ≤ f .number) × (f .number ≤ 22)
-  pub long : (x : Load) (s : Stage) (block core : List ℕ) → FitToFeed x s → Holds x core → length (blockStep x s block core .core) ≡ length core
+  pub long : (x : Load) (s : Stage) (block core : List ℕ) → FitToFeed x s → Holds x core
+      → length (blockStep x s block core .core) ≡ length core
   pub beside : (x : Load) (s : Stage) (block core : List ℕ) → FitToFeed x s → Holds x core
       → (j : ℕ) → Beside j (x .area .at .0) (x .area .size) → getD (blockStep x s block core .core) j 0 ≡ getD core j 0
   pub same-step : (x : Load) (s : Stage) (block core other : List ℕ) → FitToFeed x s → Holds x core → Holds x other
       → blockStep x s block core .step ≡ blockStep x s block other .step
-  pub same-words : (x : Load) (s : Stage) (block core other : List ℕ) → FitToFeed x s → Holds x core → Holds x other → Alike (x .area) core other
+  pub same-words : (x : Load) (s : Stage) (block core other : List ℕ) → FitToFeed x s → Holds x core → Holds x other
+      → Alike (x .area) core other
       → Alike (x .area) (blockStep x s block core .core) (blockStep x s block other .core)
   -- what is stored is words below 2^36, where the block's are
   pub words : (x : Load) (s : Stage) (block core : List ℕ) → FitToFeed x s → Holds x core → every isWord block ≡ true

@@ -22,7 +22,8 @@ use Rattle.sections.specs.Program.{StepMeets}
 use Rattle.feed.specs.Block.{dueStep}
 
 -- no block number wraps when it is counted on
-pub entry-block-small : (x : Load) (c : LabelCounts) (exact : Bool) (b : ℕ) (block core : List ℕ) → Waits x (Entry c exact b) block core → b < 65536
+pub entry-block-small : (x : Load) (c : LabelCounts) (exact : Bool) (b : ℕ) (block core : List ℕ)
+    → Waits x (Entry c exact b) block core → b < 65536
 unfolding stageFits
 entry-block-small x c exact b block core w =
     let q = ltb-true b _ (and-right (labelCountsFit (length (x .ios)) (length (x .tables)) c) _ (w .stage)) in

@@ -36,8 +36,10 @@ wiped-same core after a n h e b =
     (λ w. getD-cleared-beside after a n j (omega arith) (inr w) ∙ b j (inr w) ∙ sym (getD-cleared-beside core a n j h (inr w)))))
 
 -- so what a step leads to is the same, whether the core before the block or after it is wiped
-pub settled-same : (d core after : List ℕ) (p : ℕ) (area : Area) (r : Step) → area .at .0 + area .size ≤ length core → length after ≡ length core
-    → ((j : ℕ) → Beside j (area .at .0) (area .size) → getD after j 0 ≡ getD core j 0) → settledOf d after p area r after ≡ settledOf d core p area r after
+pub settled-same : (d core after : List ℕ) (p : ℕ) (area : Area) (r : Step) → area .at .0 + area .size ≤ length core
+    → length after ≡ length core
+    → ((j : ℕ) → Beside j (area .at .0) (area .size) → getD after j 0 ≡ getD core j 0)
+    → settledOf d after p area r after ≡ settledOf d core p area r after
 unfolding settledOf
 settled-same d core after p area (More s) h e b = refl
 settled-same d core after p area (Done a) h e b = refl

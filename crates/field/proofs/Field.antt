@@ -25,14 +25,17 @@ use Rattle.field.specs.declared.Becomes.{Becomes}
 use Rattle.field.specs.declared.Becomes.the-variants.{Value, Bad}
 use Rattle.field.specs.declared.Changed.{Changed}
 use Rattle.field.specs.declared.Changed.the-variants.{Word, Refused}
-use Rattle.field.specs.Field.{Assignments, valued, plusOrMinus, movedField, table, addressOrLength, referred, pair, minusZero, short, long, constant, switch, unit, reference, relative, becomes, changedLowest, changedWidth, putBack, fieldStep, Fits}
+use Rattle.field.specs.Field.{Assignments, valued, plusOrMinus, movedField, table, addressOrLength, referred, pair, minusZero}
+use Rattle.field.specs.Field.{short, long, constant, switch, unit, reference, relative, becomes, changedLowest, changedWidth}
+use Rattle.field.specs.Field.{putBack, fieldStep, Fits}
 
 -- ---- a table of the kept lists
 address-or-length-below : (sized : Bool) (t : Table) → (t .at .0 < 2 ^ 24) × (t .len < 2 ^ 20) → addressOrLength sized t < 2 ^ 24
 address-or-length-below sized t h = both (λ (n : ℕ). n < 2 ^ 24) sized (omega arith) (h .0)
 
 pub address-or-length-kept : (sized : Bool) (g : Given) (l : List ℕ) (k : Reference) (t : Table) → Readable g l → k .0 < g .tables
-    → t ≡ coreTable g l (k .0) → (addressOrLength sized t ≡ addressOrLength sized (table (coreTables g l) k)) × (addressOrLength sized t < 2 ^ 24)
+    → t ≡ coreTable g l (k .0) → (addressOrLength sized t ≡ addressOrLength sized (table (coreTables g l) k))
+    × (addressOrLength sized t < 2 ^ 24)
 unfolding table
 address-or-length-kept sized g l k t r h e =
     rw (e, core-at g l r (k .0) _ h)
@@ -148,7 +151,8 @@ switch-left a Right t w x v q g =
     let z : _≡_ {A = ℕ} 0 1 = cc in
     absurd (omega arith)
 
-across-kept : (h : Half) (t w v : ℕ) → (t ≡ 4 → h ≡ Left) → v < 2 ^ changedWidth t → fieldOf (across h) (put (changedLowest h t) (changedWidth t) w v) ≡ fieldOf (across h) w
+across-kept : (h : Half) (t w v : ℕ) → (t ≡ 4 → h ≡ Left) → v < 2 ^ changedWidth t
+    → fieldOf (across h) (put (changedLowest h t) (changedWidth t) w v) ≡ fieldOf (across h) w
 across-kept h t w v g = by-eq t 4
     (λ q. rw (q, g q) (λ f. omega arith))
     (λ n. rw (ne-eqb t 4 n) (across-stored h w v))
@@ -162,7 +166,9 @@ module _ (a : Assignments) (h : Half) (t w x u : ℕ) (e : fieldStep a h t w x �
   pub step-reads : becomes a h t w x ≡ Value (part (changedLowest h t) (changedWidth t) u)
   step-reads =
       let s = step-stored in
-      s .given ∙ ap Value (sym (ap (part (changedLowest h t) (changedWidth t)) (s .word) ∙ part-put (changedLowest h t) (changedWidth t) w (s .value) (s .fits)))
+      s .given ∙ ap Value (sym
+      (ap (part (changedLowest h t) (changedWidth t)) (s .word)
+      ∙ part-put (changedLowest h t) (changedWidth t) w (s .value) (s .fits)))
 
   -- a word stays a word
   pub step-word : w < 2 ^ 36 → u < 2 ^ 36

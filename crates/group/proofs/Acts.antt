@@ -21,7 +21,8 @@ use Rattle.field.specs.Field.{Assignments}
 use Rattle.group.specs.declared.GroupStep.{GroupStep}
 use Rattle.group.specs.declared.GroupStep.the-variants.{Done, Refused}
 use Rattle.group.specs.declared.Section.{Section}
-use Rattle.group.specs.Group.{Words, changedWords, programWords, indicatorBitsIn, wordsLie, groupFits, GroupOutcome, addressOf, refusedGroup, storedGroup, groupOutcome, readOutcome, groupStep, InArea}
+use Rattle.group.specs.Group.{Words, changedWords, programWords, indicatorBitsIn, wordsLie, groupFits, GroupOutcome}
+use Rattle.group.specs.Group.{addressOf, refusedGroup, storedGroup, groupOutcome, readOutcome, groupStep, InArea}
 use Rattle.group.specs.Group.Words.{Become, Refuse}
 use Rattle.group.proofs.Group.{untouched, group-fits}
 use Rattle.group.proofs.Places.{words-lie}
@@ -38,7 +39,8 @@ pub record Acts (area : Area) (f : List ℕ → GroupOutcome) : Type 0 where
   pub left : (core : List ℕ) → f core .core ≡ splice core to words
 
 module _ (area : Area) where
-  choose : (b : Bool) (f g : List ℕ → GroupOutcome) → (b ≡ true → Acts area f) → Acts area g → Acts area (λ core. cond b (f core) (g core))
+  choose : (b : Bool) (f g : List ℕ → GroupOutcome) → (b ≡ true → Acts area f) → Acts area g
+      → Acts area (λ core. cond b (f core) (g core))
   choose true f g p q = p refl
   choose false f g p q = q
 
@@ -71,7 +73,8 @@ module _ (area : Area) where
         }))
         (λ q. rw q (untouched-acts f))
 
-    stored-acts : wordsLie section g ≡ true → (i n : ℕ) → n ≤ g .program → (r : Words) → Many n r → Acts area (λ core. storedGroup area section i g core r)
+    stored-acts : wordsLie section g ≡ true → (i n : ℕ) → n ≤ g .program → (r : Words) → Many n r
+        → Acts area (λ core. storedGroup area section i g core r)
     unfolding storedGroup
     stored-acts q i n few (Become vs) m =
         let l = words-lie area section g room q in
@@ -91,7 +94,9 @@ module _ (a : Assignments) (section : Section) (block : List ℕ) (i : ℕ) wher
   unfolding readOutcome groupOutcome
   read-acts room (Good g) =
       choose (a .area) (groupFits section block i g) _ _
-      (λ q. stored-acts (a .area) section g room (group-fits section block i g q .lies) i (length (programWords block i g)) (length-range-most block (i + 1) (g .program)) (changedWords a (indicatorBitsIn block i g) 0 (programWords block i g)) (changed-many a (indicatorBitsIn block i g) 0 (programWords block i g)))
+      (λ q. stored-acts (a .area) section g room (group-fits section block i g q .lies) i (length (programWords block i g))
+      (length-range-most block (i + 1) (g .program)) (changedWords a (indicatorBitsIn block i g) 0 (programWords block i g))
+      (changed-many a (indicatorBitsIn block i g) 0 (programWords block i g)))
       (refused-acts (a .area) section g room (fault 18))
   read-acts room (Bad f) = untouched-acts (a .area) f
 
@@ -104,7 +109,8 @@ abbrev pub Alike : Area → List ℕ → List ℕ → Type 0
 Alike area core core′ = (j : ℕ) → area .at .0 ≤ j → j < area .at .0 + area .size → getD core j 0 ≡ getD core′ j 0
 
 -- the same words written into both leave the same words in the area
-splice-alike : (area : Area) (core core′ : List ℕ) (to : ℕ) (vs : List ℕ) → to + length vs ≤ length core → to + length vs ≤ length core′
+splice-alike : (area : Area) (core core′ : List ℕ) (to : ℕ) (vs : List ℕ) → to + length vs ≤ length core
+    → to + length vs ≤ length core′
     → Alike area core core′ → Alike area (splice core to vs) (splice core′ to vs)
 splice-alike area core core′ to vs h h′ s j l k =
     by-lt j to
@@ -114,12 +120,15 @@ splice-alike area core core′ to vs h h′ s j l k =
     rw e at (getD-splice-in core to vs (j - to) (omega arith) h ∙ sym (getD-splice-in core′ to vs (j - to) (omega arith) h′)))
     (λ d. getD-splice-beside core to vs j h (inr d) ∙ s j l k ∙ sym (getD-splice-beside core′ to vs j h′ (inr d))))
 
-module _ (a : Assignments) (section : Section) (block : List ℕ) (i : ℕ) (room : InArea (a .area) section) (core core′ : List ℕ) where
+module _ (a : Assignments) (section : Section) (block : List ℕ) (i : ℕ) (room : InArea (a .area) section)
+    (core core′ : List ℕ) where
   pub group-same : groupStep a section block i core .answer ≡ groupStep a section block i core′ .answer
   group-same = let x = group-acts a section block i room in x .told core ∙ sym (x .told core′)
 
-  pub group-alike : a .area .at .0 + a .area .size ≤ length core → a .area .at .0 + a .area .size ≤ length core′ → Alike (a .area) core core′
+  pub group-alike : a .area .at .0 + a .area .size ≤ length core → a .area .at .0 + a .area .size ≤ length core′
+      → Alike (a .area) core core′
       → Alike (a .area) (groupStep a section block i core .core) (groupStep a section block i core′ .core)
   group-alike h h′ s =
       let x = group-acts a section block i room in
-      rw (x .left core, x .left core′) (splice-alike (a .area) core core′ (x .to) (x .words) (omega (arith, x .high)) (omega (arith, x .high)) s)
+      rw (x .left core, x .left core′)
+      (splice-alike (a .area) core core′ (x .to) (x .words) (omega (arith, x .high)) (omega (arith, x .high)) s)

@@ -83,7 +83,8 @@ module _ (a : Assignments) where
     unfolding halfOf pastField
     half-stays d q p = rw (← e, ← k, half-same h m w q, p)
 
-    pub half-changes : (t x : ℕ) (r : Changed) (s : WordChange) → sameIn m ≡ false → t ≡ typeIn m → x ≡ moreIn m → r ≡ fieldStep a h t w x
+    pub half-changes : (t x : ℕ) (r : Changed) (s : WordChange) → sameIn m ≡ false → t ≡ typeIn m → x ≡ moreIn m
+        → r ≡ fieldStep a h t w x
         → s ≡ onward r (λ v. Next v (pastOf c m)) → s ≡ halfOf a h w c
     unfolding halfOf pastField
     half-changes t x r s q i j p o = rw (← e, ← k, half-other h m w q, ← i, ← j, ← p) o
@@ -94,7 +95,8 @@ module _ (a : Assignments) where
   unfolding halfOf
   half-next h w c v d = given (halfStep a h (lookOf (c .ahead) (fieldOf h w)) w)
     where
-      given : (r : Changed) → onward r (λ u. Next u (pastField c (fieldOf h w))) ≡ Next v d → (r ≡ Word v) × (d ≡ pastField c (fieldOf h w))
+      given : (r : Changed) → onward r (λ u. Next u (pastField c (fieldOf h w))) ≡ Next v d → (r ≡ Word v)
+          × (d ≡ pastField c (fieldOf h w))
       given (Word u) q = (cc, cc)
       given (Refused f) q = let z : _≡_ {A = ℕ} 0 1 = cc in absurd (omega arith)
 
@@ -109,7 +111,12 @@ module _ (a : Assignments) where
       → bothOf a w c ≡ onward (wordStep a (bitsBefore block end n) (c .at) w) (λ v. Next v (pastWord c w))
   unfolding bothOf halfOf wordStep pastWord
   both-word block end n inside c w s =
-      rw (← field-past block end n inside c 13 f s, look-is block end n inside c 13 f s, look-is block end n inside d 0 (fieldOf Right w) (field-sees block end n c 13 f s))
+      rw (
+        ← field-past block end n inside c 13 f s,
+        look-is block end n inside c 13 f s,
+        look-is block end n inside d 0
+            (fieldOf Right w) (field-sees block end n c 13 f s),
+      )
       (given (halfStep a Left (lookOf (c .ahead) f) w) refl)
     where
       f : ℕ
@@ -120,16 +127,19 @@ module _ (a : Assignments) where
 
       given : (r : Changed) → halfStep a Left (lookOf (c .ahead) f) w ≡ r
           → thenRight a (onward r (λ v. Next v d))
-          ≡ onward (thenHalf r (halfStep a Right (lookOf (d .ahead) (fieldOf Right w)))) (λ v. Next v (pastField d (fieldOf Right w)))
+          ≡ onward (thenHalf r (halfStep a Right (lookOf (d .ahead) (fieldOf Right w))))
+          (λ v. Next v (pastField d (fieldOf Right w)))
       given (Word v) e = rw (half-across (lookOf (c .ahead) f) w v e)
       given (Refused x) e = refl
 
   -- ---- the bits 01000
-  moved-field : (w : ℕ) → halfStep a Right (Change 0) w ≡ putBack 0 16 w (valued (absoluteOf (a .area) (relative (fieldOf Right w)) .0))
+  moved-field : (w : ℕ)
+      → halfStep a Right (Change 0) w ≡ putBack 0 16 w (valued (absoluteOf (a .area) (relative (fieldOf Right w)) .0))
   unfolding halfStep fieldStep becomes movedField
   moved-field w = refl
 
-  moved-right : (w v : ℕ) (d : Cursor) → onward (putBack 0 16 w (valued v)) (λ u. Next u d) ≡ cond (ltb v 65536) (Next (fieldStored Right w v) d) (Stop (fault 21))
+  moved-right : (w v : ℕ) (d : Cursor)
+      → onward (putBack 0 16 w (valued v)) (λ u. Next u d) ≡ cond (ltb v 65536) (Next (fieldStored Right w v) d) (Stop (fault 21))
   unfolding putBack valued
   moved-right w v d = by-lt v 65536 (λ l. rw (lt-ltb v 65536 l)) (λ l. rw (le-ltb v 65536 l))
 
@@ -140,8 +150,11 @@ module _ (a : Assignments) where
       let i : c .at + 1 + 4 ≡ c .at + 5 = omega arith in
       let j : c .ahead * 2 % 18446744073709551616 * 16 % 18446744073709551616 ≡ c .ahead * 32 % 18446744073709551616 = omega arith in
       rw (look-same (c .ahead) (fieldOf Left w) e, look-moved (c .ahead) (fieldOf Right w) e, i, j)
-      (ap (λ (r : Changed). onward r (λ v. Next v (record { at = c .at + 5; ahead = c .ahead * 32 % 18446744073709551616; words = c .words; edge = c .edge }))) (moved-field w)
-      ∙ moved-right w (absoluteOf (a .area) (relative (fieldOf Right w)) .0) (record { at = c .at + 5; ahead = c .ahead * 32 % 18446744073709551616; words = c .words; edge = c .edge }))
+      (ap (λ (r : Changed). onward r
+      (λ v. Next v (record { at = c .at + 5; ahead = c .ahead * 32 % 18446744073709551616; words = c .words; edge = c .edge })))
+      (moved-field w)
+      ∙ moved-right w (absoluteOf (a .area) (relative (fieldOf Right w)) .0)
+      (record { at = c .at + 5; ahead = c .ahead * 32 % 18446744073709551616; words = c .words; edge = c .edge }))
 
   -- ---- the bits 00
   pub plain-both : (w : ℕ) (c : Cursor) → c .ahead < 4611686018427387904 → bothOf a w c ≡ Next w (pastTwo c)

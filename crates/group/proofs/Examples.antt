@@ -13,7 +13,8 @@ use Rattle.indicator.specs.Indicator.{bitsOf, indicatorBits, bitsBefore, number
 use Rattle.group.specs.declared.GroupStep.the-variants.{Done, Refused}
 use Rattle.group.specs.declared.Section.{Section}
 use Rattle.group.specs.declared.Section.the-variants.{Segment as InSegment, Table as InTable}
-use Rattle.group.specs.Group.{halfStep, wordStep, changedWords, wordsLie, indicatorsFit, groupFits, GroupOutcome, addressOf, refusedGroup, storedGroup, groupOutcome, readOutcome, groupStep}
+use Rattle.group.specs.Group.{halfStep, wordStep, changedWords, wordsLie, indicatorsFit, groupFits, GroupOutcome, addressOf}
+use Rattle.group.specs.Group.{refusedGroup, storedGroup, groupOutcome, readOutcome, groupStep}
 
 abbrev load : Assignments
 load = record {
@@ -51,7 +52,8 @@ zeros n = record { answer = Refused (fault n); core = 100 ∷ 101 ∷ 0 ∷ 103 
 abbrev untouched : ℕ → GroupOutcome
 untouched n = record { answer = Refused (fault n); core = 100 ∷ 101 ∷ 102 ∷ 103 ∷ 104 ∷ 105 ∷ 106 ∷ 107 ∷ [] }
 
--- the hand deck's program block: its group at word 5 has one program word, 7, whose indicators are a 0, and 1 000 for its right half
+-- the hand deck's program block: its group at word 5 has one program word, 7, whose indicators are a 0, and 1 000 for its right
+-- half
 abbrev deck : List ℕ
 deck =
     (0o502527242710 ∷ 0o000001000000 ∷ 0 ∷ 0 ∷ 0 ∷ 0o401001400000 ∷ 0o000000000007 ∷ 0o200000000000 ∷ [])
@@ -80,5 +82,7 @@ cases =
     ∷ []
 
 worked : map (λ (c : GroupOutcome × GroupOutcome). c .0) cases ≡ map (λ (c : GroupOutcome × GroupOutcome). c .1) cases
-unfolding groupStep readOutcome groupOutcome groupFits wordsLie indicatorsFit storedGroup refusedGroup addressOf changedWords wordStep halfStep groupOf within range splice cleared bitsBefore indicatorBits flatMap bitsOf numberAt indicatorAt afterField afterWord afterAll fieldStep putBack becomes movedField valued
+unfolding groupStep readOutcome groupOutcome groupFits wordsLie indicatorsFit storedGroup refusedGroup addressOf changedWords
+    wordStep halfStep groupOf within range splice cleared bitsBefore indicatorBits flatMap bitsOf numberAt indicatorAt afterField
+    afterWord afterAll fieldStep putBack becomes movedField valued
 worked = refl

@@ -24,14 +24,17 @@ use Rattle.field.specs.declared.Becomes.{Becomes}
 use Rattle.field.specs.declared.Becomes.the-variants.{Value, Bad}
 use Rattle.field.specs.declared.Changed.{Changed}
 use Rattle.field.specs.declared.Changed.the-variants.{Word, Refused as RefusedWord}
-use Rattle.field.specs.Field.{Assignments, relative, reference, addressOrLength, table, valued, plusOrMinus, movedField, referred, pair, minusZero, short, long, constant, switch, unit, becomes, changedLowest, changedWidth, putBack, fieldStep}
+use Rattle.field.specs.Field.{Assignments, relative, reference, addressOrLength, table, valued, plusOrMinus, movedField, referred}
+use Rattle.field.specs.Field.{pair, minusZero, short, long, constant, switch, unit, becomes, changedLowest, changedWidth, putBack}
+use Rattle.field.specs.Field.{fieldStep}
 use Rattle.indicator.specs.declared.Indicator.{Indicator}
 use Rattle.indicator.specs.declared.Indicator.the-variants.{Same, Change, Long}
 use Rattle.indicator.specs.Indicator.{indicatorAt, afterField, afterWord}
 use Rattle.group.specs.declared.GroupStep.{GroupStep}
 use Rattle.group.specs.declared.GroupStep.the-variants.{Done, Refused}
 use Rattle.group.specs.declared.Section.{Section}
-use Rattle.group.specs.Group.{halfStep, thenHalf, wordStep, Words, thenWords, changedWords, programWords, indicatorBitsIn, groupFits, GroupOutcome, refusedGroup, storedGroup, groupOutcome, readOutcome, groupStep}
+use Rattle.group.specs.Group.{halfStep, thenHalf, wordStep, Words, thenWords, changedWords, programWords, indicatorBitsIn}
+use Rattle.group.specs.Group.{groupFits, GroupOutcome, refusedGroup, storedGroup, groupOutcome, readOutcome, groupStep}
 use Rattle.group.specs.Group.Words.{Become, Refuse}
 
 -- the numbers of the table of refusals from m to n
@@ -62,7 +65,8 @@ valued-fault v = both ofField (ltb v 65536) tt (omega arith, omega arith)
 plus-fault : (minus : Bool) (base amount : ℕ) → ofField (plusOrMinus minus base amount)
 unfolding plusOrMinus
 plus-fault minus base amount =
-    both ofField minus (both ofField (leb amount base) (valued-fault (base - amount)) (omega arith, omega arith)) (valued-fault (base + amount))
+    both ofField minus (both ofField (leb amount base) (valued-fault (base - amount)) (omega arith, omega arith))
+    (valued-fault (base + amount))
 
 moved-fault : (area : Area) (r : Relative) → ofField (movedField area r)
 unfolding movedField
@@ -72,7 +76,8 @@ module _ (ts : List Table) where
   referred-fault : (sized : Bool) (k : Reference) (minus : Bool) (amount : ℕ) → ofField (referred ts sized k minus amount)
   unfolding referred
   referred-fault sized k minus amount =
-      both ofField (ltb (k .0) (length ts)) (plus-fault minus (addressOrLength sized (table ts k)) amount) (omega arith, omega arith)
+      both ofField (ltb (k .0) (length ts)) (plus-fault minus (addressOrLength sized (table ts k)) amount)
+      (omega arith, omega arith)
 
   pair-fault : (f : ℕ) → ofField (pair ts f)
   unfolding pair
@@ -144,7 +149,8 @@ module _ (a : Assignments) where
   word-fault : (bits : List ℕ) (p w : ℕ) → ofWord (wordStep a bits p w)
   unfolding wordStep
   word-fault bits p w =
-      then-half (halfStep a Left (indicatorAt bits p (fieldOf Left w)) w) _ (half-fault Left (indicatorAt bits p (fieldOf Left w)) w)
+      then-half (halfStep a Left (indicatorAt bits p (fieldOf Left w)) w) _
+      (half-fault Left (indicatorAt bits p (fieldOf Left w)) w)
       (half-fault Right (indicatorAt bits (afterField bits p (fieldOf Left w)) (fieldOf Right w)))
 
   words-fault : (bits : List ℕ) (p : ℕ) (ws : List ℕ) → ofWords (changedWords a bits p ws)
@@ -173,13 +179,15 @@ module _ (a : Assignments) where
     read-fault : (w : ℕ) → ofRead (groupOf w)
     unfolding groupOf
     read-fault w =
-        both ofRead (eqb (part 34 2 w) 2) (both ofRead (eqb (part 18 8 w) 0) (omega arith, omega arith) tt) (omega arith, omega arith)
+        both ofRead (eqb (part 34 2 w) 2) (both ofRead (eqb (part 18 8 w) 0) (omega arith, omega arith) tt)
+        (omega arith, omega arith)
 
     outcome-fault : (r : GroupRead) → ofRead r → Answered (readOutcome a section block i core r)
     unfolding readOutcome groupOutcome
     outcome-fault (Good g) h =
         both Answered (groupFits section block i g)
-        (stored-fault g (changedWords a (indicatorBitsIn block i g) 0 (programWords block i g)) (words-fault (indicatorBitsIn block i g) 0 (programWords block i g)))
+        (stored-fault g (changedWords a (indicatorBitsIn block i g) 0 (programWords block i g))
+        (words-fault (indicatorBitsIn block i g) 0 (programWords block i g)))
         (refused-fault g (fault 18) (omega arith, omega arith))
     outcome-fault (no-group f) h = h
 

@@ -1,5 +1,5 @@
--- The loop over a group's program words, which are copied into the core and changed there: what is left to do after some steps is what
--- there was to do.
+-- The loop over a group's program words, which are copied into the core and changed there: what is left to do after some steps is
+-- what there was to do.
 use mathlib.Core.Path.{_≡_, refl, sym, ap, _∙_}
 use mathlib.Core.Logic.{⊎-elim}
 use mathlib.Core.List.{List, _∷_}
@@ -48,7 +48,8 @@ unfoldable pub onto : List ℕ → ℕ → Words → Words
 onto out k (Become vs) = Become (splice out k vs)
 onto out k (Refuse f) = Refuse f
 
-onto-first : (out : List ℕ) (k v : ℕ) (r : Words) → k < length out → onto out k (thenWords (Word v) r) ≡ onto (set out k v) (k + 1) r
+onto-first : (out : List ℕ) (k v : ℕ) (r : Words) → k < length out
+    → onto out k (thenWords (Word v) r) ≡ onto (set out k v) (k + 1) r
 unfolding onto
 onto-first out k v (Become vs) h = ap Become (splice-first out k v vs h)
 onto-first out k v (Refuse f) h = refl
@@ -63,7 +64,8 @@ unfolding range
 range-all l = let e : length l - 0 ≡ length l = omega arith in rw e (take-length l)
 
 -- two 0s leave a word as it is
-plain-step : (a : Assignments) (bits : List ℕ) (p w : ℕ) → getD bits p 0 ≡ 0 → getD bits (p + 1) 0 ≡ 0 → wordStep a bits p w ≡ Word w
+plain-step : (a : Assignments) (bits : List ℕ) (p w : ℕ) → getD bits p 0 ≡ 0 → getD bits (p + 1) 0 ≡ 0
+    → wordStep a bits p w ≡ Word w
 unfolding wordStep halfStep afterField indicatorAt
 plain-step a bits p w x y = rw (eq-eqb (getD bits p 0) 0 x, eq-eqb (getD bits (p + 1) 0) 0 y)
 
@@ -72,7 +74,8 @@ set-same : (out : List ℕ) (k w : ℕ) → getD out k 0 ≡ w → set out k w �
 set-same out k w e = rw (← e) (set-getD out k 0)
 
 -- words without change leave the core as it is
-pub unchanged-next : (a : Assignments) (given : List ℕ) (c : Cursor) (k : ℕ) (out : List ℕ) (m : NextWord) → c .ahead < 4611686018427387904
+pub unchanged-next : (a : Assignments) (given : List ℕ) (c : Cursor) (k : ℕ) (out : List ℕ) (m : NextWord)
+    → c .ahead < 4611686018427387904
     → getD out k 0 ≡ getD given k 0 → m ≡ unchangedStep c k (length given) → Steps (nextStep a given c k out) m out
 unfolding unchangedStep nextStep storedStep
 unchanged-next a given c k out m l s e =
@@ -111,10 +114,19 @@ module _ (a : Assignments) (block : List ℕ) (end n : ℕ) (given : List ℕ) w
       let y : k + suc r ≡ k + 1 + r = omega arith in
       let b = f q (omega arith) (omega arith) in
       let d = f (q + 1) (omega arith) (omega arith) in
-      let ih = plain-become out l r (q + 2) (k + 1) (omega arith) (λ j u. s j (omega arith)) (λ j u v. f j (omega arith) (omega arith)) in
+      let ih = plain-become out l r (q + 2) (k + 1) (omega arith) (λ j u. s j (omega arith))
+      (λ j u v. f j (omega arith) (omega arith)) in
       rw (x, y)
       (ih
-      ∙ sym (rw (range-turn given k (length given) (omega arith) (omega arith), plain-step a bits q w b d, after-zeros bits q w b d, onto-first out k w (changedWords a bits (q + 2) (rest (k + 1))) (omega arith), set-same out k w (s k (omega arith)))))
+      ∙ sym (rw (
+        range-turn given k (length given) (omega arith)
+            (omega arith),
+        plain-step a bits q w b d,
+        after-zeros bits q w b d,
+        onto-first out k w
+            (changedWords a bits (q + 2) (rest (k + 1))) (omega arith),
+        set-same out k w (s k (omega arith)),
+      )))
 
   -- word number k is next, with the cursor c
   pub record Reached (out : List ℕ) (c : Cursor) (k : ℕ) : Type 0 where
@@ -138,7 +150,8 @@ module _ (a : Assignments) (block : List ℕ) (end n : ℕ) (given : List ℕ) w
   }
 
   -- no word is left
-  pub none-left : (out : List ℕ) (k q : ℕ) → length given ≤ k → becomeFrom out k q ≡ changedWords a bits 0 given → afterAll bits q (rest k) ≡ afterAll bits 0 given
+  pub none-left : (out : List ℕ) (k q : ℕ) → length given ≤ k → becomeFrom out k q ≡ changedWords a bits 0 given
+      → afterAll bits q (rest k) ≡ afterAll bits 0 given
       → Changes a bits given (Bits q) out
   unfolding changedWords afterAll onto
   none-left out k q h b d =
@@ -153,11 +166,16 @@ module _ (a : Assignments) (block : List ℕ) (end n : ℕ) (given : List ℕ) w
     reached-end h = none-left out k (c .at) h (w .become) (w .ends)
 
     -- a field is refused: zeros are left
-    pub reached-stop : (f : Fault) → becomeFrom out k (c .at) ≡ Refuse f → (out′ : List ℕ) → out′ ≡ cleared out 0 (length given) → Changes a bits given (stop-group f) out′
+    pub reached-stop : (f : Fault) → becomeFrom out k (c .at) ≡ Refuse f → (out′ : List ℕ) → out′ ≡ cleared out 0 (length given)
+        → Changes a bits given (stop-group f) out′
     unfolding cleared
     reached-stop f e out′ z =
         let g = sym e ∙ w .become in
-        record { told = rw (← g); left = rw (← g) (z ∙ splice-whole out (replicate (length given) 0) (length-replicate (length given) 0 ∙ sym (w .long))) }
+        record {
+          told = rw (← g);
+          left = rw (← g)
+              (z ∙ splice-whole out (replicate (length given) 0) (length-replicate (length given) 0 ∙ sym (w .long)));
+        }
 
   -- ---- a step
   module _ (inside : InBlock block end n) (out : List ℕ) (c : Cursor) (k : ℕ) (w : Reached out c k) (h : k < length given) where
@@ -183,7 +201,8 @@ module _ (a : Assignments) (block : List ℕ) (end n : ℕ) (given : List ℕ) w
         }
 
     module _ (s : Sees block end n c 26) where
-      step-is : (r : WordChange) → bothOf a (getD given k 0) c ≡ r → onward (wordStep a bits (c .at) (getD given k 0)) (λ v. Next v (pastWord c (getD given k 0))) ≡ r
+      step-is : (r : WordChange) → bothOf a (getD given k 0) c ≡ r
+          → onward (wordStep a bits (c .at) (getD given k 0)) (λ v. Next v (pastWord c (getD given k 0))) ≡ r
       step-is r e = sym (both-word a block end n inside c (getD given k 0) s) ∙ e
 
       -- one word
@@ -199,7 +218,8 @@ module _ (a : Assignments) (block : List ℕ) (end n : ℕ) (given : List ℕ) w
             sees = rw (o .1) (word-sees block end n c x s);
             long = length-set out k v ∙ w .long;
             same = λ j g. getD-set-other out k j v 0 (omega arith) ∙ w .same j (omega arith);
-            become = rw q (sym (onto-first out k v (changedWords a bits (afterWord bits (c .at) x) (rest (k + 1))) top) ∙ sym (rw (turned, o .0)) ∙ w .become);
+            become = rw q (sym (onto-first out k v (changedWords a bits (afterWord bits (c .at) x) (rest (k + 1))) top)
+                ∙ sym (rw (turned, o .0)) ∙ w .become);
             ends = rw q (sym (rw turned) ∙ w .ends);
           }
 
@@ -210,7 +230,8 @@ module _ (a : Assignments) (block : List ℕ) (end n : ℕ) (given : List ℕ) w
           rw (turned, o)
 
       -- r words without change
-      reached-plain : (r : ℕ) → k + r ≤ length given → c .ahead ≡ 0 → c .at + 2 * r ≤ 36 * c .words → Reached out (pastPlain c r) (k + r)
+      reached-plain : (r : ℕ) → k + r ≤ length given → c .ahead ≡ 0 → c .at + 2 * r ≤ 36 * c .words
+          → Reached out (pastPlain c r) (k + r)
       reached-plain r g z l =
           let f = plain-bits block end n inside c s r z l in
           record {
@@ -264,10 +285,12 @@ module _ (a : Assignments) (block : List ℕ) (end n : ℕ) (given : List ℕ) w
         step-goes d j g =
             let r = plainWords c (length given - k) in
             rw (e .left)
-            (when Goes (eqb r 0) (λ u. one-goes (bothOf a (getD given k 0) c) refl) (λ u. plain-goes r (plain-words c (length given - k)) (eqb-false r 0 u)) d j (sym (e .told) ∙ g))
+            (when Goes (eqb r 0) (λ u. one-goes (bothOf a (getD given k 0) c) refl)
+            (λ u. plain-goes r (plain-words c (length given - k)) (eqb-false r 0 u)) d j (sym (e .told) ∙ g))
 
         pub step-stops : (f : Fault) → m ≡ stop-words f → (out′ ≡ out) × (becomeFrom out k (c .at) ≡ Refuse f)
         unfolding nextStep
         step-stops f g =
             let r = plainWords c (length given - k) in
-            rw (e .left) (when Stops (eqb r 0) (λ u. one-stops (bothOf a (getD given k 0) c) refl) (λ u. plain-stops r) f (sym (e .told) ∙ g))
+            rw (e .left) (when Stops (eqb r 0) (λ u. one-stops (bothOf a (getD given k 0) c) refl) (λ u. plain-stops r) f
+            (sym (e .told) ∙ g))

@@ -32,7 +32,8 @@ in-either : (area : Area) (b : Bool) (x y : Bank) → x .at .0 + x .count ≤ ar
 in-either area true x y h k = h
 in-either area false x y h k = k
 
-pub words-lie : (area : Area) (section : Section) (g : Group) → InArea area section → wordsLie section g ≡ true → Lies area g (addressOf area section g)
+pub words-lie : (area : Area) (section : Section) (g : Group) → InArea area section → wordsLie section g ≡ true
+    → Lies area g (addressOf area section g)
 unfolding wordsLie addressOf
 words-lie area (InSegment segment) g r q =
     let bank = cond (g .ibank) (segment .ibank) (segment .dbank) in
@@ -40,7 +41,8 @@ words-lie area (InSegment segment) g r q =
     let k = in-either area (g .ibank) (segment .ibank) (segment .dbank) (r .0) (r .1) in
     record { low = omega arith; high = omega (arith, f, k) }
 words-lie area (InTable t count) g r q =
-    let f = says-within (g .at .0) (g .program) 0 count .fact (and-right (not (g .ibank)) (within (g .at .0) (g .program) 0 count) q) in
+    let f = says-within (g .at .0) (g .program) 0 count .fact
+    (and-right (not (g .ibank)) (within (g .at .0) (g .program) 0 count) q) in
     record { low = omega (arith, r .0); high = omega (arith, f, r .1, r .2) }
 
 -- a group that was read has numbers of as many bits as its identifier has for them

@@ -58,7 +58,8 @@ module _ (a : Assignments) where
     pub word-below : (p w : ℕ) → isWord w ≡ true → Below (wordStep a bits p w)
     unfolding wordStep
     word-below p w b =
-        then-below (halfStep a Left (indicatorAt bits p (fieldOf Left w)) w) _ (half-below Left (indicatorAt bits p (fieldOf Left w)) w b)
+        then-below (halfStep a Left (indicatorAt bits p (fieldOf Left w)) w) _
+        (half-below Left (indicatorAt bits p (fieldOf Left w)) w b)
         (λ v k. half-below Right (indicatorAt bits (afterField bits p (fieldOf Left w)) (fieldOf Right w)) v k)
 
     pub changed-many : (p : ℕ) (ws : List ℕ) → Many (length ws) (changedWords a bits p ws)
@@ -70,4 +71,5 @@ module _ (a : Assignments) where
     unfolding changedWords every
     changed-below p [] b = refl
     changed-below p (w ∷ ws) b =
-        then-all (wordStep a bits p w) _ (word-below p w (every-head isWord w ws b)) (changed-below (afterWord bits p w) ws (every-tail isWord w ws b))
+        then-all (wordStep a bits p w) _ (word-below p w (every-head isWord w ws b))
+        (changed-below (afterWord bits p w) ws (every-tail isWord w ws b))

@@ -51,7 +51,11 @@ label-read-whole = refl
 
 -- an IBANK of one word at relative 0, no DBANK
 pub segment-read-whole : segmentOf (getD deckProgram 1 0) (getD deckProgram 2 0)
-    ≡ segment-read (record { ibank = record { at = record { 0 = 0 }; count = 1 }; dbank = record { at = record { 0 = 0 }; count = 0 } })
+    ≡ segment-read (record {
+      ibank = record { at = record { 0 = 0 }; count = 1 };
+      dbank =
+          record { at = record { 0 = 0 }; count = 0 };
+    })
 unfolding deckProgram withWords blank segmentOf bankOf
 segment-read-whole = refl
 

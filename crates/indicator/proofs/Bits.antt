@@ -69,7 +69,8 @@ unfolding indicatorBits
 length-indicatorBits words = length-flat (reverse words) ∙ ap (λ (m : ℕ). 36 * m) (length-reverse words)
 
 -- the n words before place `end`, the last one first
-last-first : (block : List ℕ) (end n i : ℕ) → InBlock block end n → i < n → getD (reverse (range block (end - n) n)) i 0 ≡ getD block (end - 1 - i) 0
+last-first : (block : List ℕ) (end n i : ℕ) → InBlock block end n → i < n
+    → getD (reverse (range block (end - n) n)) i 0 ≡ getD block (end - 1 - i) 0
 last-first block end n i h l =
     let ws = range block (end - n) n in
     let m = length-range block (end - n) n (omega arith) in
@@ -80,7 +81,8 @@ last-first block end n i h l =
 
 module _ (block : List ℕ) (end n k : ℕ) where
   -- bit k is in the word k / 36 places before the last, 35 - k % 36 bits up
-  pub bits-at : InBlock block end n → k / 36 < n → getD (bitsBefore block end n) k 0 ≡ bit (35 - k % 36) (getD block (end - 1 - k / 36) 0)
+  pub bits-at : InBlock block end n → k / 36 < n
+      → getD (bitsBefore block end n) k 0 ≡ bit (35 - k % 36) (getD block (end - 1 - k / 36) 0)
   unfolding bitsBefore indicatorBits
   bits-at h l =
       flat-at (reverse (range block (end - n) n)) k
@@ -105,6 +107,7 @@ number-below block end m p zero = omega arith
 number-below block end m p (suc n) = omega (arith, number-below block end m p n, bit-below block end m (p + n))
 
 -- so one bit more still fits a number of 64 bits
-pub number-fits : (block : List ℕ) (end m p n : ℕ) → n < 64 → 2 * numberAt (bitsBefore block end m) p n + getD (bitsBefore block end m) (p + n) 0 < 2 ^ 64
+pub number-fits : (block : List ℕ) (end m p n : ℕ) → n < 64
+    → 2 * numberAt (bitsBefore block end m) p n + getD (bitsBefore block end m) (p + n) 0 < 2 ^ 64
 unfolding numberAt
 number-fits block end m p n h = lt-of-lt-of-le (number-below block end m p (suc n)) (pow-mono h)

@@ -10,7 +10,8 @@ use Rattle.word.specs.Word.{fieldOf}
 use Rattle.word.specs.Lists.{range}
 use Rattle.indicator.specs.declared.Indicator.{Indicator}
 use Rattle.indicator.specs.declared.Indicator.the-variants.{Same, Change, Long}
-use Rattle.indicator.specs.Indicator.{bitsOf, indicatorBits, bitsBefore, numberAt, indicatorAt, afterField, afterWord, afterAll, justEnough}
+use Rattle.indicator.specs.Indicator.{bitsOf, indicatorBits, bitsBefore, numberAt, indicatorAt, afterField, afterWord}
+use Rattle.indicator.specs.Indicator.{afterAll, justEnough}
 
 -- the indicators of program words, in turn
 unfoldable indicators : List ℕ → ℕ → List ℕ → List Indicator

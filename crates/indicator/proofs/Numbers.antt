@@ -106,7 +106,8 @@ module _ (block : List ℕ) (end : ℕ) where
         let w = getD block (end - 1 - m) 0 in
         let i : end - 1 - (36 * m + k) / 36 ≡ end - 1 - m = omega arith in
         let j : 35 - (36 * m + k) % 36 ≡ 35 - k = omega arith in
-        let g : getD (bitsBefore block end (m + 1)) (36 * m + k) 0 ≡ w / 2 ^ (35 - k) % 2 = bits-at block end (m + 1) (36 * m + k) inside (omega arith) ∙ rw (i, j) in
+        let g : getD (bitsBefore block end (m + 1)) (36 * m + k) 0 ≡ w / 2 ^ (35 - k) % 2 = bits-at block end (m + 1)
+        (36 * m + k) inside (omega arith) ∙ rw (i, j) in
         let half : w / 2 ^ (35 - k) / 2 ≡ w / 2 ^ (36 - k) = shr-shr w (35 - k) 1 ∙ ap (λ (x : ℕ). w / 2 ^ x) (exp-up k h) in
         let cut = mod-pow-add (w / 2 ^ (35 - k)) k 1 in
         rw (g, ih, exp-down k h, sym (one-more k), cut, sym half) (twice (w / 2 ^ (35 - k) / 2 % 2 ^ k) (w / 2 ^ (35 - k) % 2))
@@ -115,7 +116,8 @@ module _ (block : List ℕ) (end : ℕ) where
     number-word = word-bits 36 (omega arith) ∙ omega arith
 
     -- one word more, behind the h bits that are left of m words
-    pub number-more : (at h s : ℕ) → at + h ≡ 36 * m → h + s ≡ 28 → N m at 64 + getD block (end - 1 - m) 0 % 2 ^ 36 * 2 ^ s ≡ N (m + 1) at 64
+    pub number-more : (at h s : ℕ) → at + h ≡ 36 * m → h + s ≡ 28
+        → N m at 64 + getD block (end - 1 - m) 0 % 2 ^ 36 * 2 ^ s ≡ N (m + 1) at 64
     number-more at h s e q =
         let z : 64 ≡ h + (36 + s) = omega arith in
         let a = number-split m at h (36 + s) in

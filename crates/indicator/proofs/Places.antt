@@ -30,7 +30,8 @@ after-word-most bits p w =
 -- a turn of a loop over the words from place i up to place last takes one word's indicators; at the end the place stays
 module _ (bits : List ℕ) (p : ℕ) (block : List ℕ) (i last : ℕ) where
   pub after-all-turn : i < last → last ≤ length block
-      → afterAll bits p (range block i (last - i)) ≡ afterAll bits (afterWord bits p (getD block i 0)) (range block (i + 1) (last - (i + 1)))
+      → afterAll bits p (range block i (last - i)) ≡ afterAll bits (afterWord bits p (getD block i 0))
+      (range block (i + 1) (last - (i + 1)))
   unfolding afterAll
   after-all-turn h k = rw (range-turn block i last h k)
 

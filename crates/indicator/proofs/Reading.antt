@@ -41,7 +41,14 @@ edge-all n m l = rw (le-leb n m l)
 module _ (block : List ℕ) (end n : ℕ) where
   pub start-sees : Sees block end n (startCursor n) 0
   start-sees =
-      record { few = omega arith; seen = sym (number-past block end 0 0 64 (omega arith)); near = omega arith; edge = refl; room = λ h. omega arith }
+      record {
+        few = omega arith;
+        seen = sym
+            (number-past block end 0 0 64 (omega arith));
+        near = omega arith;
+        edge = refl;
+        room = λ h. omega arith;
+      }
 
   -- past an indicator
   pub past-sees : (c : Cursor) (d : ℕ) (m : Indicator) → Sees block end n c (13 + d) → Sees block end n (pastOf c m) d
@@ -64,28 +71,34 @@ module _ (block : List ℕ) (end n : ℕ) where
 
   module _ (inside : InBlock block end n) where
     -- the bits at hand are the group's
-    same-number : (c : Cursor) (d p k : ℕ) → Sees block end n c d → p + k ≤ c .at + d → N block end (c .words) p k ≡ N block end n p k
+    same-number : (c : Cursor) (d p k : ℕ) → Sees block end n c d → p + k ≤ c .at + d
+        → N block end (c .words) p k ≡ N block end n p k
     same-number c d p k s l =
         ⊎-elim (λ e. ap (λ (x : ℕ). N block end x p k) e)
         (λ g. number-fewer block end n inside (c .words) p k (s .few) (omega (arith, s .room g)))
         (eq-or-lt-of-le (s .few))
 
     -- what the cursor shows next is the indicator at its place
-    pub look-is : (c : Cursor) (d f : ℕ) → Sees block end n c (13 + d) → indicatorAt (bitsBefore block end n) (c .at) f ≡ lookOf (c .ahead) f
+    pub look-is : (c : Cursor) (d f : ℕ) → Sees block end n c (13 + d)
+        → indicatorAt (bitsBefore block end n) (c .at) f ≡ lookOf (c .ahead) f
     unfolding indicatorAt lookOf
     look-is c d f s =
         let m = c .words in
         let at = c .at in
-        let b = sym (number-one block end n at) ∙ sym (same-number c (13 + d) at 1 s (omega arith)) ∙ sym (number-high block end m at 1 63) in
-        let t = sym (same-number c (13 + d) (at + 1) 3 s (omega arith)) ∙ sym (number-low block end m at 1 3) ∙ ap (λ (x : ℕ). x % 8) (sym (number-high block end m at 4 60)) in
-        let x = sym (same-number c (13 + d) (at + 4) 9 s (omega arith)) ∙ sym (number-low block end m at 4 9) ∙ ap (λ (x : ℕ). x % 512) (sym (number-high block end m at 13 51)) in
+        let b = sym (number-one block end n at) ∙ sym (same-number c (13 + d) at 1 s (omega arith))
+        ∙ sym (number-high block end m at 1 63) in
+        let t = sym (same-number c (13 + d) (at + 1) 3 s (omega arith)) ∙ sym (number-low block end m at 1 3)
+        ∙ ap (λ (x : ℕ). x % 8) (sym (number-high block end m at 4 60)) in
+        let x = sym (same-number c (13 + d) (at + 4) 9 s (omega arith)) ∙ sym (number-low block end m at 4 9)
+        ∙ ap (λ (x : ℕ). x % 512) (sym (number-high block end m at 13 51)) in
         rw (t, x, s .seen)
         (by-lt (N block end m at 64) (2 ^ 63)
         (λ l. rw (lt-ltb (N block end m at 64) (2 ^ 63) l, eq-eqb (getD (bitsBefore block end n) at 0) 0 (omega (arith, b))))
         (λ g.
         rw (le-ltb (N block end m at 64) (2 ^ 63) g, ne-eqb (getD (bitsBefore block end n) at 0) 0 (λ e. omega (arith, b)))))
 
-    pub field-past : (c : Cursor) (d f : ℕ) → Sees block end n c (13 + d) → pastField c f .at ≡ afterField (bitsBefore block end n) (c .at) f
+    pub field-past : (c : Cursor) (d f : ℕ) → Sees block end n c (13 + d)
+        → pastField c f .at ≡ afterField (bitsBefore block end n) (c .at) f
     unfolding pastField pastOf afterField
     field-past c d f s = rw (look-is c d f s)
 
@@ -97,15 +110,22 @@ module _ (block : List ℕ) (end n : ℕ) where
 
     -- one indicator word more
     pub refill-number : (c : Cursor) → Sees block end n c 0 → c .words < n → 36 * c .words ≤ c .at + 28
-        → c .ahead + getD block (end - 1 - c .words) 0 % 2 ^ 36 * 2 ^ (c .at + 28 - 36 * c .words) % 2 ^ 64 ≡ N block end (c .words + 1) (c .at) 64
+        → c .ahead + getD block (end - 1 - c .words) 0 % 2 ^ 36 * 2 ^ (c .at + 28 - 36 * c .words) % 2 ^ 64 ≡ N block end
+        (c .words + 1) (c .at) 64
     refill-number c s l h =
         let r = s .room l in
         let i : InBlock block end (c .words + 1) = record { first = omega arith; last = inside .last } in
-        rw (shl-exact 36 (c .at + 28 - 36 * c .words) 64 (mod-lt (getD block (end - 1 - c .words) 0) (pow-pos 36)) (omega arith), s .seen)
-        (number-more block end (c .words) i (c .at) (36 * c .words - c .at) (c .at + 28 - 36 * c .words) (omega arith) (omega arith))
+        rw (
+          shl-exact 36 (c .at + 28 - 36 * c .words) 64 (mod-lt (getD block (end - 1 - c .words) 0) (pow-pos 36))
+              (omega arith),
+          s .seen,
+        )
+        (number-more block end (c .words) i (c .at) (36 * c .words - c .at) (c .at + 28 - 36 * c .words) (omega arith)
+        (omega arith))
 
     -- from the edge on the bits at hand do not reach 29 places on, and there is a word more
-    pub edge-wants : (c : Cursor) → Sees block end n c 0 → c .at + 28 < never → c .edge ≤ c .at → (c .words < n) × (36 * c .words ≤ c .at + 28)
+    pub edge-wants : (c : Cursor) → Sees block end n c 0 → c .at + 28 < never → c .edge ≤ c .at → (c .words < n)
+        × (36 * c .words ≤ c .at + 28)
     edge-wants c s h g =
         by-lt (c .words) n
         (λ l. let e = s .edge ∙ edge-some n (c .words) l in (l, omega arith))
@@ -116,11 +136,25 @@ module _ (block : List ℕ) (end n : ℕ) where
     unfolding refilled
     refill-sees c s k =
         when (λ (x : Cursor). Sees block end n x 26) (ltb (c .at) (c .edge))
-        (λ r. record { few = s .few; seen = s .seen; near = s .near; edge = s .edge; room = λ h. let g = ltb-true (c .at) (c .edge) r in let e = s .edge ∙ edge-some n (c .words) h in omega arith })
+        (λ r. record {
+          few = s .few;
+          seen = s .seen;
+          near = s .near;
+          edge = s .edge;
+          room = λ h. let g = ltb-true (c .at)
+              (c .edge) r in let e = s .edge ∙ edge-some n (c .words) h in omega arith;
+        })
         (λ r.
         let g = edge-wants c s k (ltb-false (c .at) (c .edge) r) in
         let e = s .room (g .0) in
-        record { few = omega arith; seen = refill-number c s (g .0) (g .1); near = omega arith; edge = refl; room = λ h. omega arith })
+        record {
+          few = omega arith;
+          seen = refill-number c s (g .0)
+              (g .1);
+          near = omega arith;
+          edge = refl;
+          room = λ h. omega arith;
+        })
 
 pub refill-at : (block : List ℕ) (end n : ℕ) (c : Cursor) → refilled block end n c .at ≡ c .at
 unfolding refilled

@@ -62,14 +62,16 @@ after-all-plain bits block (suc r) p i last h k f =
     let g = after-zeros bits p (getD block i 0) (f p (omega arith) (omega arith)) (f (p + 1) (omega arith) (omega arith)) in
     rw (a, b)
     (after-all-plain bits block r (p + 2) (i + 1) last (omega arith) k (λ q l u. f q (omega arith) (omega arith))
-    ∙ sym (after-all-turn bits p block i last (omega arith) k ∙ ap (λ (q : ℕ). afterAll bits q (range block (i + 1) (last - (i + 1)))) g))
+    ∙ sym (after-all-turn bits p block i last (omega arith) k
+    ∙ ap (λ (q : ℕ). afterAll bits q (range block (i + 1) (last - (i + 1)))) g))
 
 -- what a turn from place i with the cursor c leaves
 pub record Turned (block : List ℕ) (end n last : ℕ) (c : Cursor) (i : ℕ) (t : Turn) : Type 0 where
   pub sees : Sees block end n (t .cursor) 0
   pub on : i < t .i
   pub reach : t .cursor .at + 26 * (last - t .i) ≤ c .at + 26 * (last - i)
-  pub left : afterAll (bitsBefore block end n) (t .cursor .at) (range block (t .i) (last - t .i)) ≡ afterAll (bitsBefore block end n) (c .at) (range block i (last - i))
+  pub left : afterAll (bitsBefore block end n) (t .cursor .at) (range block (t .i) (last - t .i)) ≡ afterAll
+      (bitsBefore block end n) (c .at) (range block i (last - i))
 
 module _ (block : List ℕ) (end n : ℕ) (inside : InBlock block end n) (c : Cursor) (s : Sees block end n c 26) where
   -- where the bits at hand are all 0, so is every bit from there on of the words taken
@@ -77,7 +79,8 @@ module _ (block : List ℕ) (end n : ℕ) (inside : InBlock block end n) (c : Cu
   all-zero z p l =
       let e : c .at + (p - c .at) ≡ p = omega arith in
       by-lt (p - c .at) 64
-      (λ b. sym (ap (λ (x : ℕ). getD (bitsBefore block end (c .words)) x 0) e) ∙ zero-bits block end (c .words) (c .at) 64 (p - c .at) (sym (s .seen) ∙ z) b)
+      (λ b. sym (ap (λ (x : ℕ). getD (bitsBefore block end (c .words)) x 0) e)
+      ∙ zero-bits block end (c .words) (c .at) 64 (p - c .at) (sym (s .seen) ∙ z) b)
       (λ g. bits-past block end (c .words) p (omega (arith, s .near)))
 
   -- r words without change: the bits there are 0s, and the cursor sees on
@@ -111,7 +114,8 @@ module _ (block : List ℕ) (end n : ℕ) (inside : InBlock block end n) (c : Cu
           sees = word-sees block end n c w s;
           on = omega arith;
           reach = omega (arith, past-word-most c w);
-          left = ap (λ (p : ℕ). afterAll (bitsBefore block end n) p (range block (i + 1) (last - (i + 1)))) (word-past block end n inside c w s)
+          left = ap (λ (p : ℕ). afterAll (bitsBefore block end n) p (range block (i + 1) (last - (i + 1))))
+              (word-past block end n inside c w s)
               ∙ sym (after-all-turn (bitsBefore block end n) (c .at) block i last h k);
         }
 
@@ -128,7 +132,8 @@ module _ (block : List ℕ) (end n : ℕ) (inside : InBlock block end n) (c : Cu
         (e .none))
 
 -- a turn that takes an indicator word first, where bits are wanting
-pub turn-refilled : (block : List ℕ) (end n : ℕ) → InBlock block end n → (c : Cursor) → Sees block end n c 0 → c .at + 28 < never → (last i : ℕ) → i < last → last ≤ length block
+pub turn-refilled : (block : List ℕ) (end n : ℕ) → InBlock block end n → (c : Cursor) → Sees block end n c 0 → c .at + 28 < never
+    → (last i : ℕ) → i < last → last ≤ length block
     → Turned block end n last c i (turnOf block last (refilled block end n c) i)
 turn-refilled block end n inside c s b last i h k =
     let t = turn-turned block end n inside (refilled block end n c) (refill-sees block end n inside c s b) last i h k in

@@ -70,7 +70,8 @@ spelled-append s [] ds = refl
 spelled-append s (c ∷ cs) ds = spelled-append (nextSpelling s c) cs ds
 
 -- the loop over the characters of a word, of which n are left
-pub spelled-more : (s : Spelling) (w n : ℕ) (t r : Spelling) → 0 < n → t ≡ nextSpelling s (part (6 * (n - 1)) 6 w) → r ≡ spelled s (characters n w)
+pub spelled-more : (s : Spelling) (w n : ℕ) (t r : Spelling) → 0 < n → t ≡ nextSpelling s (part (6 * (n - 1)) 6 w)
+    → r ≡ spelled s (characters n w)
     → r ≡ spelled t (characters (n - 1) w)
 unfolding spelled characters
 spelled-more s w zero t r h e q = absurd (omega arith)

@@ -5,13 +5,15 @@ use mathlib.Core.Bool.{true}
 use mathlib.Core.List.{List, _++_}
 use native.Mathlib.Omega.{arith}
 use lib.ListN.{length, take, drop}
+use Rattle.word.specs.Limits.{coreMost}
 use Rattle.word.specs.declared.Area.{Area}
 use Rattle.word.specs.Lists.{range, splice}
 use Rattle.word.proofs.Lists.{length-splice, length-range, range-splice-same, range-splice-before, range-splice-inner, splice-lent}
 use Rattle.lists.specs.HowKeep.{numbersKept, wordsKept, ranksKept}
 use Rattle.lists.specs.HowKept.{numbersIn, tablesIn}
 use Rattle.lists.specs.Obey.{tablesOf, listsObey}
-use Rattle.lists.specs.Load.{Load, loadOf, givenBy, keptLists, iosIn, wordsIn, ranksIn, coreTables, ioNumbers, ioWords, wordsPlace, ranksPlace, listWords, ReadsBack, Keepable}
+use Rattle.lists.specs.Load.{Load, loadOf, givenBy, keptLists, iosIn, wordsIn, ranksIn, coreTables, ioNumbers, ioWords}
+use Rattle.lists.specs.Load.{wordsPlace, ranksPlace, listWords, ReadsBack, Keepable}
 use Rattle.lists.proofs.Keep.{lists-obey, numbers-copied-back, tables-copied-back}
 use Rattle.lists.proofs.Numbers.{numbers-kept-length}
 use Rattle.lists.proofs.Ranks.{words-few, ranks-length}
@@ -21,7 +23,8 @@ pub lent-start : (l vs ws : List ℕ) (n : ℕ) → ws ≡ splice l 0 vs → n �
 unfolding range
 lent-start l vs ws n e k h = rw (e, k) (range-splice-same l 0 vs (omega arith))
 
-module _ (area : Area) (ios tables l : List ℕ) (small : area .at .0 + area .size ≤ 65536) (obey : listsObey area ios tables ≡ true)
+module _ (area : Area) (ios tables l : List ℕ) (small : area .at .0 + area .size ≤ coreMost)
+    (obey : listsObey area ios tables ≡ true)
     (long : length l ≡ listWords) where
   abbrev numbers : List ℕ
   numbers = numbersKept ios
@@ -67,7 +70,8 @@ module _ (area : Area) (ios tables l : List ℕ) (small : area .at .0 + area .si
   kept-numbers : iosIn (keptLists ios tables l) ≡ splice (range l 0 ioWords) 0 numbers
   unfolding keptLists iosIn
   kept-numbers =
-      range-splice-before (splice (splice l 0 numbers) wordsPlace ws) ranksPlace rs 0 ioWords (omega arith) (omega (arith, ranks-most, long-2))
+      range-splice-before (splice (splice l 0 numbers) wordsPlace ws) ranksPlace rs 0 ioWords (omega arith)
+      (omega (arith, ranks-most, long-2))
       ∙ range-splice-before (splice l 0 numbers) wordsPlace ws 0 ioWords (omega arith) (omega (arith, words-most, long-1))
       ∙ range-splice-inner l 0 ioWords 0 numbers (omega arith) (omega (arith, numbers-few))
 
@@ -82,7 +86,8 @@ module _ (area : Area) (ios tables l : List ℕ) (small : area .at .0 + area .si
 
   -- the three parts as the code writes them
   pub lists-written : (e f w k n : List ℕ) → w ≡ ws → n ≡ numbers → e ≡ splice l 0 n → f ≡ splice e wordsPlace w
-      → k ≡ splice (take 128 (drop ranksPlace f)) 0 rs → take ranksPlace f ++ (k ++ drop 128 (drop ranksPlace f)) ≡ keptLists ios tables l
+      → k ≡ splice (take 128 (drop ranksPlace f)) 0 rs
+      → take ranksPlace f ++ (k ++ drop 128 (drop ranksPlace f)) ≡ keptLists ios tables l
   unfolding keptLists
   lists-written e f w k n cw cn ce cf ck =
       let h : f ≡ splice (splice l 0 numbers) wordsPlace ws = cf ∙ rw (ce, cn, cw) in

@@ -35,7 +35,8 @@ clear-sym : (w v : ℕ) → clear w v ≡ clear v w
 unfolding clear
 clear-sym w v = same-test _ _ (apart-sym (tableOf w) (tableOf v)) (apart-sym (tableOf v) (tableOf w))
 
-chain-clear : (w end last : ℕ) (l : List ℕ) → addressIn w + lengthIn w ≤ end → chainFrom end last l ≡ true → every (clear w) l ≡ true
+chain-clear : (w end last : ℕ) (l : List ℕ) → addressIn w + lengthIn w ≤ end → chainFrom end last l ≡ true
+    → every (clear w) l ≡ true
 unfolding chainFrom every clear tableOf
 chain-clear w end last [] h q = refl
 chain-clear w end last (v ∷ l) h q =
@@ -60,7 +61,8 @@ unfolding lies
 says-lies end last w = says-and (says-and (says-lt _ _) (says-lt _ _)) (says-and (says-le _ _) (says-le _ _))
 
 -- after the word w, words that are not less and share none with it lie from its end on
-next-lies : (end last w : ℕ) (l : List ℕ) → 0 < lengthIn w → every (leb w) l ≡ true → every (clear w) l ≡ true → every (lies end last) l ≡ true
+next-lies : (end last w : ℕ) (l : List ℕ) → 0 < lengthIn w → every (leb w) l ≡ true → every (clear w) l ≡ true
+    → every (lies end last) l ≡ true
     → every (lies (addressIn w + lengthIn w) last) l ≡ true
 unfolding every clear tableOf
 next-lies end last w [] f r c t = refl
@@ -71,7 +73,8 @@ next-lies end last w (v ∷ l) f r c t =
     and-both _ _ (says-lies (addressIn w + lengthIn w) last v .test (b .0, (g, b .1 .1)))
     (next-lies end last w l f (and-right (leb w v) _ r) (and-right (clear w v) _ c) (and-right (lies end last v) _ t))
 
-pairs-chain : (end last : ℕ) (l : List ℕ) → end ≤ last → everyTwo leb l ≡ true → every (lies end last) l ≡ true → everyTwo clear l ≡ true
+pairs-chain : (end last : ℕ) (l : List ℕ) → end ≤ last → everyTwo leb l ≡ true → every (lies end last) l ≡ true
+    → everyTwo clear l ≡ true
     → chainFrom end last l ≡ true
 unfolding chainFrom everyTwo every
 pairs-chain end last [] h r t c = le-leb end last h
@@ -79,15 +82,18 @@ pairs-chain end last (w ∷ l) h r t c =
     let b = says-lies end last w .fact (and-left (lies end last w) _ t) in
     and-both _ _ (le-leb end (addressIn w) (b .1 .0))
     (pairs-chain (addressIn w + lengthIn w) last l (b .1 .1) (and-right (every (leb w) l) _ r)
-    (next-lies end last w l (b .0 .1) (and-left (every (leb w) l) _ r) (and-left (every (clear w) l) _ c) (and-right (lies end last w) _ t))
+    (next-lies end last w l (b .0 .1) (and-left (every (leb w) l) _ r) (and-left (every (clear w) l) _ c)
+    (and-right (lies end last w) _ t))
     (and-right (every (clear w) l) _ c))
 
 -- words whose tables are not empty and lie from end to last: sorted, the pass says what all pairs say
-chain-says : (end last : ℕ) (l : List ℕ) → end ≤ last → every (lies end last) l ≡ true → chainFrom end last (sorted l) ≡ everyTwo clear l
+chain-says : (end last : ℕ) (l : List ℕ) → end ≤ last → every (lies end last) l ≡ true
+    → chainFrom end last (sorted l) ≡ everyTwo clear l
 chain-says end last l h t =
     same-test _ _
     (λ q. sym (two-sorted clear clear-sym l) ∙ chain-pairs end last (sorted l) q)
-    (λ q. pairs-chain end last (sorted l) h (sorted-rising l) (every-sorted (lies end last) l ∙ t) (two-sorted clear clear-sym l ∙ q))
+    (λ q. pairs-chain end last (sorted l) h (sorted-rising l) (every-sorted (lies end last) l ∙ t)
+    (two-sorted clear clear-sym l ∙ q))
 
 -- ---- from the tables to their words
 pub says-room : (t : Table) → Says (hasRoom t) ((t .at .0 < 2 ^ 24) × (t .len < 2 ^ 20))
@@ -124,9 +130,11 @@ module _ (area : Area) where
       by-eq (t .len) 0
       (λ z. rw (eq-eqb (t .len) 0 z) rest)
       (λ z. rw (ne-eqb (t .len) 0 z)
-      (and-both _ _ (says-lies (area .at .0) (area .at .0 + area .size) (keptWord k t) .test ((omega arith, omega arith), (omega arith, omega arith))) rest))
+      (and-both _ _ (says-lies (area .at .0) (area .at .0 + area .size) (keptWord k t) .test
+      ((omega arith, omega arith), (omega arith, omega arith))) rest))
 
-clear-words : (j k : ℕ) (t : Table) (ts : List Table) → j < 2 ^ 20 → hasRoom t ≡ true → k + length ts ≤ 2 ^ 20 → every hasRoom ts ≡ true
+clear-words : (j k : ℕ) (t : Table) (ts : List Table) → j < 2 ^ 20 → hasRoom t ≡ true → k + length ts ≤ 2 ^ 20
+    → every hasRoom ts ≡ true
     → every (clear (keptWord j t)) (wordsFrom k ts) ≡ every (tablesApart t) ts
 unfolding wordsFrom every clear
 clear-words j k t [] m s n r = refl
@@ -143,7 +151,8 @@ unfolding every
 empty-clear t [] z = refl
 empty-clear t (u ∷ ts) z = rw (first-empty t u z) (empty-clear t ts z)
 
-pairs-words : (k : ℕ) (ts : List Table) → k + length ts ≤ 2 ^ 20 → every hasRoom ts ≡ true → everyTwo clear (wordsFrom k ts) ≡ everyTwo tablesApart ts
+pairs-words : (k : ℕ) (ts : List Table) → k + length ts ≤ 2 ^ 20 → every hasRoom ts ≡ true
+    → everyTwo clear (wordsFrom k ts) ≡ everyTwo tablesApart ts
 unfolding wordsFrom everyTwo every
 pairs-words k [] n r = refl
 pairs-words k (t ∷ ts) n r =
@@ -154,7 +163,8 @@ pairs-words k (t ∷ ts) n r =
     (λ z. rw (ne-eqb (t .len) 0 z, clear-words k (suc k) t ts (omega arith) (and-left (hasRoom t) _ r) (omega arith) m, rest))
 
 -- of tables that lie in the area: the pass over the kept words says whether two share a word
-pub order-exact : (area : Area) (ts : List Table) → length ts ≤ 2 ^ 20 → every hasRoom ts ≡ true → every (tableInside area) ts ≡ true
+pub order-exact : (area : Area) (ts : List Table) → length ts ≤ 2 ^ 20 → every hasRoom ts ≡ true
+    → every (tableInside area) ts ≡ true
     → chain area (wordsKept ts) ≡ everyTwo tablesApart ts
 unfolding chain wordsKept
 order-exact area ts n r q =
@@ -165,11 +175,13 @@ order-exact area ts n r q =
 inside-room : (area : Area) (t : Table) → area .at .0 + area .size < 2 ^ 20 → tableInside area t ≡ true → hasRoom t ≡ true
 inside-room area t h q = let i = says-inside area t .fact q in says-room t .test (omega arith, omega arith)
 
-pub all-room : (area : Area) (ts : List Table) → area .at .0 + area .size < 2 ^ 20 → every (tableInside area) ts ≡ true → every hasRoom ts ≡ true
+pub all-room : (area : Area) (ts : List Table) → area .at .0 + area .size < 2 ^ 20 → every (tableInside area) ts ≡ true
+    → every hasRoom ts ≡ true
 all-room area ts h q = every-then (tableInside area) hasRoom (λ t i. inside-room area t h i) ts q
 
 -- ---- words that pass as they stand rise already
-chain-above : (w end last from to : ℕ) (l : List ℕ) → addressIn w < end → w < 2 ^ 64 → every (lies from to) l ≡ true → chainFrom end last l ≡ true
+chain-above : (w end last from to : ℕ) (l : List ℕ) → addressIn w < end → w < 2 ^ 64 → every (lies from to) l ≡ true
+    → chainFrom end last l ≡ true
     → every (leb w) l ≡ true
 unfolding chainFrom every
 chain-above w end last from to [] h f t q = refl
@@ -177,9 +189,11 @@ chain-above w end last from to (v ∷ l) h f t q =
     let a = leb-true end (addressIn v) (and-left (leb end (addressIn v)) _ q) in
     let b = says-lies from to v .fact (and-left (lies from to v) _ t) in
     and-both _ _ (le-leb w v (omega arith))
-    (chain-above w (addressIn v + lengthIn v) last from to l (omega arith) f (and-right (lies from to v) _ t) (and-right (leb end (addressIn v)) _ q))
+    (chain-above w (addressIn v + lengthIn v) last from to l (omega arith) f (and-right (lies from to v) _ t)
+    (and-right (leb end (addressIn v)) _ q))
 
-chain-rising : (end last from to : ℕ) (l : List ℕ) → every (lies from to) l ≡ true → chainFrom end last l ≡ true → everyTwo leb l ≡ true
+chain-rising : (end last from to : ℕ) (l : List ℕ) → every (lies from to) l ≡ true → chainFrom end last l ≡ true
+    → everyTwo leb l ≡ true
 unfolding chainFrom every everyTwo
 chain-rising end last from to [] t q = refl
 chain-rising end last from to (w ∷ l) t q =
@@ -189,9 +203,11 @@ chain-rising end last from to (w ∷ l) t q =
     and-both _ _ (chain-above w (addressIn w + lengthIn w) last from to l (omega arith) (b .0 .0) s n)
     (chain-rising (addressIn w + lengthIn w) last from to l s n)
 
-pub kept-already : (area : Area) (ts : List Table) → length ts ≤ 2 ^ 20 → every hasRoom ts ≡ true → every (tableInside area) ts ≡ true
+pub kept-already : (area : Area) (ts : List Table) → length ts ≤ 2 ^ 20 → every hasRoom ts ≡ true
+    → every (tableInside area) ts ≡ true
     → chain area (wordsFrom 0 ts) ≡ true → wordsKept ts ≡ wordsFrom 0 ts
 unfolding chain wordsKept
 kept-already area ts n r q t =
     rising-sorted (wordsFrom 0 ts)
-    (chain-rising (area .at .0) (area .at .0 + area .size) (area .at .0) (area .at .0 + area .size) (wordsFrom 0 ts) (words-lie area 0 ts (omega arith) r q) t)
+    (chain-rising (area .at .0) (area .at .0 + area .size) (area .at .0) (area .at .0 + area .size) (wordsFrom 0 ts)
+    (words-lie area 0 ts (omega arith) r q) t)

@@ -8,7 +8,7 @@ use lib.ListN.{length}
 use lib.Dec.{leb, eqb}
 use borrow.Author.Tests.{leb-true, eqb-true}
 use Rattle.word.specs.declared.Area.{Area}
-use Rattle.word.specs.Limits.{ioMost, tablesMost}
+use Rattle.word.specs.Limits.{coreMost, ioMost, tablesMost}
 use Rattle.word.specs.Lists.{every, everyTwo, splice}
 use Rattle.word.proofs.Cases.{and-left, and-right}
 use Rattle.lists.specs.HowKept.{numbersIn, tablesIn}
@@ -46,9 +46,11 @@ lists-obey area ios tables q =
       apart = and-right (every (tableInside area) (tablesOf tables)) _ e;
     }
 
-module _ (area : Area) (ios tables : List ℕ) (fits : area .at .0 + area .size ≤ 65536) (q : listsObey area ios tables ≡ true) where
+module _ (area : Area) (ios tables : List ℕ) (fits : area .at .0 + area .size ≤ coreMost)
+    (q : listsObey area ios tables ≡ true) where
   -- what `keep_ranks` asks of the kept words and of a stretch of 128 words
-  pub tables-ranking : (ws rs : List ℕ) → ws ≡ wordsKept (tablesOf tables) → tablesMost ≤ length rs → Ranking (tablesOf tables) ws rs
+  pub tables-ranking : (ws rs : List ℕ) → ws ≡ wordsKept (tablesOf tables) → tablesMost ≤ length rs
+      → Ranking (tablesOf tables) ws rs
   tables-ranking ws rs e h =
       let o = lists-obey area ios tables q in record {
         room = all-room area (tablesOf tables) (omega arith) (o .inside);
@@ -66,9 +68,11 @@ module _ (area : Area) (ios tables : List ℕ) (fits : area .at .0 + area .size 
   pub tables-copied-back : tablesIn area (wordsKept (tablesOf tables)) (ranksKept (tablesOf tables)) ≡ tablesOf tables
   tables-copied-back =
       let o = lists-obey area ios tables q in
-      copied-back area (tablesOf tables) (omega (arith, o .tables-few)) (all-room area (tablesOf tables) (omega arith) (o .inside)) (o .inside)
+      copied-back area (tablesOf tables) (omega (arith, o .tables-few)) (all-room area (tablesOf tables) (omega arith) (o .inside))
+      (o .inside)
 
   pub kept-passes : chain area (wordsKept (tablesOf tables)) ≡ true
   kept-passes =
       let o = lists-obey area ios tables q in
-      order-exact area (tablesOf tables) (omega (arith, o .tables-few)) (all-room area (tablesOf tables) (omega arith) (o .inside)) (o .inside) ∙ o .apart
+      order-exact area (tablesOf tables) (omega (arith, o .tables-few)) (all-room area (tablesOf tables) (omega arith) (o .inside))
+      (o .inside) ∙ o .apart

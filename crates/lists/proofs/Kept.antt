@@ -17,7 +17,8 @@ use Rattle.word.proofs.Cases.{both, when}
 use Rattle.word.proofs.Every.{every-by}
 use Rattle.lists.specs.declared.Table.{Table}
 use Rattle.word.proofs.Lists.{length-tab, getD-tab}
-use Rattle.lists.specs.HowKept.{numberIn, numbersIn, rankIn, awayIn, tableNumberIn, tableOf, emptyIn, tableBy, tableAt, tablesIn}
+use Rattle.lists.specs.HowKept.{numberIn, numbersIn, rankIn, awayIn, tableNumberIn, tableOf, emptyIn, tableBy, tableAt}
+use Rattle.lists.specs.HowKept.{tablesIn}
 use Rattle.lists.specs.Obey.{isIoNumber}
 
 -- I/O numbers

@@ -61,14 +61,16 @@ module _ (n : ℕ) (ios : List ℕ) (h : length ios ≤ n) where
   filled = splice (replicate n 0) 0 ios
 
   zeros-at : (k : ℕ) → _≡_ {A = ℕ} (getD (replicate n 0) k 0) 0
-  zeros-at k = by-lt k n (getD-replicate {A = ℕ} n k 0 0) (λ l. List·getD-eq-default {A = ℕ} (replicate n 0) 0 (omega (arith, length-replicate {A = ℕ} n 0)))
+  zeros-at k = by-lt k n (getD-replicate {A = ℕ} n k 0 0)
+      (λ l. List·getD-eq-default {A = ℕ} (replicate n 0) 0 (omega (arith, length-replicate {A = ℕ} n 0)))
 
   filled-at : (k : ℕ) → getD filled k 0 ≡ getD ios k 0
   filled-at k =
       let m = length-replicate {A = ℕ} n 0 in
       by-lt k (length ios)
       (λ l. start-at (replicate n 0) ios k (omega arith) l)
-      (λ l. getD-splice-out (replicate n 0) 0 ios k (omega arith) (λ a b. omega arith) ∙ zeros-at k ∙ sym (List·getD-eq-default ios 0 l))
+      (λ l. getD-splice-out (replicate n 0) 0 ios k (omega arith) (λ a b. omega arith) ∙ zeros-at k
+      ∙ sym (List·getD-eq-default ios 0 l))
 
   filled-four : (i : ℕ) → fourFrom filled i ≡ fourFrom ios i
   unfolding fourFrom
@@ -86,7 +88,8 @@ module _ (out ios : List ℕ) (h : (length ios + 3) / 4 ≤ length out) where
   unfolding numberIn
   number-kept k l =
       let n = numbers-kept-length ios in
-      ap (part (16 * (k % 4)) 16) (start-at out (numbersKept ios) (k / 4) (omega arith) (omega arith) ∙ numbers-kept-at ios (k / 4) (omega arith))
+      ap (part (16 * (k % 4)) 16)
+      (start-at out (numbersKept ios) (k / 4) (omega arith) (omega arith) ∙ numbers-kept-at ios (k / 4) (omega arith))
       ∙ quarters ios k
 
   pub numbers-back : every isIoNumber ios ≡ true → numbersIn (splice out 0 (numbersKept ios)) (length ios) ≡ ios

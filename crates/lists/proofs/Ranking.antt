@@ -24,7 +24,8 @@ use Rattle.lists.proofs.Ranks.{length-words, length-ranked, notOf, has-
 
 -- ---- the loop over the words
 module _ (ws rs : List ℕ) (p : ℕ) (b : List ℕ) where
-  pub ranked-more : p < length ws → b ≡ ranked p (drop p ws) rs → b ≡ ranked (p + 1) (drop (p + 1) ws) (set rs (tableNumberIn (getD ws p 0)) p)
+  pub ranked-more : p < length ws → b ≡ ranked p (drop p ws) rs
+      → b ≡ ranked (p + 1) (drop (p + 1) ws) (set rs (tableNumberIn (getD ws p 0)) p)
   unfolding ranked
   ranked-more h q = q ∙ rw (drop-cons ws p 0 h, add-one p)
 
@@ -38,7 +39,8 @@ unfolding splice
 set-start l s i v h =
     rw (take-length s, set-append-left s (drop (0 + length s) l) i v h, take-length (set s i v), length-set s i v)
 
-pub ranked-start : (l : List ℕ) (p : ℕ) (ws s : List ℕ) → every (numberBelow (length s)) ws ≡ true → ranked p ws (splice l 0 s) ≡ splice l 0 (ranked p ws s)
+pub ranked-start : (l : List ℕ) (p : ℕ) (ws s : List ℕ) → every (numberBelow (length s)) ws ≡ true
+    → ranked p ws (splice l 0 s) ≡ splice l 0 (ranked p ws s)
 unfolding ranked every numberBelow
 ranked-start l p [] s q = refl
 ranked-start l p (w ∷ ws) s q =
@@ -95,7 +97,8 @@ ranked-same p (w ∷ ws) rs us k h l d =
     (by-eq (tableNumberIn w) k
     (λ e. inl (rw e (getD-set-same rs k p 0 h ∙ sym (getD-set-same us k p 0 l))))
     (λ n. ⊎-elim
-    (λ e. inl (getD-set-other rs (tableNumberIn w) k p 0 (λ x. n (sym x)) ∙ e ∙ sym (getD-set-other us (tableNumberIn w) k p 0 (λ x. n (sym x)))))
+    (λ e. inl (getD-set-other rs (tableNumberIn w) k p 0 (λ x. n (sym x)) ∙ e
+    ∙ sym (getD-set-other us (tableNumberIn w) k p 0 (λ x. n (sym x)))))
     (λ f. inr (λ q. f (rw (ne-eqb (tableNumberIn w) k n) q))) d))
 
 module _ (ts : List Table) (words rs : List ℕ) (r : Ranking ts words rs) (e : length words ≡ length ts) where

@@ -79,11 +79,13 @@ ranked-at p (w ∷ ws) rs k h =
 unfoldable wordIn : ℕ → List Table → ℕ → Bool
 wordIn k ts w =
     leb k (tableNumberIn w)
-    && (eqb w (keptWord (tableNumberIn w) (getD ts (tableNumberIn w - k) noTable)) && ltb 0 (getD ts (tableNumberIn w - k) noTable .len))
+    && (eqb w (keptWord (tableNumberIn w) (getD ts (tableNumberIn w - k) noTable)) && ltb 0
+    (getD ts (tableNumberIn w - k) noTable .len))
 
 says-word : (k : ℕ) (ts : List Table) (w : ℕ)
     → Says (wordIn k ts w)
-    ((k ≤ tableNumberIn w) × ((w ≡ keptWord (tableNumberIn w) (getD ts (tableNumberIn w - k) noTable)) × (0 < getD ts (tableNumberIn w - k) noTable .len)))
+    ((k ≤ tableNumberIn w)
+    × ((w ≡ keptWord (tableNumberIn w) (getD ts (tableNumberIn w - k) noTable)) × (0 < getD ts (tableNumberIn w - k) noTable .len)))
 unfolding wordIn
 says-word k ts w = says-and (says-le _ _) (says-and (says-eq _ _) (says-lt _ _))
 
@@ -93,7 +95,8 @@ word-later k t ts w q =
     let e : tableNumberIn w - k ≡ suc (tableNumberIn w - suc k) = omega (arith, f .0) in
     says-word k (t ∷ ts) w .test (omega (arith, f .0), (rw e (f .1 .0), rw e (f .1 .1)))
 
-words-in : (k : ℕ) (ts : List Table) → k + length ts ≤ 2 ^ 20 → every hasRoom ts ≡ true → every (wordIn k ts) (wordsFrom k ts) ≡ true
+words-in : (k : ℕ) (ts : List Table) → k + length ts ≤ 2 ^ 20 → every hasRoom ts ≡ true
+    → every (wordIn k ts) (wordsFrom k ts) ≡ true
 unfolding wordsFrom every
 words-in k [] n q = refl
 words-in k (t ∷ ts) n q =
@@ -107,7 +110,8 @@ words-in k (t ∷ ts) n q =
     (and-both _ _ (says-word k (t ∷ ts) (keptWord k t) .test (rw e (omega arith), (rw (e, z) refl, rw (e, z) (omega arith)))) r))
 
 -- and a table that is not empty has its word
-pub has-word : (k : ℕ) (ts : List Table) (i : ℕ) → k + length ts ≤ 2 ^ 20 → every hasRoom ts ≡ true → i < length ts → 0 < getD ts i noTable .len
+pub has-word : (k : ℕ) (ts : List Table) (i : ℕ) → k + length ts ≤ 2 ^ 20 → every hasRoom ts ≡ true → i < length ts
+    → 0 < getD ts i noTable .len
     → every (notOf (k + i)) (wordsFrom k ts) ≡ true → ⊥
 unfolding wordsFrom every notOf
 has-word k [] i n q h l a = omega arith
@@ -124,7 +128,8 @@ has-word k (t ∷ ts) (suc i) n q h l a =
     (λ z. and-right (notOf (k + suc i) (keptWord k t)) _ (rw (ne-eqb (t .len) 0 z) at a))))
 
 -- the number of every kept word is that of a table
-numbers-below : (k : ℕ) (ts : List Table) → k + length ts ≤ 2 ^ 20 → every hasRoom ts ≡ true → every (numberBelow (k + length ts)) (wordsFrom k ts) ≡ true
+numbers-below : (k : ℕ) (ts : List Table) → k + length ts ≤ 2 ^ 20 → every hasRoom ts ≡ true
+    → every (numberBelow (k + length ts)) (wordsFrom k ts) ≡ true
 unfolding wordsFrom every numberBelow
 numbers-below k [] n q = refl
 numbers-below k (t ∷ ts) n q =
@@ -133,25 +138,30 @@ numbers-below k (t ∷ ts) n q =
     let e = word-number k t (omega arith) (and-left (hasRoom t) _ q) in
     by-eq (t .len) 0
     (λ y. rw (eq-eqb (t .len) 0 y) r)
-    (λ y. rw (ne-eqb (t .len) 0 y) (and-both (numberBelow (k + suc (length ts)) (keptWord k t)) _ (rw e (lt-ltb k (k + suc (length ts)) (omega arith))) r))
+    (λ y. rw (ne-eqb (t .len) 0 y)
+    (and-both (numberBelow (k + suc (length ts)) (keptWord k t)) _ (rw e (lt-ltb k (k + suc (length ts)) (omega arith))) r))
 
-pub words-numbered : (ts : List Table) → length ts ≤ 2 ^ 20 → every hasRoom ts ≡ true → every (numberBelow (length ts)) (wordsKept ts) ≡ true
+pub words-numbered : (ts : List Table) → length ts ≤ 2 ^ 20 → every hasRoom ts ≡ true
+    → every (numberBelow (length ts)) (wordsKept ts) ≡ true
 unfolding wordsKept
-words-numbered ts n q = every-sorted (numberBelow (length ts)) (wordsFrom 0 ts) ∙ rw zero-add at (numbers-below 0 ts (omega arith) q)
+words-numbered ts n q = every-sorted (numberBelow (length ts)) (wordsFrom 0 ts)
+    ∙ rw zero-add at (numbers-below 0 ts (omega arith) q)
 
 pub number-at : (n : ℕ) (ws : List ℕ) (p : ℕ) → p < length ws → every (numberBelow n) ws ≡ true → tableNumberIn (getD ws p 0) < n
 unfolding numberBelow
 number-at n ws p h q = ltb-true (tableNumberIn (getD ws p 0)) n (every-place 0 (numberBelow n) ws p h q)
 
 -- ---- the two ways to read
-by-word : (area : Area) (ws : List ℕ) (r k : ℕ) → rankIn r < length ws → tableNumberIn (getD ws (rankIn r) 0) ≡ k → tableBy area ws r k ≡ tableOf (getD ws (rankIn r) 0)
+by-word : (area : Area) (ws : List ℕ) (r k : ℕ) → rankIn r < length ws → tableNumberIn (getD ws (rankIn r) 0) ≡ k
+    → tableBy area ws r k ≡ tableOf (getD ws (rankIn r) 0)
 unfolding tableBy
 by-word area ws r k h e = rw (lt-ltb (rankIn r) (length ws) h, eq-eqb (tableNumberIn (getD ws (rankIn r) 0)) k e)
 
 abbrev withLength : Table → ℕ → Table
 withLength t n = record { at = t .at; len = n }
 
-by-away : (area : Area) (ws : List ℕ) (r k : ℕ) (t : Table) → length ws ≤ rankIn r → awayIn r ≡ t .at .0 → t .len ≡ 0 → tableInside area t ≡ true → tableBy area ws r k ≡ t
+by-away : (area : Area) (ws : List ℕ) (r k : ℕ) (t : Table) → length ws ≤ rankIn r → awayIn r ≡ t .at .0 → t .len ≡ 0
+    → tableInside area t ≡ true → tableBy area ws r k ≡ t
 unfolding tableBy emptyIn
 by-away area ws r k t h e z q =
     let i = says-inside area t .fact q in
@@ -159,10 +169,12 @@ by-away area ws r k t h e z q =
     rw (le-ltb (rankIn r) (length ws) h, e, w) (ap (withLength t) (sym z))
 
 -- ---- read back
-module _ (area : Area) (ts : List Table) (n : length ts ≤ 1024) (m : every hasRoom ts ≡ true) (q : every (tableInside area) ts ≡ true) where
+module _ (area : Area) (ts : List Table) (n : length ts ≤ 1024) (m : every hasRoom ts ≡ true)
+    (q : every (tableInside area) ts ≡ true) where
   word-in : (p : ℕ) → p < length (wordsKept ts) → wordIn 0 ts (getD (wordsKept ts) p 0) ≡ true
   unfolding wordsKept
-  word-in p i = every-place 0 (wordIn 0 ts) (sorted (wordsFrom 0 ts)) p i (every-sorted (wordIn 0 ts) (wordsFrom 0 ts) ∙ words-in 0 ts (omega arith) m)
+  word-in p i = every-place 0 (wordIn 0 ts) (sorted (wordsFrom 0 ts)) p i
+      (every-sorted (wordIn 0 ts) (wordsFrom 0 ts) ∙ words-in 0 ts (omega arith) m)
 
   -- a table whose word is kept
   stood : (k r : ℕ) → k < length ts → RankOf (wordsKept ts) 0 k r → tableBy area (wordsKept ts) r k ≡ getD ts k noTable
@@ -188,8 +200,10 @@ module _ (area : Area) (ts : List Table) (n : length ts ≤ 1024) (m : every has
       let f : getD ts k noTable .len ≡ 0 =
       by-eq (getD ts k noTable .len) 0
       (λ z. z)
-      (λ z. absurd (has-word 0 ts k (omega arith) m h (omega arith) (rw zero-add (sym (every-sorted (notOf k) (wordsFrom 0 ts)) ∙ a)))) in
-      by-away area (wordsKept ts) r k (getD ts k noTable) (omega (arith, d)) (omega (arith, d)) f (every-place noTable (tableInside area) ts k h q)
+      (λ z. absurd (has-word 0 ts k (omega arith) m h (omega arith)
+      (rw zero-add (sym (every-sorted (notOf k) (wordsFrom 0 ts)) ∙ a)))) in
+      by-away area (wordsKept ts) r k (getD ts k noTable) (omega (arith, d)) (omega (arith, d)) f
+      (every-place noTable (tableInside area) ts k h q)
 
   read-back : (k : ℕ) → k < length ts → tableBy area (wordsKept ts) (getD (ranksKept ts) k 0) k ≡ getD ts k noTable
   unfolding ranksKept

@@ -15,7 +15,8 @@ use Rattle.word.proofs.Cases.{by-test, by-lt, when, and-both, and-left, and-rig
 use Rattle.word.proofs.Every.{every-by, two-by}
 use Rattle.word.proofs.Says.{says-within}
 use Rattle.lists.specs.declared.Table.{Table}
-use Rattle.lists.specs.HowKept.{addressIn, lengthIn, tableNumberIn, tableOf, rankIn, awayIn, emptyIn, tableBy, tableAt, tablesIn}
+use Rattle.lists.specs.HowKept.{addressIn, lengthIn, tableNumberIn, tableOf, rankIn, awayIn, emptyIn, tableBy, tableAt}
+use Rattle.lists.specs.HowKept.{tablesIn}
 use Rattle.lists.specs.HowChain.{chainFrom, chain}
 use Rattle.lists.specs.Obey.{tableInside, tablesApart, tablesObey}
 use Rattle.lists.proofs.Kept.{tables-length, tables-at}
@@ -67,7 +68,8 @@ module _ (area : Area) (ws : List ℕ) (ok : chain area ws ≡ true) where
       first-before (tableOf (getD ws p 0)) (tableOf (getD ws q 0))
       (chain-before (area .at .0) (area .at .0 + area .size) ws ok p q l h)
 
-  words-apart : (p q : ℕ) → (p ≡ q → ⊥) → p < length ws → q < length ws → tablesApart (tableOf (getD ws p 0)) (tableOf (getD ws q 0)) ≡ true
+  words-apart : (p q : ℕ) → (p ≡ q → ⊥) → p < length ws → q < length ws
+      → tablesApart (tableOf (getD ws p 0)) (tableOf (getD ws q 0)) ≡ true
   words-apart p q n h k =
       by-lt p q
       (λ l. in-order p q l k)
@@ -110,7 +112,8 @@ module _ (area : Area) (ws : List ℕ) (ok : chain area ws ≡ true) where
       ⊎-elim
       (λ f. ⊎-elim
       (λ g. rw (f .2, g .2)
-      (words-apart area ws ok (rankIn r) (rankIn s) (λ e. n (sym (f .1) ∙ ap (λ (p : ℕ). tableNumberIn (getD ws p 0)) e ∙ g .1)) (f .0) (g .0)))
+      (words-apart area ws ok (rankIn r) (rankIn s) (λ e. n (sym (f .1) ∙ ap (λ (p : ℕ). tableNumberIn (getD ws p 0)) e ∙ g .1))
+      (f .0) (g .0)))
       (λ e. rw e (second-empty (tableBy area ws r k) (emptyIn area (awayIn s)) refl))
       (found area ws s j))
       (λ e. rw e (first-empty (emptyIn area (awayIn r)) (tableBy area ws s j) refl))

@@ -4,6 +4,7 @@ use mathlib.Core.Path.{_≡_, sym}
 use mathlib.Core.List.{List}
 use native.Mathlib.Omega.{arith}
 use lib.ListN.{length, getD}
+use Rattle.word.specs.Limits.{roomCount}
 use Rattle.word.specs.Runs.{Says}
 use Rattle.word.proofs.Cases.{by-lt}
 use Rattle.word.proofs.Lists.{length-tab, getD-tab}
@@ -17,7 +18,7 @@ pub map-length : (l : List ℕ) → length (mapOf l) ≡ 8
 unfolding mapOf
 map-length l = length-tab (stretchOf l) 8
 
-pub map-at : (l : List ℕ) (r : ℕ) → r < 8 → getD (mapOf l) r none ≡ stretchOf l r
+pub map-at : (l : List ℕ) (r : ℕ) → r < roomCount → getD (mapOf l) r none ≡ stretchOf l r
 unfolding mapOf
 map-at l r h = getD-tab (stretchOf l) 8 r none h
 
@@ -42,12 +43,13 @@ map-obeys-says core m e =
       inside = λ r k. h .0 r (omega arith);
       separate = λ r q j k ne. by-lt r q
           (λ l. h .1 r q l (omega arith))
-          (λ l. separate-turned (getD m q none) (getD m r none) (h .1 q r (by-lt q r (λ z. z) (λ z. absurd (ne (omega arith)))) (omega arith)));
+          (λ l. separate-turned (getD m q none) (getD m r none)
+          (h .1 q r (by-lt q r (λ z. z) (λ z. absurd (ne (omega arith)))) (omega arith)));
     })
     (λ h. (λ r k. h .inside r (omega arith), λ r q l k. h .separate r q (omega arith) (omega arith) (λ z. omega arith)))
 
 -- the same of the map that a list tells
-obeys-same : (core : ℕ) (f g : ℕ → Stretch) → ((r : ℕ) → r < 8 → f r ≡ g r) → MapObeys core f → MapObeys core g
+obeys-same : (core : ℕ) (f g : ℕ → Stretch) → ((r : ℕ) → r < roomCount → f r ≡ g r) → MapObeys core f → MapObeys core g
 obeys-same core f g e h = record {
   inside = λ r k. rw (e r k) at (h .inside r k);
   separate = λ r q j k ne. rw (e r j, e q k) at (h .separate r q j k ne);

@@ -8,6 +8,7 @@ use native.Mathlib.Numerals.{add-one}
 use lib.ListN.{length, getD, drop, drop-of-length-le}
 use lib.Seq.{drop-cons}
 use borrow.Author.Tests.{lt-ltb}
+use Rattle.word.specs.Limits.{wordsInBlock}
 use Rattle.word.specs.Word.{isWord}
 use Rattle.word.specs.Lists.{every, tab}
 use Rattle.word.proofs.Cases.{and-assoc, and-true}
@@ -30,18 +31,18 @@ module _ (text : List ℕ) (g : Bool) (i : ℕ) (b : Bool) (q : b ≡ goodFrom t
   pub good-more : (f : Bool) → i < 256 → f ≡ isGood (line text i) → b ≡ goodFrom text (g && f) (i + 1)
   unfolding goodFrom every
   good-more f h e =
-      let n : length (tab (line text) 256) ≡ 256 = length-tab (line text) 256 in
+      let n : length (tab (line text) 256) ≡ wordsInBlock = length-tab (line text) 256 in
       q ∙ rw (drop-cons (tab (line text) 256) i Bad (omega arith), getD-tab (line text) 256 i Bad h, add-one, e)
       (sym (and-assoc g (isGood (line text i)) _))
 
   pub good-end : 256 ≤ i → g ≡ b
   unfolding goodFrom every
   good-end h =
-      let n : length (tab (line text) 256) ≡ 256 = length-tab (line text) 256 in
+      let n : length (tab (line text) 256) ≡ wordsInBlock = length-tab (line text) 256 in
       sym (q ∙ rw (drop-of-length-le (tab (line text) 256) {i = i} (omega arith)) (and-true g))
 
 -- a block has 256 words, each of 36 bits, so feed never refuses one with 11
-pub length-block : (text : List ℕ) → length (blockOf text) ≡ 256
+pub length-block : (text : List ℕ) → length (blockOf text) ≡ wordsInBlock
 unfolding blockOf
 length-block text = length-tab (lineWord text) 256
 
@@ -56,7 +57,7 @@ block-words text =
 pub block-line : (text : List ℕ) (i : ℕ) → isBlock text ≡ true → i < 256 → line text i ≡ Word (getD (blockOf text) i 0)
 unfolding isBlock blockOf
 block-line text i q h =
-    let n : length (tab (line text) 256) ≡ 256 = length-tab (line text) 256 in
+    let n : length (tab (line text) 256) ≡ wordsInBlock = length-tab (line text) 256 in
     rw (getD-tab (lineWord text) 256 i 0 h)
     (said (line text i) (rw (getD-tab (line text) 256 i Bad h) at (every-place Bad isGood (tab (line text) 256) i (omega arith) q)))
   where

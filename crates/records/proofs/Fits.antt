@@ -1,5 +1,5 @@
--- What a label or a modification block leads to: a stage whose numbers are in their ranges, or a fault from 13 to 22, never the start;
--- and what a termination block leads to.
+-- What a label or a modification block leads to: a stage whose numbers are in their ranges, or a fault from 13 to 22, never the
+-- start; and what a termination block leads to.
 use Prim.Native.Nat.{ℕ, _+_, _≤_, _<_}
 use mathlib.Core.Path.{_≡_, refl}
 use mathlib.Core.Bool.{Bool, true, false, cond, false≢true}
@@ -63,7 +63,8 @@ module _ (P : Stage → Type 0) (ios : List ℕ) (tables : ℕ) (block : List �
   label-leads h = with-leads (labelOf block) refl h
 
 -- the course that a label sets: its counts are those of the lists
-label-counts-fit : (l : Label) (ios : List ℕ) (tables : ℕ) → Carried l → assignmentsFit l ios tables ≡ true → labelCountsFit (length ios) tables (labelCountsOf l) ≡ true
+label-counts-fit : (l : Label) (ios : List ℕ) (tables : ℕ) → Carried l → assignmentsFit l ios tables ≡ true
+    → labelCountsFit (length ios) tables (labelCountsOf l) ≡ true
 unfolding assignmentsFit labelCountsFit
 label-counts-fit l ios tables k q =
     let a = eqb-true (length ios) (ioCount l) (and-left (eqb (length ios) (ioCount l)) _ q) in
@@ -77,7 +78,8 @@ unfolding afterLabel dueFits stageFits
 after-label-fits area ts io l q =
     when (λ (s : Stage). stageFits area ts io s ≡ true) (eqb (entryBlocks io (length ts)) 0)
     (λ _. and-both _ _ q refl)
-    (λ e. let h = eqb-false (entryBlocks io (length ts)) 0 e in and-both _ _ q (lt-ltb 0 (entryBlocks io (length ts)) (omega arith)))
+    (λ e. let h = eqb-false (entryBlocks io (length ts)) 0 e in and-both _ _ q
+    (lt-ltb 0 (entryBlocks io (length ts)) (omega arith)))
 
 pub label-fits : (area : Area) (ts : List CoreTable) (ios block : List ℕ) (s : Stage) → labelStep ios (length ts) block ≡ More s
     → stageFits area ts (length ios) s ≡ true
@@ -105,7 +107,8 @@ module _ (io : ℕ) (ts : List CoreTable) (c : LabelCounts) (exact : Bool) (b : 
   pub entry-fault : (f : Fault) → entryStep io ts c exact b block ≡ Refused f → OfBlock f
   entry-fault f e = rw e at (entry-leads (λ _. Unit {0}) tt)
 
-after-entries-fit : (area : Area) (ts : List CoreTable) (io : ℕ) (c : LabelCounts) (exact : Bool) (b : ℕ) → labelCountsFit io (length ts) c ≡ true
+after-entries-fit : (area : Area) (ts : List CoreTable) (io : ℕ) (c : LabelCounts) (exact : Bool) (b : ℕ)
+    → labelCountsFit io (length ts) c ≡ true
     → stageFits area ts io (afterEntries io (length ts) c exact b) ≡ true
 unfolding afterEntries dueFits stageFits
 after-entries-fit area ts io c exact b q =

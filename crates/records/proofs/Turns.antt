@@ -37,17 +37,20 @@ module _ (io : ℕ) (exact : Bool) (b : ℕ) (block : List ℕ) where
     many : length (numbers ts) ≡ g .tables
     many = length-tab (λ (k : ℕ). k) (length ts) ∙ core-length g l readable
 
-    this : (x : CoreTable) → t < g .tables → x ≡ coreTable g l t → fits ts (getD (numbers ts) t 0) ≡ entryFits io exact b block (x .len) t
+    this : (x : CoreTable) → t < g .tables → x ≡ coreTable g l t
+        → fits ts (getD (numbers ts) t 0) ≡ entryFits io exact b block (x .len) t
     this x h q =
         ap (fits ts) (getD-tab (λ (k : ℕ). k) (length ts) t 0 (omega (arith, core-length g l readable)))
         ∙ ap (λ (y : CoreTable). entryFits io exact b block (y .len) t) (core-at g l readable t noTable h ∙ sym q)
 
-    pub left-more : (x : CoreTable) → t < g .tables → x ≡ coreTable g l t → (v : Bool) → v ≡ entryFits io exact b block (x .len) t → v ≡ true
+    pub left-more : (x : CoreTable) → t < g .tables → x ≡ coreTable g l t → (v : Bool) → v ≡ entryFits io exact b block (x .len) t
+        → v ≡ true
         → r ≡ leftFit ts t → r ≡ leftFit ts (t + 1)
     unfolding leftFit
     left-more x h q v k e = every-more (fits ts) 0 (numbers ts) t r (omega (arith, many)) (this x h q ∙ sym k ∙ e)
 
-    pub left-fails : (x : CoreTable) → t < g .tables → x ≡ coreTable g l t → (v : Bool) → v ≡ entryFits io exact b block (x .len) t → v ≡ false
+    pub left-fails : (x : CoreTable) → t < g .tables → x ≡ coreTable g l t → (v : Bool) → v ≡ entryFits io exact b block (x .len) t
+        → v ≡ false
         → r ≡ leftFit ts t → false ≡ r
     unfolding leftFit
     left-fails x h q v k e = every-fails (fits ts) 0 (numbers ts) t r (omega (arith, many)) (this x h q ∙ sym k ∙ e)

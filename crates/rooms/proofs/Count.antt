@@ -46,13 +46,16 @@ count-two x (a ∷ l) i zero o h p q = absurd (omega arith)
 count-two x (a ∷ l) zero (suc j) o h p q = omega (arith, hit-yes a x p, count-some x l j (omega arith) q)
 count-two x (a ∷ l) (suc i) (suc j) o h p q = omega (arith, count-two x l i j (omega arith) (omega arith) p q)
 
-pub count-three : (x : ℕ) (l : List ℕ) (i j k : ℕ) → i < j → j < k → k < length l → getD l i 0 ≡ x → getD l j 0 ≡ x → getD l k 0 ≡ x → 3 ≤ count x l
+pub count-three : (x : ℕ) (l : List ℕ) (i j k : ℕ) → i < j → j < k → k < length l → getD l i 0 ≡ x → getD l j 0 ≡ x → getD l k 0 ≡ x
+    → 3 ≤ count x l
 unfolding count
 count-three x [] i j k o u h p q r = absurd (omega arith)
 count-three x (a ∷ l) i j zero o u h p q r = absurd (omega arith)
 count-three x (a ∷ l) i zero (suc k) o u h p q r = absurd (omega arith)
-count-three x (a ∷ l) zero (suc j) (suc k) o u h p q r = omega (arith, hit-yes a x p, count-two x l j k (omega arith) (omega arith) q r)
-count-three x (a ∷ l) (suc i) (suc j) (suc k) o u h p q r = omega (arith, count-three x l i j k (omega arith) (omega arith) (omega arith) p q r)
+count-three x (a ∷ l) zero (suc j) (suc k) o u h p q r = omega
+    (arith, hit-yes a x p, count-two x l j k (omega arith) (omega arith) q r)
+count-three x (a ∷ l) (suc i) (suc j) (suc k) o u h p q r = omega
+    (arith, count-three x l i j k (omega arith) (omega arith) (omega arith) p q r)
 
 pub count-take : (x : ℕ) (l : List ℕ) (i : ℕ) → i < length l → count x (take (suc i) l) ≡ count x (take i l) + hit (getD l i 0) x
 unfolding count

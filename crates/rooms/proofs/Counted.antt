@@ -28,10 +28,10 @@ unfolding heldEach held idle free tab count hit
 counted-none l = record { counts = refl; known = λ p h. absurd (omega arith); two = λ r h. omega arith; sum = refl }
 
 module _ (l n : List ℕ) (i seconds : ℕ) (c : Counted l i n seconds) where
-  pub counted-at : (r : ℕ) → r < 8 → getD n r 0 ≡ held r (take i l)
+  pub counted-at : (r : ℕ) → r < roomCount → getD n r 0 ≡ held r (take i l)
   counted-at r h = rw (c .counts) (each-at (take i l) r h)
 
-  pub counted-most : (r : ℕ) → r < 8 → getD n r 0 ≤ 2
+  pub counted-most : (r : ℕ) → r < roomCount → getD n r 0 ≤ 2
   counted-most r h = omega (arith, counted-at r h, c .two r h)
 
   -- what the next holder adds
@@ -51,7 +51,8 @@ module _ (l n : List ℕ) (i seconds : ℕ) (c : Counted l i n seconds) where
   unfolding heldEach idle
   counted-free h z =
       let same : heldEach (take (suc i) l) ≡ heldEach (take i l) =
-      tab-same (λ r. held r (take i l)) (λ r. held r (take (suc i) l)) roomCount (λ r. omega (arith, held-next r h, hit-no (getD l i 0) (r + 1) (λ y. omega arith))) in
+      tab-same (λ r. held r (take i l)) (λ r. held r (take (suc i) l)) roomCount
+      (λ r. omega (arith, held-next r h, hit-no (getD l i 0) (r + 1) (λ y. omega arith))) in
       record {
         counts = rw (add-one i, same) (c .counts);
         known = known-next (omega arith);
@@ -60,16 +61,21 @@ module _ (l n : List ℕ) (i seconds : ℕ) (c : Counted l i n seconds) where
       }
 
   -- a place of room r, its first or its second
-  set-each : (r : ℕ) → r < 8 → ((q : ℕ) → (q ≡ r → ⊥) → held q (take (suc i) l) ≡ held q (take i l)) → held r (take (suc i) l) ≡ getD n r 0 + 1
+  set-each : (r : ℕ) → r < roomCount → ((q : ℕ) → (q ≡ r → ⊥) → held q (take (suc i) l) ≡ held q (take i l))
+      → held r (take (suc i) l) ≡ getD n r 0 + 1
       → set n r (getD n r 0 + 1) ≡ heldEach (take (suc i) l)
   unfolding heldEach
-  set-each r room others more = rw (← more, c .counts) (sym (tab-set (λ q. held q (take i l)) (λ q. held q (take (suc i) l)) roomCount r room others))
+  set-each r room others more = rw (← more, c .counts)
+      (sym (tab-set (λ q. held q (take i l)) (λ q. held q (take (suc i) l)) roomCount r room others))
 
-  pub counted-held : (r : ℕ) → i < length l → r < 8 → getD l i 0 ≡ r + 1 → getD n r 0 < mostHeld → Counted l (i + 1) (set n r (getD n r 0 + 1)) (seconds + getD n r 0)
+  pub counted-held : (r : ℕ) → i < length l → r < roomCount → getD l i 0 ≡ r + 1 → getD n r 0 < mostHeld
+      → Counted l (i + 1) (set n r (getD n r 0 + 1)) (seconds + getD n r 0)
   counted-held r h room e one =
       let k = counted-at r room in
       let more : held r (take (suc i) l) ≡ getD n r 0 + 1 = omega (arith, held-next r h, hit-yes (getD l i 0) (r + 1) e) in
-      let others : (q : ℕ) → (q ≡ r → ⊥) → held q (take (suc i) l) ≡ held q (take i l) = λ q d. omega (arith, held-next q h, hit-no (getD l i 0) (q + 1) (λ y. d (omega arith))) in
+      let others : (q : ℕ) → (q ≡ r → ⊥)
+      → held q (take (suc i) l) ≡ held q (take i l) = λ q d. omega
+      (arith, held-next q h, hit-no (getD l i 0) (q + 1) (λ y. d (omega arith))) in
       let f = free-next h in
       let g = hit-no (getD l i 0) 0 (λ y. omega arith) in
       let w = hit-no (held r (take (suc i) l)) 0 (λ y. omega arith) in
@@ -89,11 +95,19 @@ module _ (l n : List ℕ) (i seconds : ℕ) (c : Counted l i n seconds) where
   pub counted-stranger : i < length l → 8 < getD l i 0 → false ≡ fair l
   counted-stranger h k = by-test (fair l) (λ t. absurd (omega (arith, fair-parts l .fact t .0 i h))) sym
 
-  pub counted-third : (r : ℕ) → i < length l → r < 8 → getD l i 0 ≡ r + 1 → mostHeld ≤ getD n r 0 → false ≡ fair l
+  pub counted-third : (r : ℕ) → i < length l → r < roomCount → getD l i 0 ≡ r + 1 → mostHeld ≤ getD n r 0 → false ≡ fair l
   unfolding held
   counted-third r h room e k =
       by-test (fair l)
-      (λ t. absurd (omega (arith, fair-parts l .fact t .1 .0 r room, held-next r h, hit-yes (getD l i 0) (r + 1) e, counted-at r room, count-take-below (r + 1) l (suc i))))
+      (λ t. absurd (omega (
+        arith,
+        fair-parts l .fact t .1 .0 r room,
+        held-next r h,
+        hit-yes (getD l i 0)
+            (r + 1) e,
+        counted-at r room,
+        count-take-below (r + 1) l (suc i),
+      )))
       sym
 
   pub counted-end : i ≡ length l → leb (seconds + 8) (length l) ≡ fair l
@@ -101,5 +115,7 @@ module _ (l n : List ℕ) (i seconds : ℕ) (c : Counted l i n seconds) where
       let a : take i l ≡ l = take-all i l (omega arith) in
       let s = rw a at (c .sum) in
       by-test (leb (seconds + 8) (length l))
-      (λ t. t ∙ sym (fair-parts l .test (λ p h. c .known p (omega arith), (λ r h. rw a at (c .two r h), omega (arith, leb-true (seconds + 8) (length l) t)))))
-      (λ t. t ∙ by-test (fair l) (λ u. absurd (omega (arith, fair-parts l .fact u .1 .1, leb-false (seconds + 8) (length l) t))) sym)
+      (λ t. t ∙ sym (fair-parts l .test
+      (λ p h. c .known p (omega arith), (λ r h. rw a at (c .two r h), omega (arith, leb-true (seconds + 8) (length l) t)))))
+      (λ t. t ∙ by-test (fair l)
+      (λ u. absurd (omega (arith, fair-parts l .fact u .1 .1, leb-false (seconds + 8) (length l) t))) sym)

@@ -13,7 +13,8 @@ use Rattle.word.proofs.Lists.{range-splice-same}
 use Rattle.rooms.specs.Rooms.{heldPlaces}
 
 -- ---- what is left of a list, when it is known
-pub drop-first : (ps : List ℕ) (n x : ℕ) (xs : List ℕ) → drop n ps ≡ x ∷ xs → (n < length ps) × ((getD ps n 0 ≡ x) × (drop (suc n) ps ≡ xs))
+pub drop-first : (ps : List ℕ) (n x : ℕ) (xs : List ℕ) → drop n ps ≡ x ∷ xs → (n < length ps)
+    × ((getD ps n 0 ≡ x) × (drop (suc n) ps ≡ xs))
 drop-first ps n x xs q = by-lt n (length ps)
     (λ h. let e = sym (drop-cons ps n 0 h) ∙ q in (h, (ap (λ (l : List ℕ). getD l 0 0) e, ap (λ (l : List ℕ). drop 1 l) e)))
     (λ h. absurd (omega (arith, ap length q, length-drop n ps)))

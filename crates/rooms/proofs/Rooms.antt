@@ -12,15 +12,19 @@ use Rattle.word.specs.Runs.{Says}
 use Rattle.word.proofs.Cases.{by-test, by-eq, by-lt}
 use Rattle.word.proofs.Says.{says-le, says-and, says-as, says-every}
 use Rattle.word.specs.Limits.{roomCount, placeCount}
-use Rattle.rooms.specs.Rooms.{mostHeld, hit, count, free, held, heldEach, idle, atMost, fair, Fair, allFree, lowestFree, placeRefusal}
-use Rattle.rooms.proofs.Count.{hit-yes, hit-no, hit-most, count-set, count-some, count-three, tab-set, each-length, each-at, lowest-inside, lowest-is-free}
+use Rattle.rooms.specs.Rooms.{mostHeld, hit, count, free, held, heldEach, idle, atMost, fair, Fair, allFree, lowestFree}
+use Rattle.rooms.specs.Rooms.{placeRefusal}
+use Rattle.rooms.proofs.Count.{hit-yes, hit-no, hit-most, count-set, count-some, count-three, tab-set, each-length, each-at}
+use Rattle.rooms.proofs.Count.{lowest-inside, lowest-is-free}
 
 -- ---- the test and the facts
 at-most-says : (m n : ℕ) → Says (atMost m n) (n ≤ m)
 unfolding atMost
 at-most-says m n = says-le n m
 
-pub fair-parts : (l : List ℕ) → Says (fair l) (((p : ℕ) → p < length l → getD l p 0 ≤ roomCount) × (((r : ℕ) → r < roomCount → held r l ≤ mostHeld) × (idle l ≤ free l)))
+pub fair-parts : (l : List ℕ)
+    → Says (fair l) (((p : ℕ) → p < length l → getD l p 0 ≤ roomCount)
+    × (((r : ℕ) → r < roomCount → held r l ≤ mostHeld) × (idle l ≤ free l)))
 unfolding fair
 fair-parts l =
     let n = each-length l in
@@ -123,8 +127,10 @@ module _ (l : List ℕ) (r : ℕ) (f : Fair l) (h : r < roomCount) (q : placeRef
       let there : p < length l = omega (arith, f .twelve, given-place) in
       let e = lowest-is-free l in
       let a = place-passed l r q in
-      let n : held r (set l p (r + 1)) ≡ held r l + 1 = omega (arith, held-set l p (r + 1) there r, hit-no (getD l p 0) (r + 1) (λ z. omega arith), hit-yes (r + 1) (r + 1) refl) in
-      let m : free (set l p (r + 1)) + 1 ≡ free l = omega (arith, free-set l p (r + 1) there, hit-yes (getD l p 0) 0 e, hit-no (r + 1) 0 (λ z. omega arith)) in
+      let n : held r (set l p (r + 1)) ≡ held r l + 1 = omega
+      (arith, held-set l p (r + 1) there r, hit-no (getD l p 0) (r + 1) (λ z. omega arith), hit-yes (r + 1) (r + 1) refl) in
+      let m : free (set l p (r + 1)) + 1 ≡ free l = omega
+      (arith, free-set l p (r + 1) there, hit-yes (getD l p 0) 0 e, hit-no (r + 1) 0 (λ z. omega arith)) in
       changed-fair l p (r + 1) r f there h (λ o d. (λ z. omega arith, λ z. d (omega arith))) (omega arith) (omega arith)
       (λ i. let w = hit-no (held r (set l p (r + 1))) 0 (λ z. omega arith) in
       by-eq (held r l) 0
@@ -136,8 +142,10 @@ room-freed : (l : List ℕ) (p r : ℕ) → Fair l → getD l p 0 ≡ r + 1 → 
 room-freed l p r f e =
     let there : p < length l = by-lt p (length l) (λ h. h) (λ h. absurd (omega (arith, List·getD-eq-default l 0 h))) in
     let room : r < roomCount = omega (arith, f .known p (omega (arith, f .twelve))) in
-    let n : held r (set l p 0) + 1 ≡ held r l = omega (arith, held-set l p 0 there r, hit-yes (getD l p 0) (r + 1) e, hit-no 0 (r + 1) (λ z. omega arith)) in
-    let m : free (set l p 0) ≡ free l + 1 = omega (arith, free-set l p 0 there, hit-no (getD l p 0) 0 (λ z. omega arith), hit-yes 0 0 refl) in
+    let n : held r (set l p 0) + 1 ≡ held r l = omega
+    (arith, held-set l p 0 there r, hit-yes (getD l p 0) (r + 1) e, hit-no 0 (r + 1) (λ z. omega arith)) in
+    let m : free (set l p 0) ≡ free l + 1 = omega
+    (arith, free-set l p 0 there, hit-no (getD l p 0) 0 (λ z. omega arith), hit-yes 0 0 refl) in
     changed-fair l p 0 r f there room (λ o d. (λ z. d (omega arith), λ z. omega arith)) (omega arith) (omega (arith, f .two r room))
     (λ i. omega (arith, hit-most (held r (set l p 0)) 0, f .enough))
 

@@ -19,7 +19,7 @@ use Rattle.program.specs.declared.SegmentRead.{SegmentRead}
 use Rattle.program.specs.declared.SegmentRead.the-variants.{Good as segment-read, Bad as no-segment}
 use Rattle.program.specs.declared.TableSectionRead.{TableSectionRead}
 use Rattle.program.specs.declared.TableSectionRead.the-variants.{Good as section-read, Bad as no-section}
-use Rattle.program.specs.Sections.{bankOf, withDbank, withIbank, segmentOf, tableSectionOf}
+use Rattle.program.specs.Sections.{lastWord, bankOf, withDbank, withIbank, segmentOf, tableSectionOf}
 use Rattle.group.specs.declared.GroupStep.{GroupStep}
 use Rattle.group.specs.declared.GroupStep.the-variants.{Done as group-done, Refused as group-refused}
 use Rattle.group.specs.declared.Section.{Section}
@@ -69,7 +69,8 @@ ofSection (no-section f) = Among 17 21 f
 
 bank-fault : (w : ℕ) → ofBank (bankOf w)
 unfolding bankOf
-bank-fault w = both ofBank (eqb (part 34 2 w) 0) (both ofBank (eqb (part 16 2 w) 0) tt (omega arith, omega arith)) (omega arith, omega arith)
+bank-fault w = both ofBank (eqb (part 34 2 w) 0) (both ofBank (eqb (part 16 2 w) 0) tt (omega arith, omega arith))
+    (omega arith, omega arith)
 
 dbank-fault : (i : Bank) (d : BankRead) → ofBank d → ofSegment (withDbank i d)
 dbank-fault i (bank-read d) h = tt
@@ -87,7 +88,8 @@ section-fault : (w : ℕ) → ofSection (tableSectionOf w)
 unfolding tableSectionOf
 section-fault w =
     both ofSection (eqb (part 34 2 w) 1)
-    (both ofSection (eqb (part 8 10 w) 0) (both ofSection (eqb (part 18 16 w) 0) (omega arith, omega arith) tt) (omega arith, omega arith))
+    (both ofSection (eqb (part 8 10 w) 0) (both ofSection (eqb (part 18 16 w) 0) (omega arith, omega arith) tt)
+    (omega arith, omega arith))
     (omega arith, omega arith)
 
 module _ (x : Load) where
@@ -98,7 +100,7 @@ module _ (x : Load) where
       let d = bankFits (x .area) (g .dbank) in
       (and-left i _ q, and-left d _ (and-right i _ q))
 
-  with-segment : (c : LabelCounts) (i : ℕ) → i + 3 ≤ 254 → (r : SegmentRead) → ofSegment r
+  with-segment : (c : LabelCounts) (i : ℕ) → i + 3 ≤ lastWord → (r : SegmentRead) → ofSegment r
       → ItemLeads x (Program c segment-due) i (withSegment (x .area) (x .tables) c (i + 4) r)
   unfolding withSegment
   with-segment c i h (segment-read g) k =
@@ -107,42 +109,53 @@ module _ (x : Load) where
       (λ q. (omega arith, omega arith))
   with-segment c i h (no-segment f) k = k
 
-  segment-leads : (c : LabelCounts) (block : List ℕ) (i : ℕ) → ItemLeads x (Program c segment-due) i (segmentStep (x .area) (x .tables) c block i)
+  segment-leads : (c : LabelCounts) (block : List ℕ) (i : ℕ)
+      → ItemLeads x (Program c segment-due) i (segmentStep (x .area) (x .tables) c block i)
   unfolding segmentStep
   segment-leads c block i =
-      when (ItemLeads x (Program c segment-due) i) (leb (i + 3) 254)
-      (λ q. with-segment c i (leb-true (i + 3) 254 q) (segmentOf (getD block i 0) (getD block (i + 1) 0)) (segment-fault (getD block i 0) (getD block (i + 1) 0)))
+      when (ItemLeads x (Program c segment-due) i) (leb (i + 3) lastWord)
+      (λ q. with-segment c i (leb-true (i + 3) lastWord q) (segmentOf (getD block i 0) (getD block (i + 1) 0))
+      (segment-fault (getD block i 0) (getD block (i + 1) 0)))
       (λ q. (omega arith, omega arith))
 
   -- one section fewer to come is no more
-  fewer-fits : (io tables : ℕ) (c : LabelCounts) → labelCountsFit io tables c ≡ true → labelCountsFit io tables (record { channels = c .channels; sections = c .sections - 1 }) ≡ true
+  fewer-fits : (io tables : ℕ) (c : LabelCounts) → labelCountsFit io tables c ≡ true
+      → labelCountsFit io tables (record { channels = c .channels; sections = c .sections - 1 }) ≡ true
   unfolding labelCountsFit
   fewer-fits io tables c q =
       let s = says-and (says-le (c .channels) io) (says-le (c .sections) tables) .fact q in
       says-and (says-le (c .channels) io) (says-le (c .sections - 1) tables) .test (s .0, omega arith)
 
-  with-section : (c : LabelCounts) (least : Reference) (ibank : Bank) (i : ℕ) → i ≤ 254 → (r : TableSectionRead) → ofSection r
+  with-section : (c : LabelCounts) (least : Reference) (ibank : Bank) (i : ℕ) → i ≤ lastWord → (r : TableSectionRead) → ofSection r
       → ItemLeads x (Program c (section-due least ibank)) i (withSection (x .tables) c (least .0) ibank (i + 1) r)
   unfolding withSection
   with-section c least ibank i h (section-read t) k =
       both (ItemLeads x (Program c (section-due least ibank)) i) (leb (least .0) (t .number .0))
       (when (ItemLeads x (Program c (section-due least ibank)) i) (sectionFits (x .tables) t)
-      (λ q. (omega arith, omega arith, λ f. let d = says-section x c least ibank .fact f in says-table x (record { channels = c .channels; sections = c .sections - 1 }) t ibank .test (fewer-fits _ _ c (d .0), (q, d .1))))
+      (λ q. (
+        omega arith,
+        omega arith,
+        λ f. let d = says-section x c least ibank .fact f in says-table x
+            (record { channels = c .channels; sections = c .sections - 1 }) t ibank .test (fewer-fits _ _ c (d .0), (q, d .1)),
+      ))
       (λ q. (omega arith, omega arith)))
       (omega arith, omega arith)
   with-section c least ibank i h (no-section f) k = k
 
-  section-leads : (c : LabelCounts) (least : Reference) (ibank : Bank) (block : List ℕ) (i : ℕ) → i ≤ 254
+  section-leads : (c : LabelCounts) (least : Reference) (ibank : Bank) (block : List ℕ) (i : ℕ) → i ≤ lastWord
       → ItemLeads x (Program c (section-due least ibank)) i (sectionStep (x .tables) c (least .0) ibank block i)
   unfolding sectionStep
-  section-leads c least ibank block i h = with-section c least ibank i h (tableSectionOf (getD block i 0)) (section-fault (getD block i 0))
+  section-leads c least ibank block i h = with-section c least ibank i h (tableSectionOf (getD block i 0))
+      (section-fault (getD block i 0))
 
   -- ---- groups: their section's stage fits, so what the section leaves fits
-  module _ (c : LabelCounts) (same : Due) (least i : ℕ) (ibank : Bank) (fits : StageFits x (Program c same) → LabelCountsFit x c × BankFits x ibank) where
+  module _ (c : LabelCounts) (same : Due) (least i : ℕ) (ibank : Bank)
+      (fits : StageFits x (Program c same) → LabelCountsFit x c × BankFits x ibank) where
     last-leads : (p : ℕ) → i < p → p ≤ 255 → ItemLeads x (Program c same) i (afterLast c least ibank p)
     unfolding afterLast stageFits
     last-leads p h k =
-        both (ItemLeads x (Program c same) i) (eqb (c .sections) 0) (λ f. fits f .1) (h, k, λ f. says-section x c (record { 0 = least }) ibank .test (fits f))
+        both (ItemLeads x (Program c same) i) (eqb (c .sections) 0) (λ f. fits f .1)
+        (h, k, λ f. says-section x c (record { 0 = least }) ibank .test (fits f))
 
     answer-leads : (r : GroupStep) → ofGroup r → ((p : ℕ) (last : Bool) → r ≡ group-done p last → (i < p) × (p ≤ 255))
         → ItemLeads x (Program c same) i (afterGroup c same least ibank r)
@@ -155,10 +168,12 @@ module _ (x : Load) where
     group-leads : (section : Section) (block core : List ℕ)
         → ItemLeads x (Program c same) i (afterGroup c same least ibank (groupStep (assignments x c) section block i core .answer))
     group-leads section block core =
-        answer-leads (groupStep (assignments x c) section block i core .answer) (group-faults (assignments x c) section block i core)
+        answer-leads (groupStep (assignments x c) section block i core .answer)
+        (group-faults (assignments x c) section block i core)
         (λ p last q. let e = groups.group-done (assignments x c) section block i core p last q in (e .after, e .most))
 
-  pub item-leads : (c : LabelCounts) (due : Due) (block : List ℕ) (i : ℕ) (core : List ℕ) → i ≤ 254 → ItemLeads x (Program c due) i (itemStep x c due block i core .item)
+  pub item-leads : (c : LabelCounts) (due : Due) (block : List ℕ) (i : ℕ) (core : List ℕ) → i ≤ lastWord
+      → ItemLeads x (Program c due) i (itemStep x c due block i core .item)
   unfolding itemStep
   item-leads c segment-due block i core h = segment-leads c block i
   item-leads c (SegmentGroup g) block i core h =
@@ -172,8 +187,9 @@ module _ (x : Load) where
       (inSection x t) block core
 
   -- an item that goes on goes to a later place, at most 255, and keeps the stage's numbers in their ranges
-  module _ (c : LabelCounts) (due : Due) (block : List ℕ) (i : ℕ) (core : List ℕ) (d : LabelCounts) (t : Due) (p : ℕ) (e : itemStep x c due block i core .item ≡ Go d t p)
-      (h : i ≤ 254) where
+  module _ (c : LabelCounts) (due : Due) (block : List ℕ) (i : ℕ) (core : List ℕ) (d : LabelCounts) (t : Due) (p : ℕ)
+      (e : itemStep x c due block i core .item ≡ Go d t p)
+      (h : i ≤ lastWord) where
     leads : ItemLeads x (Program c due) i (Go d t p)
     leads = rw e at (item-leads c due block i core h)
 

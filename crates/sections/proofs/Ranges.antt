@@ -5,6 +5,7 @@ use mathlib.Core.Bool.{Bool, true}
 use mathlib.Core.List.{List}
 use native.Mathlib.Omega.{arith}
 use lib.ListN.{length, getD}
+use Rattle.program.specs.Sections.{lastWord}
 use Rattle.word.specs.declared.Area.{Area}
 use Rattle.word.specs.declared.Reference.{Reference}
 use Rattle.word.specs.Lists.{every}
@@ -59,22 +60,26 @@ module _ (x : Load) (c : LabelCounts) where
   says-bank b = says-true (bankFits (x .area) b)
 
   -- the segment's head asks for nothing beside the label's counts
-  pub says-first : Says (stageFits (x .area) (x .tables) (length (x .ios)) (Program c segment-due)) (LabelCountsFit x c × (_≡_ {A = Bool} true true))
+  pub says-first : Says (stageFits (x .area) (x .tables) (length (x .ios)) (Program c segment-due))
+      (LabelCountsFit x c × (_≡_ {A = Bool} true true))
   unfolding dueFits stageFits
   says-first = says-and says-label-counts (says-true true)
 
   pub says-segment : (g : Segment)
-      → Says (stageFits (x .area) (x .tables) (length (x .ios)) (Program c (SegmentGroup g))) (LabelCountsFit x c × (BankFits x (g .ibank) × BankFits x (g .dbank)))
+      → Says (stageFits (x .area) (x .tables) (length (x .ios)) (Program c (SegmentGroup g)))
+      (LabelCountsFit x c × (BankFits x (g .ibank) × BankFits x (g .dbank)))
   unfolding dueFits stageFits
   says-segment g = says-and says-label-counts (says-and (says-bank (g .ibank)) (says-bank (g .dbank)))
 
   pub says-section : (t : Reference) (ibank : Bank)
-      → Says (stageFits (x .area) (x .tables) (length (x .ios)) (Program c (section-due t ibank))) (LabelCountsFit x c × BankFits x ibank)
+      → Says (stageFits (x .area) (x .tables) (length (x .ios)) (Program c (section-due t ibank)))
+      (LabelCountsFit x c × BankFits x ibank)
   unfolding dueFits stageFits
   says-section t ibank = says-and says-label-counts (says-bank ibank)
 
   pub says-table : (t : TableSection) (ibank : Bank)
-      → Says (stageFits (x .area) (x .tables) (length (x .ios)) (Program c (SectionGroup t ibank))) (LabelCountsFit x c × ((sectionFits (x .tables) t ≡ true) × BankFits x ibank))
+      → Says (stageFits (x .area) (x .tables) (length (x .ios)) (Program c (SectionGroup t ibank)))
+      (LabelCountsFit x c × ((sectionFits (x .tables) t ≡ true) × BankFits x ibank))
   unfolding dueFits stageFits
   says-table t ibank = says-and says-label-counts (says-and (says-true (sectionFits (x .tables) t)) (says-bank ibank))
 
@@ -89,15 +94,17 @@ module _ (x : Load) where
       → (t .number .0 < length (x .tables)) × (t .count ≤ getD (x .tables) (t .number .0) noTable .len)
   table-there c t ibank q = count-inside (x .tables) t (says-table x c t ibank .fact q .1 .0)
 
-  pub table-room : (c : LabelCounts) (t : TableSection) (ibank : Bank) → every (tableInside (x .area)) (x .tables) ≡ true → StageFits x (Program c (SectionGroup t ibank))
+  pub table-room : (c : LabelCounts) (t : TableSection) (ibank : Bank) → every (tableInside (x .area)) (x .tables) ≡ true
+      → StageFits x (Program c (SectionGroup t ibank))
       → InArea (x .area) (in-table (getD (x .tables) (t .number .0) noTable) (t .count))
   table-room c t ibank e q =
       let h = table-there c t ibank q in
-      let f = says-inside (x .area) (getD (x .tables) (t .number .0) noTable) .fact (every-place noTable (tableInside (x .area)) (x .tables) (t .number .0) (h .0) e) in
+      let f = says-inside (x .area) (getD (x .tables) (t .number .0) noTable) .fact
+      (every-place noTable (tableInside (x .area)) (x .tables) (t .number .0) (h .0) e) in
       (f .0, f .1, h .1)
   -- a load that waits for a group is ready for it
 
-module _ (g : Given) (l : List ℕ) (readable : Readable g l) (block core : List ℕ) (i : ℕ) (place : i ≤ 254) where
+module _ (g : Given) (l : List ℕ) (readable : Readable g l) (block core : List ℕ) (i : ℕ) (place : i ≤ lastWord) where
   abbrev x : Load
   x = loadOf g l
 
@@ -112,7 +119,8 @@ module _ (g : Given) (l : List ℕ) (readable : Readable g l) (block core : List
     place = place;
   }
 
-  pub segment-ready : (c : LabelCounts) (s : Segment) → Waits x (Program c (SegmentGroup s)) block core → Ready g l (in-segment s) block i core
+  pub segment-ready : (c : LabelCounts) (s : Segment) → Waits x (Program c (SegmentGroup s)) block core
+      → Ready g l (in-segment s) block i core
   segment-ready c s w = ready _ _ (segment-room x c s (w .stage)) w
 
   pub table-ready : (c : LabelCounts) (t : TableSection) (ibank : Bank) → Waits x (Program c (SectionGroup t ibank)) block core

@@ -3,6 +3,7 @@ use Prim.Native.Nat.{ℕ, _+_, _≤_}
 use mathlib.Core.Path.{_≡_, refl}
 use mathlib.Core.List.{List}
 use native.Mathlib.Omega.{arith}
+use Rattle.program.specs.Sections.{lastWord}
 use Rattle.lists.specs.declared.Given.{Given}
 use Rattle.group.specs.declared.Section.{Section}
 use Rattle.group.specs.declared.Section.the-variants.{Segment as in-segment, Table as in-table}
@@ -35,7 +36,7 @@ module _ (g : Given) (l : List ℕ) (readable : Readable g l) (block : List ℕ)
         ≡ grouped c due (o .least .0) (o .ibank) (groupStep (assignments (loadOf g l) c) section block i core)
     pub ready : Ready g l section block i core
 
-  pub reads-group : i ≤ 254 → (due : Due) → Waits (loadOf g l) (Program c due) block core
+  pub reads-group : i ≤ lastWord → (due : Due) → Waits (loadOf g l) (Program c due) block core
       → (v : Reading) → v ≡ readingOf g l due → (section : Section) (o : Onward) → v ≡ Group section o → DueGroup due section o
   unfolding readingOf itemStep
   reads-group h segment-due w v k section o e = let z : _≡_ {A = ℕ} 0 1 = cc in absurd (omega arith)

@@ -1,5 +1,5 @@
--- How the code goes through a program block: a group's answer, the core that an item leaves, and at every turn the items from place i on
--- decide.
+-- How the code goes through a program block: a group's answer, the core that an item leaves, and at every turn the items from place
+-- i on decide.
 use Prim.Native.Nat.{ℕ, zero, suc, _+_, _-_, _≤_, _<_}
 use mathlib.Core.Path.{_≡_, refl, sym, ap, _∙_}
 use mathlib.Core.Bool.{Bool, true, false, _||_}
@@ -8,6 +8,8 @@ use native.Mathlib.Omega.{arith}
 use lib.ListN.{length, getD, replicate}
 use lib.Dec.{leb}
 use borrow.Author.Tests.{le-leb, lt-leb, leb-false, eq-eqb, ne-eqb}
+use Rattle.word.specs.Limits.{wordsInBlock}
+use Rattle.program.specs.Sections.{lastWord}
 use Rattle.word.specs.Lists.{every, splice}
 use Rattle.word.proofs.Lists.{splice-whole}
 use Rattle.word.proofs.Cases.{by-test}
@@ -34,7 +36,8 @@ use Rattle.sections.specs.declared.Item.{Item}
 use Rattle.sections.specs.declared.Item.the-variants.{Go, Stop}
 use Rattle.lists.specs.Load.{Load, loadOf, coreTable, coreTables, Readable}
 use Rattle.sections.specs.Waits.{assignments, Waits}
-use Rattle.sections.specs.Program.{inSection, afterGroup, grouped, headed, itemStep, ItemOutcome, ItemMeets, StepOutcome, StepMeets, closes, followed, programFrom}
+use Rattle.sections.specs.Program.{inSection, afterGroup, grouped, headed, itemStep, ItemOutcome, ItemMeets, StepOutcome}
+use Rattle.sections.specs.Program.{StepMeets, closes, followed, programFrom}
 use Rattle.sections.proofs.Ranges.{StageFits, segment-room, table-there, table-room}
 use Rattle.sections.proofs.Leads.{item-onward, item-fits}
 
@@ -44,12 +47,14 @@ pub assigned-same : (g : Given) (l : List ℕ) (c : LabelCounts)
 unfolding assignedBy
 assigned-same g l c = refl
 
-pub group-met : (c : LabelCounts) (same : Due) (least : ℕ) (ibank : Bank) (o : GroupOutcome) (r : GroupStep) (core : List ℕ) (it : Item)
+pub group-met : (c : LabelCounts) (same : Due) (least : ℕ) (ibank : Bank) (o : GroupOutcome) (r : GroupStep) (core : List ℕ)
+    (it : Item)
     → GroupMeets o r core → it ≡ afterGroup c same least ibank r → ItemMeets (grouped c same least ibank o) it core
 group-met c same least ibank o r core it m e = record { told = e ∙ ap (afterGroup c same least ibank) (m .told); left = m .left }
 
 -- a table section's table is there, so the one that the code reads is it
-module _ (g : Given) (l : List ℕ) (readable : Readable g l) (c : LabelCounts) (t : TableSection) (ibank : Bank) (block core : List ℕ)
+module _ (g : Given) (l : List ℕ) (readable : Readable g l) (c : LabelCounts) (t : TableSection) (ibank : Bank)
+    (block core : List ℕ)
     (w : Waits (loadOf g l) (Program c (SectionGroup t ibank)) block core) where
   there : t .number .0 < length (coreTables g l)
   there = table-there (loadOf g l) c t ibank (w .stage) .0
@@ -74,19 +79,24 @@ module _ (x : Load) (block : List ℕ) where
   module _ (i : ℕ) (P : (List ℕ → ItemOutcome) → Type 0) (none : (it : Item) → P (headed it)) (c : LabelCounts)
       (group : (same : Due) (least : ℕ) (ibank : Bank) (section : Section) → InArea (x .area) section
       → P (λ core. grouped c same least ibank (groupStep (assignments x c) section block i core))) where
-    pub item-cases : (due : Due) → every (tableInside (x .area)) (x .tables) ≡ true → StageFits x (Program c due) → P (itemStep x c due block i)
+    pub item-cases : (due : Due) → every (tableInside (x .area)) (x .tables) ≡ true → StageFits x (Program c due)
+        → P (itemStep x c due block i)
     unfolding itemStep
     item-cases segment-due e f = none _
     item-cases (SegmentGroup g) e f = group (SegmentGroup g) 0 (g .ibank) (in-segment g) (segment-room x c g f)
     item-cases (section-due t ibank) e f = none _
-    item-cases (SectionGroup t ibank) e f = group (SectionGroup t ibank) (t .number .0 + 1) ibank (inSection x t) (table-room x c t ibank e f)
+    item-cases (SectionGroup t ibank) e f = group (SectionGroup t ibank) (t .number .0 + 1) ibank (inSection x t)
+        (table-room x c t ibank e f)
 
-  pub item-length : (c : LabelCounts) (due : Due) (i : ℕ) (core : List ℕ) → InPlace x (Program c due) core → length (itemStep x c due block i core .core) ≡ length core
+  pub item-length : (c : LabelCounts) (due : Due) (i : ℕ) (core : List ℕ) → InPlace x (Program c due) core
+      → length (itemStep x c due block i core .core) ≡ length core
   item-length c due i core w =
       item-cases i (λ (f : List ℕ → ItemOutcome). length (f core .core) ≡ length core) (λ it. refl) c
-      (λ same least ibank section room. group-length (assignments x c) section block i core room (w .inside)) due (w .tables) (w .stage)
+      (λ same least ibank section room. group-length (assignments x c) section block i core room (w .inside)) due (w .tables)
+      (w .stage)
 
-  module _ (c : LabelCounts) (due : Due) (i : ℕ) (core : List ℕ) (d : LabelCounts) (t : Due) (p : ℕ) (e : itemStep x c due block i core .item ≡ Go d t p) (h : i ≤ 254) where
+  module _ (c : LabelCounts) (due : Due) (i : ℕ) (core : List ℕ) (d : LabelCounts) (t : Due) (p : ℕ)
+      (e : itemStep x c due block i core .item ≡ Go d t p) (h : i ≤ lastWord) where
     pub item-in-place : InPlace x (Program c due) core → InPlace x (Program d t) (itemStep x c due block i core .core)
     item-in-place w = record {
       inside = rw (item-length c due i core w) (w .inside);
@@ -109,11 +119,12 @@ module _ (x : Load) (block : List ℕ) where
 
   -- ---- the block
   follow-same : (it : Item) (core : List ℕ) (f g : LabelCounts → Due → ℕ → List ℕ → StepOutcome)
-      → ((d : LabelCounts) (t : Due) (p : ℕ) → it ≡ Go d t p → f d t p core ≡ g d t p core) → followed it core f ≡ followed it core g
+      → ((d : LabelCounts) (t : Due) (p : ℕ) → it ≡ Go d t p → f d t p core ≡ g d t p core)
+      → followed it core f ≡ followed it core g
   follow-same (Go d t p) core f g h = h d t p refl
   follow-same (Stop r) core f g h = refl
 
-  pub open-place : (i : ℕ) → closes block i ≡ false → i ≤ 254
+  pub open-place : (i : ℕ) → closes block i ≡ false → i ≤ lastWord
   unfolding closes
   open-place i q = let k = leb-false 255 i (neither (leb 255 i) _ q) in omega arith
     where
@@ -133,15 +144,18 @@ module _ (x : Load) (block : List ℕ) where
 
   pub from-open : (n : ℕ) (c : LabelCounts) (due : Due) (i : ℕ) (core : List ℕ) → closes block i ≡ false
       → programFrom (suc n) x c due block i core
-      ≡ followed (itemStep x c due block i core .item) (itemStep x c due block i core .core) (λ d t p after. programFrom n x d t block p after)
+      ≡ followed (itemStep x c due block i core .item) (itemStep x c due block i core .core)
+      (λ d t p after. programFrom n x d t block p after)
   unfolding programFrom
   from-open n c due i core q = rw q
 
   -- more turns than there are words left make no difference
   pub fuel-enough : (n m : ℕ) (c : LabelCounts) (due : Due) (i : ℕ) (core : List ℕ) → 255 ≤ n + i → 255 ≤ m + i
       → programFrom n x c due block i core ≡ programFrom m x c due block i core
-  fuel-enough zero m c due i core h k = from-closed 0 c due i core (past i (omega arith)) ∙ sym (from-closed m c due i core (past i (omega arith)))
-  fuel-enough (suc n) zero c due i core h k = from-closed (suc n) c due i core (past i (omega arith)) ∙ sym (from-closed 0 c due i core (past i (omega arith)))
+  fuel-enough zero m c due i core h k = from-closed 0 c due i core (past i (omega arith))
+      ∙ sym (from-closed m c due i core (past i (omega arith)))
+  fuel-enough (suc n) zero c due i core h k = from-closed (suc n) c due i core (past i (omega arith))
+      ∙ sym (from-closed 0 c due i core (past i (omega arith)))
   fuel-enough (suc n) (suc m) c due i core h k = by-test (closes block i)
       (λ q. from-closed (suc n) c due i core q ∙ sym (from-closed (suc m) c due i core q))
       (λ q. from-open n c due i core q
@@ -153,39 +167,44 @@ module _ (x : Load) (block : List ℕ) where
 
   -- ---- the code's loop, where `due` is due at place i: the items from there on decide the outcome o
   module _ (c : LabelCounts) (due : Due) (i : ℕ) (core : List ℕ) (o : StepOutcome) where
-    pub turn-zero : i < 255 → getD block i 0 ≡ 0 → o ≡ programFrom (255 - i) x c due block i core → StepMeets o (More (Program c due)) core
+    pub turn-zero : i < 255 → getD block i 0 ≡ 0 → o ≡ programFrom (255 - i) x c due block i core
+        → StepMeets o (More (Program c due)) core
     unfolding closes
     turn-zero h z q =
-        rw (q ∙ from-closed (255 - i) c due i core (rw (lt-leb 255 i h, eq-eqb (getD block i 0) 0 z))) (record { told = refl; left = refl })
+        rw (q ∙ from-closed (255 - i) c due i core (rw (lt-leb 255 i h, eq-eqb (getD block i 0) 0 z)))
+        (record { told = refl; left = refl })
 
     pub turn-end : 255 ≤ i → o ≡ programFrom (255 - i) x c due block i core → StepMeets o (More (Program c due)) core
     turn-end h q = rw (q ∙ from-closed (255 - i) c due i core (past i h)) (record { told = refl; left = refl })
 
-    module _ (h : i < 255) (z : getD block i 0 ≡ 0 → ⊥) (q : o ≡ programFrom (255 - i) x c due block i core) (it : Item) (after : List ℕ)
+    module _ (h : i < 255) (z : getD block i 0 ≡ 0 → ⊥) (q : o ≡ programFrom (255 - i) x c due block i core) (it : Item)
+        (after : List ℕ)
         (m : ItemMeets (itemStep x c due block i core) it after) where
       opens : closes block i ≡ false
       unfolding closes
       opens = rw (lt-leb 255 i h, ne-eqb (getD block i 0) 0 z)
 
-      decides : o ≡ followed it after (λ d t p rest. programFrom (254 - i) x d t block p rest)
+      decides : o ≡ followed it after (λ d t p rest. programFrom (lastWord - i) x d t block p rest)
       decides =
-          let e : 255 - i ≡ suc (254 - i) = omega arith in
-          q ∙ rw (e, m .told, m .left) (from-open (254 - i) c due i core opens)
+          let e : 255 - i ≡ suc (lastWord - i) = omega arith in
+          q ∙ rw (e, m .told, m .left) (from-open (lastWord - i) c due i core opens)
 
-      pub turn-on : (d : LabelCounts) (t : Due) (p : ℕ) → it ≡ Go d t p → (i < p) × (p ≤ 255) × (o ≡ programFrom (255 - p) x d t block p after)
+      pub turn-on : (d : LabelCounts) (t : Due) (p : ℕ) → it ≡ Go d t p → (i < p) × (p ≤ 255)
+          × (o ≡ programFrom (255 - p) x d t block p after)
       turn-on d t p e =
           let l = item-onward x c due block i core d t p (sym (m .told) ∙ e) (omega arith) in
-          (l .0, l .1, rw e at decides ∙ fuel-enough (254 - i) (255 - p) d t p after (omega arith) (omega arith))
+          (l .0, l .1, rw e at decides ∙ fuel-enough (lastWord - i) (255 - p) d t p after (omega arith) (omega arith))
 
       pub turn-stop : (r : Step) → it ≡ Stop r → StepMeets o r after
       turn-stop r e = rw (rw e at decides) (record { told = refl; left = refl })
 
-      pub turn-waits : (d : LabelCounts) (t : Due) (p : ℕ) → it ≡ Go d t p → Waits x (Program c due) block core → Waits x (Program d t) block after
+      pub turn-waits : (d : LabelCounts) (t : Due) (p : ℕ) → it ≡ Go d t p → Waits x (Program c due) block core
+          → Waits x (Program d t) block after
       turn-waits d t p e w = rw (m .left) (item-waits c due i core d t p (sym (m .told) ∙ e) (omega arith) w)
 
       pub turn-length : Waits x (Program c due) block core → length after ≡ length core
       turn-length w = rw (m .left) (item-length c due i core (stands x (Program c due) block core w))
 
 -- ---- a copy of the lent block over 256 zeros is the block
-pub copy-same : (block copy : List ℕ) → length block ≡ 256 → copy ≡ splice (replicate 256 0) 0 block → copy ≡ block
+pub copy-same : (block copy : List ℕ) → length block ≡ wordsInBlock → copy ≡ splice (replicate 256 0) 0 block → copy ≡ block
 copy-same block copy long e = e ∙ splice-whole (replicate 256 0) block long

@@ -31,7 +31,8 @@ module _ {A : Type 0} (d : A) where
       (two-by f xs (λ i j l k. h (suc i) (suc j) (omega arith) (omega arith)))
 
 -- what follows for each element follows for all
-pub every-then : {A : Type 0} (f g : A → Bool) → ((x : A) → f x ≡ true → g x ≡ true) → (l : List A) → every f l ≡ true → every g l ≡ true
+pub every-then : {A : Type 0} (f g : A → Bool) → ((x : A) → f x ≡ true → g x ≡ true) → (l : List A) → every f l ≡ true
+    → every g l ≡ true
 unfolding every
 every-then f g h [] q = refl
 every-then f g h (x ∷ xs) q =

@@ -6,8 +6,11 @@ use mathlib.Core.List.{List, _++_, append-assoc, append-nil, [], _∷_}
 use native.Mathlib.Omega.{arith}
 use native.Mathlib.Numerals.{add-one}
 use native.Mathlib.Nat.{zero-add, add-sub-of-le, add-sub-cancel-left}
-use lib.ListN.{length, length-take, set, getD, take, drop, length-drop, take-append-drop, drop-of-length-le, length-append, List·getD-append}
-use lib.Seq.{paste, paste-zero, paste-suc, length-paste, drop-paste, drop-cons, drop-length, take-length, take-at, drop-at, take-append-le, drop-append-le, length-take-le, drop-drop, getD-take, getD-drop, getD-at, take-all, ext-getD, set-split, append-snoc}
+use lib.ListN.{length, length-take, set, getD, take, drop, length-drop, take-append-drop, drop-of-length-le, length-append}
+use lib.ListN.{List·getD-append}
+use lib.Seq.{paste, paste-zero, paste-suc, length-paste, drop-paste, drop-cons, drop-length, take-length, take-at, drop-at}
+use lib.Seq.{take-append-le, drop-append-le, length-take-le, drop-drop, getD-take, getD-drop, getD-at, take-all, ext-getD}
+use lib.Seq.{set-split, append-snoc}
 use Rattle.word.proofs.Cases.{by-lt}
 use Rattle.word.specs.Lists.{every, everyTwo, tab, range, splice}
 
@@ -27,7 +30,8 @@ module _ {A : Type 0} where
     every-ends h q = sym (q ∙ rw (drop-of-length-le l h))
 
   module _ (f : A → A → Bool) (d : A) (l : List A) (i : ℕ) (b : Bool) where
-    pub two-more : i < length l → every (f (getD l i d)) (drop (i + 1) l) ≡ true → b ≡ everyTwo f (drop i l) → b ≡ everyTwo f (drop (i + 1) l)
+    pub two-more : i < length l → every (f (getD l i d)) (drop (i + 1) l) ≡ true → b ≡ everyTwo f (drop i l)
+        → b ≡ everyTwo f (drop (i + 1) l)
     unfolding everyTwo
     two-more h t q = let u = rw add-one at t in q ∙ rw (drop-cons l i d h, u, add-one)
 
@@ -80,7 +84,8 @@ getD-range l a n i h = rw (getD-take, getD-drop)
 pub length-range-most : (l : List ℕ) (a n : ℕ) → length (range l a n) ≤ n
 length-range-most l a n = omega (arith, length-range-min l a n)
 
--- a loop from place i up to place last: what is left is `range l i (last - i)`; a turn takes its first number, at the end none is left
+-- a loop from place i up to place last: what is left is `range l i (last - i)`; a turn takes its first number, at the end none is
+-- left
 module _ (l : List ℕ) (i last : ℕ) where
   pub range-turn : i < last → last ≤ length l → range l i (last - i) ≡ getD l i 0 ∷ range l (i + 1) (last - (i + 1))
   unfolding range
@@ -120,7 +125,8 @@ front p q to n h =
     ap (take n) (drop-append-le to p q (omega arith)) ∙ take-append-le n (drop to p) q (rw length-drop (omega arith))
 
 -- what stands before the written stretch, and after it, is as it was
-pub range-splice-before : (l : List ℕ) (a : ℕ) (vs : List ℕ) (to n : ℕ) → to + n ≤ a → a + length vs ≤ length l → range (splice l a vs) to n ≡ range l to n
+pub range-splice-before : (l : List ℕ) (a : ℕ) (vs : List ℕ) (to n : ℕ) → to + n ≤ a → a + length vs ≤ length l
+    → range (splice l a vs) to n ≡ range l to n
 unfolding splice range
 range-splice-before l a vs to n h k =
     let s : length (take a l) ≡ a = length-take-le a l (omega arith) in
@@ -129,7 +135,8 @@ range-splice-before l a vs to n h k =
     ∙ sym (front (take a l) (drop a l) to n (omega arith))
     ∙ ap (λ (m : List ℕ). take n (drop to m)) (take-append-drop a l)
 
-pub range-splice-after : (l : List ℕ) (a : ℕ) (vs : List ℕ) (to n : ℕ) → a + length vs ≤ to → a + length vs ≤ length l → range (splice l a vs) to n ≡ range l to n
+pub range-splice-after : (l : List ℕ) (a : ℕ) (vs : List ℕ) (to n : ℕ) → a + length vs ≤ to → a + length vs ≤ length l
+    → range (splice l a vs) to n ≡ range l to n
 unfolding splice range
 range-splice-after l a vs to n h k =
     ap (take n)
@@ -140,7 +147,8 @@ range-splice-after l a vs to n h k =
     ∙ ap (λ (j : ℕ). drop j l) (add-sub-of-le h))
 
 -- number by number
-pub getD-splice-in : (l : List ℕ) (a : ℕ) (vs : List ℕ) (i : ℕ) → i < length vs → a + length vs ≤ length l → getD (splice l a vs) (a + i) 0 ≡ getD vs i 0
+pub getD-splice-in : (l : List ℕ) (a : ℕ) (vs : List ℕ) (i : ℕ) → i < length vs → a + length vs ≤ length l
+    → getD (splice l a vs) (a + i) 0 ≡ getD vs i 0
 getD-splice-in l a vs i h k =
     sym (getD-range (splice l a vs) a (length vs) i h) ∙ ap (λ (m : List ℕ). getD m i 0) (range-splice-same l a vs k)
 
@@ -199,12 +207,14 @@ unfolding splice
 set-splice l i v h = set-split l i v h ∙ rw add-one (sym (append-snoc (take i l) v (drop (suc i) l)))
 
 -- written twice at one place: the second stands
-pub splice-splice : (l : List ℕ) (a : ℕ) (vs ws : List ℕ) → length vs ≡ length ws → a + length vs ≤ length l → splice (splice l a vs) a ws ≡ splice l a ws
+pub splice-splice : (l : List ℕ) (a : ℕ) (vs ws : List ℕ) → length vs ≡ length ws → a + length vs ≤ length l
+    → splice (splice l a vs) a ws ≡ splice l a ws
 unfolding splice
 splice-splice l a vs ws e k =
     rw (← e)
     (ap (λ (m : List ℕ). m ++ take (length vs) ws ++ drop (a + length vs) (splice l a vs))
-    (ap (take a) (append-assoc (take a l) (take (length vs) vs) (drop (a + length vs) l)) ∙ take-at (take a l) _ a (length-take-le a l (omega arith)))
+    (ap (take a) (append-assoc (take a l) (take (length vs) vs) (drop (a + length vs) l))
+    ∙ take-at (take a l) _ a (length-take-le a l (omega arith)))
     ∙ ap (λ (m : List ℕ). take a l ++ take (length vs) ws ++ m) (drop-paste l a vs (length vs) (omega arith) (omega arith)))
 
 -- all of it replaced
@@ -219,7 +229,16 @@ unfolding splice
 splice-lent l a n vs h k =
     let d = drop a l in
     let t : length (take n d) ≡ n = length-take-le n d (rw length-drop (omega arith)) in
-    rw (add-sub-cancel-left, take-length, zero-add, append-assoc vs (drop (length vs) (take n d)) (drop n d), ← drop-append-le (length vs) (take n d) (drop n d) (omega arith), take-append-drop n d, drop-drop (length vs) a l)
+    rw (
+      add-sub-cancel-left,
+      take-length,
+      zero-add,
+      append-assoc vs (drop (length vs) (take n d)) (drop n d),
+      ← drop-append-le
+          (length vs) (take n d) (drop n d) (omega arith),
+      take-append-drop n d,
+      drop-drop (length vs) a l,
+    )
     (sym (append-assoc (take a l) vs (drop (a + length vs) l)))
 
 -- ---- the loop that writes a stretch: l with the first i numbers of s from place a on
@@ -230,7 +249,8 @@ pub copied-none : (l : List ℕ) (a : ℕ) (s : List ℕ) → l ≡ copied l a s
 unfolding copied
 copied-none l a s = paste-zero l a s
 
-pub copied-more : (l : List ℕ) (a : ℕ) (s : List ℕ) (i : ℕ) (e : List ℕ) (v : ℕ) → a + i < length l → i < length s → v ≡ getD s i 0 → e ≡ copied l a s i
+pub copied-more : (l : List ℕ) (a : ℕ) (s : List ℕ) (i : ℕ) (e : List ℕ) (v : ℕ) → a + i < length l → i < length s → v ≡ getD s i 0
+    → e ≡ copied l a s i
     → set e (a + i) v ≡ copied l a s (i + 1)
 unfolding copied
 copied-more l a s i e v h k w q = rw (q, w, add-one) (paste-suc l a s i 0 h k)

@@ -40,6 +40,7 @@ module _ (n : ℕ) (l : List ℕ) (any i : ℕ) where
       q ∙ rw (drop-cons l i 0 h, add-one, or-below n any (getD l i 0))
       (sym (and-assoc (isBelow n any) (isBelow n (getD l i 0)) (every (isBelow n) (drop (suc i) l))))
 
-  pub any-end : length l ≤ i → every (isBelow n) l ≡ (isBelow n any && every (isBelow n) (drop i l)) → every (isBelow n) l ≡ isBelow n any
+  pub any-end : length l ≤ i → every (isBelow n) l ≡ (isBelow n any && every (isBelow n) (drop i l))
+      → every (isBelow n) l ≡ isBelow n any
   unfolding every
   any-end h q = q ∙ rw (drop-of-length-le l h) (and-true (isBelow n any))

@@ -58,7 +58,8 @@ module _ (f : ℕ → Bool) where
   pub every-at : (l : List ℕ) (i : ℕ) → i < length l → every f l ≡ true → f (getD l i 0) ≡ true
   every-at = every-place 0 f
 
-  pub says-every : (l : List ℕ) {P : ℕ → Type 0} → ((x : ℕ) → Says (f x) (P x)) → Says (every f l) ((i : ℕ) → i < length l → P (getD l i 0))
+  pub says-every : (l : List ℕ) {P : ℕ → Type 0} → ((x : ℕ) → Says (f x) (P x))
+      → Says (every f l) ((i : ℕ) → i < length l → P (getD l i 0))
   says-every l s = record {
     fact = λ h i k. s (getD l i 0) .fact (every-at l i k h);
     test = λ g. every-by 0 f l (λ i k. s (getD l i 0) .test (g i k));
@@ -72,7 +73,8 @@ says-within a n b m = says-and (says-le b a) (says-le (a + n) (b + m))
 apart-each : (a n b m : ℕ) → apart a n b m ≡ true → Apart a n b m
 unfolding apart
 apart-each a n b m q i c d e f =
-    true≢false (sym q ∙ rw (ne-eqb n 0 (λ z. omega arith), ne-eqb m 0 (λ z. omega arith), lt-leb (a + n) b (omega arith), lt-leb (b + m) a (omega arith)))
+    true≢false (sym q ∙ rw
+    (ne-eqb n 0 (λ z. omega arith), ne-eqb m 0 (λ z. omega arith), lt-leb (a + n) b (omega arith), lt-leb (b + m) a (omega arith)))
 
 each-apart : (a n b m : ℕ) → Apart a n b m → apart a n b m ≡ true
 unfolding apart

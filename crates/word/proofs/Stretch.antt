@@ -22,7 +22,14 @@ pub splice-first : (l : List ℕ) (a v : ℕ) (vs : List ℕ) → a < length l �
 unfolding splice
 splice-first l a v vs h =
     let e : a + suc (length vs) ≡ suc a + length vs = omega arith in
-    rw (add-one a, take-suc-set l a v h, drop-set-lt (suc a + length vs) l a v (omega arith), append-assoc (take a l) (v ∷ []) (take (length vs) vs), e)
+    rw (
+      add-one a,
+      take-suc-set l a v h,
+      drop-set-lt (suc a + length vs) l a v (omega arith),
+      append-assoc (take a l) (v ∷ [])
+          (take (length vs) vs),
+      e,
+    )
 
 -- a number that stood in the stretch before
 pub splice-set : (l : List ℕ) (j v a : ℕ) (vs : List ℕ) → a ≤ j → j < a + length vs → splice (set l j v) a vs ≡ splice l a vs
@@ -41,7 +48,8 @@ length-cleared l a n h = length-splice l a (replicate n 0) (rw length-replicate 
 abbrev pub Beside : ℕ → ℕ → ℕ → Type 0
 Beside j a n = (j < a) ⊎ (a + n ≤ j)
 
-pub getD-splice-beside : (l : List ℕ) (a : ℕ) (vs : List ℕ) (j : ℕ) → a + length vs ≤ length l → Beside j a (length vs) → getD (splice l a vs) j 0 ≡ getD l j 0
+pub getD-splice-beside : (l : List ℕ) (a : ℕ) (vs : List ℕ) (j : ℕ) → a + length vs ≤ length l → Beside j a (length vs)
+    → getD (splice l a vs) j 0 ≡ getD l j 0
 getD-splice-beside l a [] j h o = rw (splice-none l a)
 getD-splice-beside l a (v ∷ vs) j h o =
     rw (splice-first l a v vs (omega arith))
@@ -76,11 +84,13 @@ module _ (f : ℕ → Bool) where
   every-set (x ∷ xs) zero v q p = every-both v xs p (every-tail x xs q)
   every-set (x ∷ xs) (suc j) v q p = every-both x (set xs j v) (every-head x xs q) (every-set xs j v (every-tail x xs q) p)
 
-  pub every-splice : (l : List ℕ) (a : ℕ) (vs : List ℕ) → a + length vs ≤ length l → every f l ≡ true → every f vs ≡ true → every f (splice l a vs) ≡ true
+  pub every-splice : (l : List ℕ) (a : ℕ) (vs : List ℕ) → a + length vs ≤ length l → every f l ≡ true → every f vs ≡ true
+      → every f (splice l a vs) ≡ true
   every-splice l a [] h q p = rw (splice-none l a) q
   every-splice l a (v ∷ vs) h q p =
       rw (splice-first l a v vs (omega arith))
-      (every-splice (set l a v) (a + 1) vs (rw length-set (omega arith)) (every-set l a v q (every-head v vs p)) (every-tail v vs p))
+      (every-splice (set l a v) (a + 1) vs (rw length-set (omega arith)) (every-set l a v q (every-head v vs p))
+      (every-tail v vs p))
 
   every-replicate : (n v : ℕ) → f v ≡ true → every f (replicate n v) ≡ true
   unfolding every

@@ -45,8 +45,13 @@ loop-less c = omega arith
 loop-again : tie.Need-loop-again Inv-loop μ-loop
 loop-again c =
     let l = c .before .before .loop in
-    let b = now (c .before .before .before .before .args .block) in
-    (omega arith, omega arith, low-more b (l .i) (l .sum) (omega arith) (l .inv .2), any-more 36 b (l .any) (l .i) (omega arith) (l .inv .3))
+    let b = now (c .before .before .before .before .args .block) in (
+      omega arith,
+      omega arith,
+      low-more b (l .i) (l .sum) (omega arith) (l .inv .2),
+      any-more 36 b (l .any) (l .i) (omega arith)
+          (l .inv .3),
+    )
 
 returns : tie.Need-returns Inv-loop μ-loop
 unfolding sealVerdict
@@ -73,7 +78,8 @@ ended : (c : tie.Else1 Inv-loop μ-loop) →
 ended c =
     let l = c .before .before .loop in
     let a = c .before .before .before .before .args in
-    taken-away (now (a .block)) (a .p) (l .sum) (omega arith) (all c) (low-end (now (a .block)) (l .i) (l .sum) (omega arith) (l .inv .2))
+    taken-away (now (a .block)) (a .p) (l .sum) (omega arith) (all c)
+    (low-end (now (a .block)) (l .i) (l .sum) (omega arith) (l .inv .2))
 
 sub-s : tie.Need-sub-s Inv-loop μ-loop
 sub-s c = ended (c .before) .fits

@@ -10,7 +10,8 @@ make-desk-requires : tie.Need-make-desk-requires
 make-desk-requires c κs = search needs
 
 pack-requires : tie.Need-pack-requires
-pack-requires c κs = let a = c .before .before .before .before .before .before .args in rw (c .before .before .make-desk .ensures .told) (make-small (now (a .desk)) (a .core) (now (a .numbers)))
+pack-requires c κs = let a = c .before .before .before .before .before .before .args in rw
+    (c .before .before .make-desk .ensures .told) (make-small (now (a .desk)) (a .core) (now (a .numbers)))
 
 same-length : tie.Need-same-length
 same-length c = search needs

@@ -12,7 +12,9 @@ open-load-requires c κs = search needs
 pack-requires : tie.Need-pack-requires
 pack-requires c κs =
     let a = c .before .before .before .before .before .before .before .before .before .before .before .args in
-    rw (c .before .before .before .before .open-load .ensures .told) (open-small (now (a .desk)) (now (a .core)) (a .room) (record { at = record { 0 = a .area }; size = a .size }) (now (a .io)) (now (a .tables)))
+    rw (c .before .before .before .before .open-load .ensures .told)
+    (open-small (now (a .desk)) (now (a .core)) (a .room) (record { at = record { 0 = a .area }; size = a .size }) (now (a .io))
+    (now (a .tables)))
 
 same-length : tie.Need-same-length
 same-length c = search needs

@@ -10,7 +10,8 @@ release-place-requires : tie.Need-release-place-requires
 release-place-requires c κs = search needs
 
 pack-requires : tie.Need-pack-requires
-pack-requires c κs = let a = c .before .before .before .before .before .args in rw (c .before .before .release-place .ensures .told) (release-small (now (a .desk)) (a .core) (a .room) (a .place))
+pack-requires c κs = let a = c .before .before .before .before .before .args in rw (c .before .before .release-place .ensures .told)
+    (release-small (now (a .desk)) (a .core) (a .room) (a .place))
 
 same-length : tie.Need-same-length
 same-length c = search needs

@@ -22,7 +22,8 @@ apart-from-held-requires c κs =
     let b = c .before .before .before .before in
     let h : 0 < b .args .q = omega arith in
     record {
-      first = rw (c .place-at .ensures) (place-length (now (b .args .desk)) (b .pre .desk) (b .args .q - 1) (omega (arith, b .pre .most)));
+      first = rw (c .place-at .ensures)
+          (place-length (now (b .args .desk)) (b .pre .desk) (b .args .q - 1) (omega (arith, b .pre .most)));
       second = b .pre .long;
       held = rw (c .place-at .ensures) (b .pre .held h);
     }

@@ -31,12 +31,21 @@ map-fits-requires : tie.Need-map-fits-requires
 map-fits-requires c κs = search needs
 
 -- the map's test, as it was made
-map-test : (c : tie.After-map-fits) → c .map-fits .result ≡ mapObeys (coreLength (now (c .before .before .before .before .before .before .before .args .desk))) (mapOf (mapNumbers (now (c .before .before .before .before .before .before .before .args .desk))))
+map-test : (c : tie.After-map-fits)
+    → c .map-fits .result ≡ mapObeys (coreLength (now (c .before .before .before .before .before .before .before .args .desk)))
+    (mapOf (mapNumbers (now (c .before .before .before .before .before .before .before .args .desk))))
 map-test c = c .map-fits .ensures ∙ rw (c .before .map-numbers .ensures)
 
 returns-4 : tie.Need-returns-4
 unfolding sound
-returns-4 c = rw (eq-eqb _ _ (c .before .before .before .before .before .before .if1 .left), le-leb _ _ (c .before .before .before .before .if2 .left), le-leb _ _ (c .before .before .before .if3 .left), sym (map-test (c .before)) ∙ not-true _ (c .if4 .taken))
+returns-4 c = rw (
+  eq-eqb _ _ (c .before .before .before .before .before .before .if1 .left),
+  le-leb _ _
+      (c .before .before .before .before .if2 .left),
+  le-leb _ _ (c .before .before .before .if3 .left),
+  sym (map-test (c .before))
+      ∙ not-true _ (c .if4 .taken),
+)
 
 holders-fit-requires : tie.Need-holders-fit-requires
 holders-fit-requires c κs =
@@ -49,7 +58,14 @@ holders-fit-requires c κs =
 returns-5 : tie.Need-returns-5
 unfolding sound
 returns-5 c =
-    rw (eq-eqb _ _ (c .before .before .before .before .before .before .before .if1 .left), le-leb _ _ (c .before .before .before .before .before .if2 .left), le-leb _ _ (c .before .before .before .before .if3 .left), sym (map-test (c .before .before)) ∙ not-false _ (c .before .if4 .left))
+    rw (
+      eq-eqb _ _ (c .before .before .before .before .before .before .before .if1 .left),
+      le-leb _ _
+          (c .before .before .before .before .before .if2 .left),
+      le-leb _ _ (c .before .before .before .before .if3 .left),
+      sym
+          (map-test (c .before .before)) ∙ not-false _ (c .before .if4 .left),
+    )
     (c .holders-fit .ensures)
 
 pub is-sound-spec : {M : Type 1} → statement M

@@ -8,9 +8,10 @@ use denote.Ref.{now}
 use lib.ListN.{length, length-set, getD}
 use Rattle.map.specs.Map.{stretchOf}
 use Rattle.desk.specs.Sound.{heldFits}
-use Rattle.layout.specs.Layout.{mapNumbers, placeIn, holderOf}
+use Rattle.layout.specs.Layout.{placeWords, mapNumbers, placeIn, holderOf}
 use Rattle.layout.proofs.Places.{place-length}
-use Rattle.desk.proofs.Looked.{Looked, looked-none, looked-end, next-inside, next-held, next-known, looked-unfit, last-inside, last-held, looked-shared, looked-more, map-numbers-length, stretch-small}
+use Rattle.desk.proofs.Looked.{Looked, looked-none, looked-end, next-inside, next-held, next-known, looked-unfit}
+use Rattle.desk.proofs.Looked.{last-inside, last-held, looked-shared, looked-more, map-numbers-length, stretch-small}
 use Rattle.desk.proofs.places_fit.Statement.{statement}
 use Rattle.desk.proofs.places_fit.Tie as tie
 
@@ -49,22 +50,29 @@ module _ (c : tie.After-place-at Inv-loop μ-loop) where
   its-numbers : now (c .place-at .result) ≡ placeIn the-desk the-place
   its-numbers = c .place-at .ensures
 
-  its-length : length (now (c .place-at .result)) ≡ 303
+  its-length : length (now (c .place-at .result)) ≡ placeWords
   its-length =
       let l = c .before .before .before .loop in
       let b = c .before .before .before .before .before .before in
-      rw its-numbers (place-length the-desk (b .pre .map .long) the-place (next-inside _ _ _ (l .i) (l .past) (b .pre .rooms) (l .inv .2) (omega arith)))
+      rw its-numbers (place-length the-desk (b .pre .map .long) the-place
+      (next-inside _ _ _ (l .i) (l .past) (b .pre .rooms) (l .inv .2) (omega arith)))
 
   its-holder : holderOf (placeIn the-desk the-place) ≡ the-room + 1
   its-holder =
       let l = c .before .before .before .loop in
-      let z = next-held _ _ _ (l .i) (l .past) (c .before .before .before .before .before .before .pre .rooms) (l .inv .2) (omega arith) in
+      let z = next-held _ _ _ (l .i) (l .past) (c .before .before .before .before .before .before .pre .rooms) (l .inv .2)
+      (omega arith) in
       omega (arith, z)
 
   its-room : the-room < 8
   its-room =
       let l = c .before .before .before .loop in
-      omega (arith, its-holder, next-known _ _ _ (l .i) (l .past) (c .before .before .before .before .before .before .pre .rooms) (l .inv .2) (omega arith))
+      omega (
+        arith,
+        its-holder,
+        next-known _ _ _ (l .i) (l .past) (c .before .before .before .before .before .before .pre .rooms)
+            (l .inv .2) (omega arith),
+      )
 
   room-read : getD (now (c .place-at .result)) 0 0 - 1 ≡ the-room
   room-read = rw its-numbers
@@ -81,34 +89,46 @@ map-numbers-requires c κs = c .before .before .before .before .before .before .
 stretch-at-requires : tie.Need-stretch-at-requires Inv-loop μ-loop
 stretch-at-requires c κs = (
   omega (arith, its-room (c .before .before), room-read (c .before .before)),
-  rw (c .map-numbers .ensures) (map-numbers-length _ (c .before .before .before .before .before .before .before .before .pre .map .long)),
+  rw (c .map-numbers .ensures)
+      (map-numbers-length _ (c .before .before .before .before .before .before .before .before .pre .map .long)),
 )
 
 -- its stretch
-its-stretch : (c : tie.After-stretch-at Inv-loop μ-loop) → c .stretch-at .result ≡ stretchOf (mapNumbers (the-desk (c .before .before .before))) (the-room (c .before .before .before))
+its-stretch : (c : tie.After-stretch-at Inv-loop μ-loop)
+    → c .stretch-at .result ≡ stretchOf (mapNumbers (the-desk (c .before .before .before))) (the-room (c .before .before .before))
 its-stretch c = c .stretch-at .ensures ∙ rw (c .before .map-numbers .ensures, room-read (c .before .before .before))
 
 held-fits-requires : tie.Need-held-fits-requires Inv-loop μ-loop
 held-fits-requires c κs =
-    let b = c .before .before .before .before .before .before .before .before .before in
-    (its-length (c .before .before .before), rw (its-stretch c) (stretch-small _ (b .pre .map .most) (b .pre .map .obeys) _ (its-room (c .before .before .before))))
+    let b = c .before .before .before .before .before .before .before .before .before in (
+      its-length (c .before .before .before),
+      rw (its-stretch c)
+          (stretch-small _ (b .pre .map .most) (b .pre .map .obeys) _ (its-room (c .before .before .before))),
+    )
 
 -- whether it fits in it
-its-test : (c : tie.After-held-fits Inv-loop μ-loop) → c .held-fits .result ≡ heldFits (stretchOf (mapNumbers (the-desk (c .before .before .before .before))) (the-room (c .before .before .before .before))) (placeIn (the-desk (c .before .before .before .before)) (the-place (c .before .before .before .before)))
+its-test : (c : tie.After-held-fits Inv-loop μ-loop)
+    → c .held-fits .result ≡ heldFits
+    (stretchOf (mapNumbers (the-desk (c .before .before .before .before))) (the-room (c .before .before .before .before)))
+    (placeIn (the-desk (c .before .before .before .before)) (the-place (c .before .before .before .before)))
 its-test c = c .held-fits .ensures ∙ rw (its-stretch (c .before), its-numbers (c .before .before .before .before))
 
 returns : tie.Need-returns Inv-loop μ-loop
 returns c =
     let l = c .before .before .before .before .before .before .before .before .loop in
     let e = c .before .before .before .before .before in
-    looked-unfit _ _ _ (l .i) (l .past) (c .before .before .before .before .before .before .before .before .before .before .before .pre .rooms) (l .inv .2) (omega arith) (the-room e) (its-room e) (its-holder e)
+    looked-unfit _ _ _ (l .i) (l .past)
+    (c .before .before .before .before .before .before .before .before .before .before .before .pre .rooms) (l .inv .2)
+    (omega arith) (the-room e) (its-room e) (its-holder e)
     (sym (its-test (c .before)) ∙ not-true _ (c .if1 .taken))
 
 mul-apart-from-last : tie.Need-mul-apart-from-last Inv-loop μ-loop
-mul-apart-from-last c = omega (arith, its-room (c .before .before .before .before .before), room-read (c .before .before .before .before .before))
+mul-apart-from-last c = omega
+    (arith, its-room (c .before .before .before .before .before), room-read (c .before .before .before .before .before))
 
 array-read-apart-from-last : tie.Need-array-read-apart-from-last Inv-loop μ-loop
-array-read-apart-from-last c = omega (arith, its-room (c .before .before .before .before .before), room-read (c .before .before .before .before .before))
+array-read-apart-from-last c = omega
+    (arith, its-room (c .before .before .before .before .before), room-read (c .before .before .before .before .before))
 
 apart-from-last-requires : tie.Need-apart-from-last-requires Inv-loop μ-loop
 apart-from-last-requires c κs =
@@ -117,28 +137,47 @@ apart-from-last-requires c κs =
     let e = c .before .before .before .before .before in
     record {
       desk = b .pre .map .long;
-      most = rw (room-read e) (last-inside _ _ _ (l .i) (l .past) (b .pre .rooms) (l .inv .2) (omega arith) (the-room e) (its-room e) (its-holder e));
+      most = rw (room-read e)
+          (last-inside _ _ _ (l .i) (l .past) (b .pre .rooms) (l .inv .2) (omega arith) (the-room e) (its-room e) (its-holder e));
       long = its-length e;
-      held = rw (room-read e) (last-held _ _ _ (l .i) (l .past) (b .pre .rooms) (l .inv .2) (omega arith) (the-room e) (its-room e) (its-holder e));
+      held = rw (room-read e)
+          (last-held _ _ _ (l .i) (l .past) (b .pre .rooms) (l .inv .2) (omega arith) (the-room e) (its-room e) (its-holder e));
     }
 
 returns-2 : tie.Need-returns-2 Inv-loop μ-loop
 returns-2 c =
     let l = c .before .before .before .before .before .before .before .before .before .before .loop in
     let e = c .before .before .before .before .before .before .before in
-    looked-shared _ _ _ (l .i) (l .past) (c .before .before .before .before .before .before .before .before .before .before .before .before .before .pre .rooms) (l .inv .2) (omega arith) (the-room e) (its-room e) (its-holder e)
+    looked-shared _ _ _ (l .i) (l .past)
+    (c .before .before .before .before .before .before .before .before .before .before .before .before .before .pre .rooms)
+    (l .inv .2) (omega arith) (the-room e) (its-room e) (its-holder e)
     (sym (rw (its-numbers e) at (c .before .apart-from-last .ensures)) ∙ not-true _ (c .if2 .taken))
 
 add-past : tie.Need-add-past Inv-loop μ-loop
 add-past c =
     let l = c .before .before .before .before .before .before .before .before .before .before .loop in
-    omega (arith, next-inside _ _ _ (l .i) (l .past) (c .before .before .before .before .before .before .before .before .before .before .before .before .before .pre .rooms) (l .inv .2) (omega arith))
+    omega (
+      arith,
+      next-inside _ _ _ (l .i) (l .past)
+          (c .before .before .before .before .before .before .before .before .before .before .before .before .before .pre .rooms)
+          (l .inv .2) (omega arith),
+    )
 
 mul-last : tie.Need-mul-last Inv-loop μ-loop
-mul-last c = omega (arith, its-room (c .before .before .before .before .before .before .before), room-read (c .before .before .before .before .before .before .before))
+mul-last c = omega (
+  arith,
+  its-room (c .before .before .before .before .before .before .before),
+  room-read
+      (c .before .before .before .before .before .before .before),
+)
 
 array-write-last : tie.Need-array-write-last Inv-loop μ-loop
-array-write-last c = omega (arith, its-room (c .before .before .before .before .before .before .before), room-read (c .before .before .before .before .before .before .before))
+array-write-last c = omega (
+  arith,
+  its-room (c .before .before .before .before .before .before .before),
+  room-read
+      (c .before .before .before .before .before .before .before),
+)
 
 add-i : tie.Need-add-i Inv-loop μ-loop
 add-i c = omega arith
@@ -153,14 +192,16 @@ loop-again c =
     let e = c .before .before .before .before .before .before .before in (
       omega arith,
       simp length-set (omega arith),
-      rw (room-read e) (looked-more _ _ _ (l .i) (l .past) (b .pre .rooms) (l .inv .2) (omega arith) (the-room e) (its-room e) (its-holder e) (b .pre .map .obeys)
+      rw (room-read e) (looked-more _ _ _ (l .i) (l .past) (b .pre .rooms) (l .inv .2) (omega arith) (the-room e) (its-room e)
+          (its-holder e) (b .pre .map .obeys)
           (sym (its-test (c .before .before .before)) ∙ not-false _ (c .before .before .if1 .left))
           (sym (rw (its-numbers e) at (c .before .apart-from-last .ensures)) ∙ not-false _ (c .if2 .left))
           (l .inv .1)),
     )
 
 returns-3 : tie.Need-returns-3 Inv-loop μ-loop
-returns-3 c = let l = c .before .loop in looked-end _ _ _ (l .i) (l .past) (c .before .before .before .before .pre .rooms) (l .inv .2) (omega arith)
+returns-3 c = let l = c .before .loop in looked-end _ _ _ (l .i) (l .past) (c .before .before .before .before .pre .rooms)
+    (l .inv .2) (omega arith)
 
 pub places-fit-spec : {M : Type 1} → statement M
 places-fit-spec =

@@ -16,13 +16,20 @@ enum-known-s : tie.Need-enum-known-s
 enum-known-s c = search needs
 
 entry-step-requires : tie.Need-entry-step-requires
-entry-step-requires c κs = let w = c .before .before .before .before .before .before .pre in record { lists = w .lists; few = entry-block-small _ _ _ _ _ _ (rw (c .before .s .given .1) at (w .waits)); long = w .waits .long }
+entry-step-requires c κs = let w = c .before .before .before .before .before .before .pre in
+    record {
+      lists = w .lists;
+      few = entry-block-small _ _ _ _ _ _
+          (rw (c .before .s .given .1) at (w .waits));
+      long = w .waits .long;
+    }
 
 enum-known-s-2 : tie.Need-enum-known-s-2
 enum-known-s-2 c = search needs
 
 program-step-requires : tie.Need-program-step-requires
-program-step-requires c κs = rw (c .before .before .s2 .given .1) at (c .before .before .before .before .before .before .before .pre)
+program-step-requires c κs = rw (c .before .before .s2 .given .1) at
+    (c .before .before .before .before .before .before .before .pre)
 
 enum-known-s-3 : tie.Need-enum-known-s-3
 enum-known-s-3 c = search needs
@@ -37,10 +44,12 @@ enum-told-3 : tie.Need-enum-told-3
 enum-told-3 c = search needs
 
 returns : tie.Need-returns
-returns c = rw (c .before .enum-told .given .1) (label-met _ _ (c .before .before .before .before .before .before .pre .lists) _ _ _ (c .label-step .ensures))
+returns c = rw (c .before .enum-told .given .1)
+    (label-met _ _ (c .before .before .before .before .before .before .pre .lists) _ _ _ (c .label-step .ensures))
 
 returns-2 : tie.Need-returns-2
-returns-2 c = rw (c .before .before .s .given .1) (entry-met _ _ (c .before .before .before .before .before .before .before .pre .lists) _ _ _ _ _ _ (c .entry-step .ensures))
+returns-2 c = rw (c .before .before .s .given .1)
+    (entry-met _ _ (c .before .before .before .before .before .before .before .pre .lists) _ _ _ _ _ _ (c .entry-step .ensures))
 
 same-length : tie.Need-same-length
 same-length c = search needs

@@ -14,7 +14,8 @@ place-at-requires : tie.Need-place-at-requires
 place-at-requires c κs = let q = c .before .before .before .before .pre in (sound-long _ (q .desk), q .place)
 
 stage-of-requires : tie.Need-stage-of-requires
-stage-of-requires c κs = let q = c .before .before .before .before .before .pre in rw (c .place-at .ensures) (place-length _ (sound-long _ (q .desk)) _ (q .place))
+stage-of-requires c κs = let q = c .before .before .before .before .before .pre in rw (c .place-at .ensures)
+    (place-length _ (sound-long _ (q .desk)) _ (q .place))
 
 is-over-requires : tie.Need-is-over-requires
 is-over-requires c κs = search needs
@@ -38,8 +39,10 @@ enum-told c = search needs
 
 take-block-requires : tie.Need-take-block-requires
 take-block-requires c κs = let q = c .before .before .before .before .before .before .before .before .before .before .before .before .before .before .pre in
-    let e = rw (c .before .before .before .before .before .before .before .before .before .place-at .ensures) at (c .before .before .before .before .before .before .before .before .stage-of .ensures) in
-    let v = verdict-pass _ _ (sym (c .before .before .before .before .check-block .ensures) ∙ c .before .before .enum-told .given .1) in
+    let e = rw (c .before .before .before .before .before .before .before .before .before .place-at .ensures) at
+    (c .before .before .before .before .before .before .before .before .stage-of .ensures) in
+    let v = verdict-pass _ _
+    (sym (c .before .before .before .before .check-block .ensures) ∙ c .before .before .enum-told .given .1) in
     record {
       long = sound-long _ (q .desk);
       place = q .place;
@@ -57,7 +60,8 @@ same-length-3 c = search needs
 
 returns-2 : tie.Need-returns-2
 unfolding heldOf checkedOf
-returns-2 c = let e = rw (c .before .before .before .before .before .before .before .before .before .before .before .before .before .before .place-at .ensures) at (c .before .before .before .before .before .before .before .before .before .before .before .before .before .stage-of .ensures) in
+returns-2 c = let e = rw
+    (c .before .before .before .before .before .before .before .before .before .before .before .before .before .before .place-at .ensures) at (c .before .before .before .before .before .before .before .before .before .before .before .before .before .stage-of .ensures) in
     rw (← e, sym (c .before .before .before .before .before .before .before .before .before .before .before .before .is-over .ensures) ∙ c .before .before .before .before .before .before .before .before .before .before .before .if1 .left, ← (c .before .before .before .before .before .before .before .before .before .before .record-due .ensures), sym (c .before .before .before .before .before .before .before .before .before .check-block .ensures) ∙ c .before .before .before .before .before .before .before .enum-told .given .1) (c .before .before .before .before .take-block .ensures)
 
 same-length-4 : tie.Need-same-length-4
@@ -65,8 +69,17 @@ same-length-4 c = search needs
 
 returns-3 : tie.Need-returns-3
 unfolding heldOf checkedOf
-returns-3 c = let e = rw (c .before .before .before .before .before .before .before .before .place-at .ensures) at (c .before .before .before .before .before .before .before .stage-of .ensures) in
-    rw (← e, sym (c .before .before .before .before .before .before .is-over .ensures) ∙ c .before .before .before .before .before .if1 .left, ← (c .before .before .before .before .record-due .ensures), sym (c .before .before .before .check-block .ensures) ∙ c .before .f .given .1) (record { told = refl; desk-left = refl; core-left = refl })
+returns-3 c = let e = rw (c .before .before .before .before .before .before .before .before .place-at .ensures) at
+    (c .before .before .before .before .before .before .before .stage-of .ensures) in
+    rw (
+      ← e,
+      sym (c .before .before .before .before .before .before .is-over .ensures)
+          ∙ c .before .before .before .before .before .if1 .left,
+      ← (c .before .before .before .before .record-due .ensures),
+      sym
+          (c .before .before .before .check-block .ensures) ∙ c .before .f .given .1,
+    )
+    (record { told = refl; desk-left = refl; core-left = refl })
 
 pub feed-held-spec : {M : Type 1} → statement M
 feed-held-spec =

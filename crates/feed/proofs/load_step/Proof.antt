@@ -14,7 +14,8 @@ of-record-requires c κs = search needs
 
 returns : tie.Need-returns
 unfolding blockStep
-returns c = rw (← (c .before .before .record-due .ensures), sym (c .before .of-record .ensures) ∙ not-true _ (c .if1 .taken)) (record { told = refl; left = refl })
+returns c = rw (← (c .before .before .record-due .ensures), sym (c .before .of-record .ensures) ∙ not-true _ (c .if1 .taken))
+    (record { told = refl; left = refl })
 
 due-step-requires : tie.Need-due-step-requires
 due-step-requires c κs = search needs
@@ -24,7 +25,12 @@ same-length c = search needs
 
 returns-2 : tie.Need-returns-2
 unfolding blockStep
-returns-2 c = rw (← c .before .before .before .before .before .before .record-due .ensures, sym (c .before .before .before .before .before .of-record .ensures) ∙ not-false _ (c .before .before .before .before .if1 .left)) (c .before .before .due-step .ensures)
+returns-2 c = rw (
+  ← c .before .before .before .before .before .before .record-due .ensures,
+  sym
+      (c .before .before .before .before .before .of-record .ensures) ∙ not-false _ (c .before .before .before .before .if1 .left),
+)
+    (c .before .before .due-step .ensures)
 
 pub load-step-spec : {M : Type 1} → statement M
 load-step-spec =

@@ -31,14 +31,16 @@ same-length c = search needs
 
 returns : tie.Need-returns
 unfolding settledOf
-returns c = rw (c .before .before .before .before .before .r .given .1) (record { told = refl; desk-left = c .before .before .write-stage .ensures; core-left = refl })
+returns c = rw (c .before .before .before .before .before .r .given .1)
+    (record { told = refl; desk-left = c .before .before .write-stage .ensures; core-left = refl })
 
 same-length-2 : tie.Need-same-length-2
 same-length-2 c = search needs
 
 returns-2 : tie.Need-returns-2
 unfolding settledOf
-returns-2 c = rw (c .before .before .before .before .before .r2 .given .1) (record { told = refl; desk-left = c .before .before .write-stage2 .ensures; core-left = refl })
+returns-2 c = rw (c .before .before .before .before .before .r2 .given .1)
+    (record { told = refl; desk-left = c .before .before .write-stage2 .ensures; core-left = refl })
 
 same-length-3 : tie.Need-same-length-3
 same-length-3 c = search needs
@@ -48,7 +50,8 @@ same-length-4 c = search needs
 
 returns-3 : tie.Need-returns-3
 unfolding settledOf
-returns-3 c = rw (c .before .before .before .before .before .before .before .before .before .r3 .given .1) (record { told = refl; desk-left = c .before .before .before .before .before .before .write-stage3 .ensures; core-left = c .before .before .clear .ensures })
+returns-3 c = rw (c .before .before .before .before .before .before .before .before .before .r3 .given .1)
+    (record { told = refl; desk-left = c .before .before .before .before .before .before .write-stage3 .ensures; core-left = c .before .before .clear .ensures })
 
 pub settle-spec : {M : Type 1} → statement M
 settle-spec =

@@ -11,13 +11,17 @@ place-at-requires : tie.Need-place-at-requires
 place-at-requires c κs = search needs
 
 own-of-requires : tie.Need-own-of-requires
-own-of-requires c κs = let q = c .before .before .before .before .before .pre in rw (c .place-at .ensures) (place-length _ (q .long) _ (q .place))
+own-of-requires c κs = let q = c .before .before .before .before .before .pre in rw (c .place-at .ensures)
+    (place-length _ (q .long) _ (q .place))
 
 lists-of-requires : tie.Need-lists-of-requires
-lists-of-requires c κs = let q = c .before .before .before .before .before .before .before .pre in rw (c .before .before .place-at .ensures) (place-length _ (q .long) _ (q .place))
+lists-of-requires c κs = let q = c .before .before .before .before .before .before .before .pre in rw
+    (c .before .before .place-at .ensures) (place-length _ (q .long) _ (q .place))
 
 load-step-requires : tie.Need-load-step-requires
-load-step-requires c κs = rw (c .before .lists-of .ensures, c .before .before .before .own-of .ensures, c .before .before .before .before .place-at .ensures) (c .before .before .before .before .before .before .before .before .before .pre .load)
+load-step-requires c κs = rw
+    (c .before .lists-of .ensures, c .before .before .before .own-of .ensures, c .before .before .before .before .place-at .ensures)
+    (c .before .before .before .before .before .before .before .before .before .pre .load)
 
 settle-requires : tie.Need-settle-requires
 settle-requires c κs = let q = c .before .before .before .before .before .before .before .before .before .before .before .before .before .before .pre in

@@ -1,7 +1,8 @@
 -- `field::left_step` meets its contract: each arm of the match by what its calls give (Field's arms), and what they give fits.
 use Rattle.word.specs.declared.Half.the-variants.{Left}
 use Rattle.field.specs.Field.{becomes, putBack, fieldStep, assignedBy}
-use Rattle.field.proofs.Field.{moved-fits, pair-fits, long-fits, short-fits, switch-fits, unit-fits, moved-arm, pair-arm, long-arm, short-arm, unit-arm}
+use Rattle.field.proofs.Field.{moved-fits, pair-fits, long-fits, short-fits, switch-fits, unit-fits, moved-arm, pair-arm}
+use Rattle.field.proofs.Field.{long-arm, short-arm, unit-arm}
 use mathlib.Core.Path.{sym, _∙_}
 use Rattle.word.proofs.Tests.{tests}
 use borrow.Author.Needs.{needs}
@@ -35,7 +36,8 @@ put-back-requires-3 c κs = (search needs, rw (c .long-of .ensures) (long-fits _
 returns : tie.Need-returns
 unfolding assignedBy
 returns c = let m = c .before .before .before .before in
-    long-arm _ Left _ _ (m .before .field .ensures) (c .put-back3 .ensures) (m .match .keys3) (sym (c .before .before .before .is-set .ensures) ∙ c .before .before .if1 .taken) (c .before .long-of .ensures)
+    long-arm _ Left _ _ (m .before .field .ensures) (c .put-back3 .ensures) (m .match .keys3)
+    (sym (c .before .before .before .is-set .ensures) ∙ c .before .before .if1 .taken) (c .before .long-of .ensures)
 
 short-of-requires : tie.Need-short-of-requires
 short-of-requires c κs = search needs
@@ -71,7 +73,8 @@ returns-3 c = let m = c .before .before in
 returns-4 : tie.Need-returns-4
 unfolding assignedBy
 returns-4 c = let m = c .before .before .before .before in
-    short-arm _ Left _ _ (m .before .field .ensures) (c .put-back4 .ensures) (m .match .keys3) (sym (c .before .before .before .is-set .ensures) ∙ c .before .before .if1 .left) (c .before .short-of .ensures)
+    short-arm _ Left _ _ (m .before .field .ensures) (c .put-back4 .ensures) (m .match .keys3)
+    (sym (c .before .before .before .is-set .ensures) ∙ c .before .before .if1 .left) (c .before .short-of .ensures)
 
 returns-5 : tie.Need-returns-5
 unfolding fieldStep becomes assignedBy

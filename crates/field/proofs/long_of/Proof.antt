@@ -35,8 +35,15 @@ refer-requires c κs = search needs
 
 returns-3 : tie.Need-returns-3
 unfolding long
-returns-3 c = rw (← c .before .before .before .before .before .before .before .bits .ensures, le-ltb _ _ (c .before .before .before .before .before .before .if1 .left), sym (c .before .before .before .before .before .is-set .ensures) ∙ c .before .before .before .before .if2 .left)
-    (rw (c .before .is-set3 .ensures, c .before .before .is-set2 .ensures, c .before .before .before .bits2 .ensures) at (c .refer .ensures))
+returns-3 c = rw (
+  ← c .before .before .before .before .before .before .before .bits .ensures,
+  le-ltb _ _
+      (c .before .before .before .before .before .before .if1 .left),
+  sym (c .before .before .before .before .before .is-set .ensures)
+      ∙ c .before .before .before .before .if2 .left,
+)
+    (rw (c .before .is-set3 .ensures, c .before .before .is-set2 .ensures, c .before .before .before .bits2 .ensures) at
+    (c .refer .ensures))
 
 pub long-of-spec : {M : Type 1} → statement M
 long-of-spec =

@@ -33,13 +33,26 @@ refer-requires c κs = search needs
 returns-2 : tie.Need-returns-2
 unfolding pair
 returns-2 c = let z = c .before .before .before .before .before .before .before .before .before .before .before in
-    rw (sym (c .before .before .before .before .before .before .before .before .before .is-set .ensures) ∙ c .before .before .before .before .before .before .before .before .if1 .left, ← c .before .before .before .before .before .before .bits2 .ensures, core-length _ _ (z .pre), lt-ltb _ _ (c .before .before .before .if2 .taken))
+    rw (
+      sym (c .before .before .before .before .before .before .before .before .before .is-set .ensures)
+          ∙ c .before .before .before .before .before .before .before .before .if1 .left,
+      ← c .before .before .before .before .before .before .bits2 .ensures,
+      core-length _ _ (z .pre),
+      lt-ltb _ _ (c .before .before .before .if2 .taken),
+    )
     (rw (c .before .is-set2 .ensures, c .before .before .before .before .before .before .before .bits .ensures, c .before .before .address-or-length .ensures .0) at (c .refer .ensures))
 
 returns-3 : tie.Need-returns-3
 unfolding pair
 returns-3 c = let z = c .before .before .before .before .before .before .before .before in
-    rw (sym (c .before .before .before .before .before .before .is-set .ensures) ∙ c .before .before .before .before .before .if1 .left, ← c .before .before .before .bits2 .ensures, core-length _ _ (z .pre), le-ltb _ _ (c .if2 .left))
+    rw (
+      sym (c .before .before .before .before .before .before .is-set .ensures)
+          ∙ c .before .before .before .before .before .if1 .left,
+      ← c .before .before .before .bits2 .ensures,
+      core-length _ _
+          (z .pre),
+      le-ltb _ _ (c .if2 .left),
+    )
 
 pub pair-of-spec : {M : Type 1} → statement M
 pair-of-spec =

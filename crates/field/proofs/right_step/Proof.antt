@@ -1,7 +1,8 @@
 -- `field::right_step` meets its contract: each arm of the match by what its calls give (Field's arms), and what they give fits.
 use Rattle.word.specs.declared.Half.the-variants.{Right}
 use Rattle.field.specs.Field.{assignedBy}
-use Rattle.field.proofs.Field.{moved-fits, pair-fits, long-fits, short-fits, unit-fits, moved-arm, pair-arm, long-arm, short-arm, unit-arm, right-rest}
+use Rattle.field.proofs.Field.{moved-fits, pair-fits, long-fits, short-fits, unit-fits, moved-arm, pair-arm, long-arm}
+use Rattle.field.proofs.Field.{short-arm, unit-arm, right-rest}
 use mathlib.Core.Path.{sym, _∙_}
 use borrow.Author.Needs.{needs}
 use Rattle.field.proofs.right_step.Statement.{statement}
@@ -34,7 +35,8 @@ put-back-requires-3 c κs = (search needs, rw (c .long-of .ensures) (long-fits _
 returns : tie.Need-returns
 unfolding assignedBy
 returns c = let m = c .before .before .before .before in
-    long-arm _ Right _ _ (m .before .field .ensures) (c .put-back3 .ensures) (m .match .keys3) (sym (c .before .before .before .is-set .ensures) ∙ c .before .before .if1 .taken) (c .before .long-of .ensures)
+    long-arm _ Right _ _ (m .before .field .ensures) (c .put-back3 .ensures) (m .match .keys3)
+    (sym (c .before .before .before .is-set .ensures) ∙ c .before .before .if1 .taken) (c .before .long-of .ensures)
 
 short-of-requires : tie.Need-short-of-requires
 short-of-requires c κs = search needs
@@ -61,7 +63,8 @@ returns-3 c = let m = c .before .before in
 returns-4 : tie.Need-returns-4
 unfolding assignedBy
 returns-4 c = let m = c .before .before .before .before in
-    short-arm _ Right _ _ (m .before .field .ensures) (c .put-back4 .ensures) (m .match .keys3) (sym (c .before .before .before .is-set .ensures) ∙ c .before .before .if1 .left) (c .before .short-of .ensures)
+    short-arm _ Right _ _ (m .before .field .ensures) (c .put-back4 .ensures) (m .match .keys3)
+    (sym (c .before .before .before .is-set .ensures) ∙ c .before .before .if1 .left) (c .before .short-of .ensures)
 
 returns-5 : tie.Need-returns-5
 unfolding assignedBy

@@ -17,7 +17,11 @@ minus-zero-requires c κs = search needs
 
 returns : tie.Need-returns
 unfolding short
-returns c = search (tests, rw (c .before .before .bits .ensures, c .before .before .before .is-set .ensures) at (sym (c .before .minus-zero .ensures) ∙ c .if1 .taken))
+returns c = search (
+  tests,
+  rw (c .before .before .bits .ensures, c .before .before .before .is-set .ensures) at
+      (sym (c .before .minus-zero .ensures) ∙ c .if1 .taken),
+)
 
 bits-requires-2 : tie.Need-bits-requires-2
 bits-requires-2 c κs = search needs
@@ -30,7 +34,8 @@ refer-requires c κs = search needs
 
 returns-2 : tie.Need-returns-2
 unfolding short
-returns-2 c = let z = rw (c .before .before .before .before .before .bits .ensures, c .before .before .before .before .before .before .is-set .ensures) at (sym (c .before .before .before .before .minus-zero .ensures) ∙ c .before .before .before .if1 .left) in
+returns-2 c = let z = rw
+    (c .before .before .before .before .before .bits .ensures, c .before .before .before .before .before .before .is-set .ensures) at (sym (c .before .before .before .before .minus-zero .ensures) ∙ c .before .before .before .if1 .left) in
     rw z (rw (c .before .is-set2 .ensures, c .before .before .bits2 .ensures, c .before .before .before .before .before .bits .ensures, c .before .before .before .before .before .before .is-set .ensures) at (c .refer .ensures))
 
 pub short-of-spec : {M : Type 1} → statement M

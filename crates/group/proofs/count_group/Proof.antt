@@ -30,14 +30,16 @@ part-change-group-end : tie.Need-part-change-group-end
 part-change-group-end c = search needs
 
 change-group-requires : tie.Need-change-group-requires
-change-group-requires c κs = lent-ready _ _ _ _ _ _ (c .before .before .before .before .before .before .pre .0) (c .before .before .before .before .before .before .pre .1)
+change-group-requires c κs = lent-ready _ _ _ _ _ _ (c .before .before .before .before .before .before .pre .0)
+    (c .before .before .before .before .before .before .pre .1)
 
 enum-known-bits : tie.Need-enum-known-bits
 enum-known-bits c = search needs
 
 just-enough-requires : tie.Need-just-enough-requires
 just-enough-requires c κs = let p = c .before .before .before .before .before .before .before .before .before .before .before .before .pre in
-    let m = bits-most _ _ _ _ _ _ (p .0) (p .1) _ _ _ (c .before .before .before .before .before .change-group .ensures) _ (c .before .bits .given .1) in
+    let m = bits-most _ _ _ _ _ _ (p .0) (p .1) _ _ _ (c .before .before .before .before .before .change-group .ensures) _
+    (c .before .bits .given .1) in
     (omega (arith, m, p .0 .sized .program), omega (arith, p .0 .sized .words))
 
 same-length : tie.Need-same-length
@@ -45,7 +47,9 @@ same-length c = search needs
 
 returns : tie.Need-returns
 returns c = let p = c .before .before .before .before .before .before .before .before .before .before .before .before .before .before .pre in
-    counted-done _ _ _ _ _ _ (p .0) (p .1) _ _ _ (c .before .before .before .before .before .before .before .change-group .ensures) _ (c .before .before .before .bits .given .1) _ (c .before .just-enough .ensures) (c .if1 .taken)
+    counted-done _ _ _ _ _ _ (p .0) (p .1) _ _ _
+    (c .before .before .before .before .before .before .before .change-group .ensures) _
+    (c .before .before .before .bits .given .1) _ (c .before .just-enough .ensures) (c .if1 .taken)
 
 refuse-requires : tie.Need-refuse-requires
 refuse-requires c κs = search needs
@@ -61,21 +65,29 @@ same-length-2 c = search needs
 
 returns-2 : tie.Need-returns-2
 returns-2 c = let p = c .before .before .before .before .before .before .before .before .before .before .before .before .before .before .pre in
-    counted-stop _ _ _ _ _ _ (p .0) (p .1) _ _ _ (c .before .before .before .before .before .before .before .change-group .ensures) _ (c .before .before .before .f .given .1) _ (c .before .count-fits .ensures) (c .if2 .taken)
+    counted-stop _ _ _ _ _ _ (p .0) (p .1) _ _ _
+    (c .before .before .before .before .before .before .before .change-group .ensures) _ (c .before .before .before .f .given .1) _
+    (c .before .count-fits .ensures) (c .if2 .taken)
 
 same-length-3 : tie.Need-same-length-3
 same-length-3 c = search needs
 
 returns-3 : tie.Need-returns-3
 returns-3 c = let p = c .before .before .before .before .before .before .before .before .before .before .before .before .before .before .before .before .before .before .pre in
-    counted-wrong _ _ _ _ _ _ (p .0) (p .1) _ _ _ (c .before .before .before .before .before .before .before .before .before .before .before .change-group .ensures) _ (c .before .before .before .before .before .before .before .bits .given .1) _ (c .before .before .before .before .before .just-enough .ensures) (c .before .before .before .before .if1 .left) _ _ (c .before .before .refuse .ensures)
+    counted-wrong _ _ _ _ _ _ (p .0) (p .1) _ _ _
+    (c .before .before .before .before .before .before .before .before .before .before .before .change-group .ensures) _
+    (c .before .before .before .before .before .before .before .bits .given .1) _
+    (c .before .before .before .before .before .just-enough .ensures) (c .before .before .before .before .if1 .left) _ _
+    (c .before .before .refuse .ensures)
 
 same-length-4 : tie.Need-same-length-4
 same-length-4 c = search needs
 
 returns-4 : tie.Need-returns-4
 returns-4 c = let p = c .before .before .before .before .before .before .before .before .before .before .before .before .before .before .pre in
-    counted-short _ _ _ _ _ _ (p .0) (p .1) _ _ _ (c .before .before .before .before .before .before .before .change-group .ensures) _ (c .before .before .before .f .given .1) _ (c .before .count-fits .ensures) (c .if2 .left)
+    counted-short _ _ _ _ _ _ (p .0) (p .1) _ _ _
+    (c .before .before .before .before .before .before .before .change-group .ensures) _ (c .before .before .before .f .given .1) _
+    (c .before .count-fits .ensures) (c .if2 .left)
 
 pub count-group-spec : {M : Type 1} → statement M
 count-group-spec =

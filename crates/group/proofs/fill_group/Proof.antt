@@ -16,7 +16,8 @@ same-length c = search needs
 
 returns : tie.Need-returns
 unfolding fillOf
-returns c = rw (lt-leb _ _ (c .before .before .before .before .if1 .taken)) (rw (c .before .before .before .before .before .before .before .before .pre .room) at (c .before .before .refuse .ensures))
+returns c = rw (lt-leb _ _ (c .before .before .before .before .if1 .taken))
+    (rw (c .before .before .before .before .before .before .before .before .pre .room) at (c .before .before .refuse .ensures))
 
 refuse-requires-2 : tie.Need-refuse-requires-2
 refuse-requires-2 c κs = search needs
@@ -26,7 +27,13 @@ same-length-2 c = search needs
 
 returns-2 : tie.Need-returns-2
 unfolding fillOf
-returns-2 c = rw (le-leb _ _ (c .before .before .before .before .before .before .if1 .left), lt-leb _ _ (c .before .before .before .before .if2 .taken)) (rw (c .before .before .before .before .before .before .before .before .before .before .pre .room) at (c .before .before .refuse2 .ensures))
+returns-2 c = rw (
+  le-leb _ _ (c .before .before .before .before .before .before .if1 .left),
+  lt-leb _ _
+      (c .before .before .before .before .if2 .taken),
+)
+    (rw (c .before .before .before .before .before .before .before .before .before .before .pre .room) at
+    (c .before .before .refuse2 .ensures))
 
 count-group-requires : tie.Need-count-group-requires
 count-group-requires c κs = search needs
@@ -36,7 +43,11 @@ same-length-3 c = search needs
 
 returns-3 : tie.Need-returns-3
 unfolding fillOf
-returns-3 c = rw (le-leb _ _ (c .before .before .before .before .before .before .if1 .left), le-leb _ _ (c .before .before .before .before .if2 .left)) (c .before .before .count-group .ensures)
+returns-3 c = rw (
+  le-leb _ _ (c .before .before .before .before .before .before .if1 .left),
+  le-leb _ _
+      (c .before .before .before .before .if2 .left),
+) (c .before .before .count-group .ensures)
 
 pub fill-group-spec : {M : Type 1} → statement M
 fill-group-spec =

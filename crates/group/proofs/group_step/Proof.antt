@@ -34,7 +34,13 @@ words-lie-requires c κs = search needs
 address-of-requires : tie.Need-address-of-requires
 address-of-requires c κs =
     let p = c .before .before .before .before .before .before .before .before .before .before .before .pre in
-    record { inside = omega (arith, p .inside, p .most); room = p .room; sized = group-sized _ _ (sym (c .before .before .before .before .before .before .read-group .ensures) ∙ c .before .before .before .before .g .given .1) }
+    record {
+      inside = omega (arith, p .inside, p .most);
+      room = p .room;
+      sized = group-sized _ _
+          (sym (c .before .before .before .before .before .before .read-group .ensures)
+          ∙ c .before .before .before .before .g .given .1);
+    }
 
 -- the group that was read, and its words in the core
 module _ (c : tie.After-address-of) where
@@ -42,22 +48,27 @@ module _ (c : tie.After-address-of) where
   the-group = c .before .before .before .before .before .g .given .0 .0
 
   its-size : Sized the-group
-  its-size = group-sized _ _ (sym (c .before .before .before .before .before .before .before .read-group .ensures) ∙ c .before .before .before .before .before .g .given .1)
+  its-size = group-sized _ _
+      (sym (c .before .before .before .before .before .before .before .read-group .ensures)
+      ∙ c .before .before .before .before .before .g .given .1)
 
   it-lies : wordsLie (c .before .before .before .before .before .before .before .before .before .before .before .before .args .section) the-group ≡ true
   it-lies = sym (c .before .before .before .words-lie .ensures) ∙ c .before .before .if1 .taken
 
-  its-end : c .address-of .result .0 + the-group .program ≤ length (now (c .before .before .before .before .before .before .before .before .before .before .before .before .args .core))
+  its-end : c .address-of .result .0 + the-group .program ≤ length
+      (now (c .before .before .before .before .before .before .before .before .before .before .before .before .args .core))
   its-end =
       let z = c .before .before .before .before .before .before .before .before .before .before .before .before in
-      let l = rw (sym (c .address-of .ensures)) at (words-lie (z .args .s .given .area) (z .args .section) the-group (z .pre .room) it-lies) in
+      let l = rw (sym (c .address-of .ensures)) at
+      (words-lie (z .args .s .given .area) (z .args .section) the-group (z .pre .room) it-lies) in
       omega (arith, l .high, z .pre .inside)
 
 add-past : tie.Need-add-past
 add-past c = omega (arith, its-end c, c .before .before .before .before .before .before .before .before .before .before .before .before .pre .most)
 
 mul-fill-group : tie.Need-mul-fill-group
-mul-fill-group c = omega (arith, its-end c, c .before .before .before .before .before .before .before .before .before .before .before .before .pre .most)
+mul-fill-group c = omega
+    (arith, its-end c, c .before .before .before .before .before .before .before .before .before .before .before .before .pre .most)
 
 sub-fill-group : tie.Need-sub-fill-group
 sub-fill-group c = search needs
@@ -71,7 +82,15 @@ part-fill-group-end c = its-end c
 fill-group-requires : tie.Need-fill-group-requires
 fill-group-requires c κs =
     let p = c .before .before .before .before .before .before .before .before .before .before .before .before .before .pre in
-    record { lists = p .lists; long = p .long; words = p .words; place = p .place; sized = its-size (c .before); room = search needs }
+    record {
+      lists = p .lists;
+      long = p .long;
+      words = p .words;
+      place = p .place;
+      sized = its-size
+          (c .before);
+      room = search needs;
+    }
 
 same-length : tie.Need-same-length
 same-length c = search needs
@@ -81,8 +100,10 @@ unfolding groupStep readOutcome assignedBy
 returns c =
     let a = c .before .before .before .before in
     let z = a .before .before .before .before .before .before .before .before .before .before .before .before in
-    rw (sym (a .before .before .before .before .before .before .before .read-group .ensures) ∙ a .before .before .before .before .before .g .given .1)
-    (outcome-filled _ _ _ _ _ _ (z .pre .long) (omega (arith, its-end a, ap (λ (x : Absolute). x .0) (a .address-of .ensures))) (it-lies a) _ (ap (λ (x : Absolute). x .0) (a .address-of .ensures)) _ _ (c .before .before .fill-group .ensures))
+    rw (sym (a .before .before .before .before .before .before .before .read-group .ensures)
+    ∙ a .before .before .before .before .before .g .given .1)
+    (outcome-filled _ _ _ _ _ _ (z .pre .long) (omega (arith, its-end a, ap (λ (x : Absolute). x .0) (a .address-of .ensures)))
+    (it-lies a) _ (ap (λ (x : Absolute). x .0) (a .address-of .ensures)) _ _ (c .before .before .fill-group .ensures))
 
 enum-known-f : tie.Need-enum-known-f
 enum-known-f c = search needs
@@ -95,7 +116,8 @@ returns-2 c =
 
 returns-3 : tie.Need-returns-3
 unfolding groupStep readOutcome
-returns-3 c = rw (sym (c .before .before .before .read-group .ensures) ∙ c .before .f .given .1) (record { told = refl; left = refl })
+returns-3 c = rw (sym (c .before .before .before .read-group .ensures) ∙ c .before .f .given .1)
+    (record { told = refl; left = refl })
 
 pub group-step-spec : {M : Type 1} → statement M
 group-step-spec =

@@ -13,7 +13,11 @@ same-length : tie.Need-same-length
 same-length c = search needs
 
 returns : tie.Need-returns
-returns c = record { told = refl; left = c .before .before .clear .ensures ∙ cleared-whole (now (c .before .before .before .before .before .args .out)) }
+returns c = record {
+  told = refl;
+  left = c .before .before .clear .ensures
+      ∙ cleared-whole (now (c .before .before .before .before .before .args .out));
+}
 
 pub refuse-spec : {M : Type 1} → statement M
 refuse-spec = tie.close (tie.spec clear-requires same-length returns)

@@ -19,7 +19,8 @@ abbrev Inv-loop : tie.InvT-loop
 Inv-loop block first last end n c₀ i₀ c i =
     (c .at + 26 * (last - i) ≤ 26 * (last - first))
     × (Sees block end n c 0)
-    × (afterAll (bitsBefore block end n) (c .at) (range block i (last - i)) ≡ afterAll (bitsBefore block end n) 0 (range block first (last - first)))
+    × (afterAll (bitsBefore block end n) (c .at) (range block i (last - i)) ≡ afterAll (bitsBefore block end n) 0
+    (range block first (last - first)))
 
 abbrev μ-loop : tie.MeasureT-loop
 μ-loop block first last end n c₀ i₀ c i = last - i
@@ -46,15 +47,18 @@ loop-less : tie.Need-loop-less Inv-loop μ-loop
 loop-less c = let b = c .before .before .before .before .before .before .before in
     let a = b .args in
     let l = c .before .before .before .before .loop in
-    let t = turn-refilled (now (a .block)) (a .end) (a .n) (b .pre .words) (l .c) (l .inv .1) (omega arith) (a .last) (l .i) (omega arith) (omega arith) in
+    let t = turn-refilled (now (a .block)) (a .end) (a .n) (b .pre .words) (l .c) (l .inv .1) (omega arith) (a .last) (l .i)
+    (omega arith) (omega arith) in
     rw (rw (c .before .before .refill .ensures) at (c .before .move-on .ensures)) (omega (arith, t .on))
 
 loop-again : tie.Need-loop-again Inv-loop μ-loop
 loop-again c = let b = c .before .before .before .before .before .before .before in
     let a = b .args in
     let l = c .before .before .before .before .loop in
-    let t = turn-refilled (now (a .block)) (a .end) (a .n) (b .pre .words) (l .c) (l .inv .1) (omega arith) (a .last) (l .i) (omega arith) (omega arith) in
-    rw (rw (c .before .before .refill .ensures) at (c .before .move-on .ensures)) (omega (arith, t .reach), t .sees, t .left ∙ l .inv .2)
+    let t = turn-refilled (now (a .block)) (a .end) (a .n) (b .pre .words) (l .c) (l .inv .1) (omega arith) (a .last) (l .i)
+    (omega arith) (omega arith) in
+    rw (rw (c .before .before .refill .ensures) at (c .before .move-on .ensures))
+    (omega (arith, t .reach), t .sees, t .left ∙ l .inv .2)
 
 mul-if1 : tie.Need-mul-if1 Inv-loop μ-loop
 mul-if1 c = omega arith
@@ -69,7 +73,11 @@ returns : tie.Need-returns Inv-loop μ-loop
 returns c = let a = c .before .before .before .before .before .before .before .args in
     let l = c .before .before .before .before .loop in
     let bits = bitsBefore (now (a .block)) (a .end) (a .n) in
-    rw (sym (l .inv .2) ∙ after-all-end bits (l .c .at) (now (a .block)) (l .i) (a .last) (omega arith), le-leb _ _ (c .before .if1 .taken))
+    rw (
+      sym (l .inv .2) ∙ after-all-end bits (l .c .at) (now (a .block)) (l .i) (a .last) (omega arith),
+      le-leb _ _
+          (c .before .if1 .taken),
+    )
 
 returns-2 : tie.Need-returns-2 Inv-loop μ-loop
 returns-2 c = let a = c .before .before .before .before .before .before .args in

@@ -41,7 +41,12 @@ add-t9 c = search needs
 
 returns-2 : tie.Need-returns-2
 unfolding turnOf
-returns-2 c = rw (sym (c .before .before .before .unchanged .ensures), c .pass-word .ensures, eq-eqb _ _ (c .before .before .if1 .left))
+returns-2 c = rw (
+  sym (c .before .before .before .unchanged .ensures),
+  c .pass-word .ensures,
+  eq-eqb _ _
+      (c .before .before .if1 .left),
+)
 
 pub move-on-spec : {M : Type 1} → statement M
 move-on-spec =

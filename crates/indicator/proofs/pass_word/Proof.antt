@@ -16,7 +16,8 @@ field-requires-2 : tie.Need-field-requires-2
 field-requires-2 c κs = search needs
 
 pass-field-requires-2 : tie.Need-pass-field-requires-2
-pass-field-requires-2 c κs = rw (c .before .pass-field .ensures) (omega (arith, past-at-most (c .before .before .before .args .c) (c .before .before .field .result)))
+pass-field-requires-2 c κs = rw (c .before .pass-field .ensures)
+    (omega (arith, past-at-most (c .before .before .before .args .c) (c .before .before .field .result)))
 
 returns : tie.Need-returns
 unfolding pastWord

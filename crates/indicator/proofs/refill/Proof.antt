@@ -28,7 +28,13 @@ mul-w c = search needs
 
 shared-slice-read-w : tie.Need-shared-slice-read-w
 shared-slice-read-w c = let z = c .before .before .before .before in
-    omega (arith, edge-wants _ _ _ (z .pre .words) (z .args .c) (z .pre .sees) (z .pre .near) (c .before .if1 .left), z .pre .words .first, z .pre .words .last)
+    omega (
+      arith,
+      edge-wants _ _ _ (z .pre .words) (z .args .c) (z .pre .sees) (z .pre .near)
+          (c .before .if1 .left),
+      z .pre .words .first,
+      z .pre .words .last,
+    )
 
 add-t9 : tie.Need-add-t9
 add-t9 c = search needs

@@ -1,4 +1,5 @@
 -- `layout::lists_of` meets its contract: each return by the tests that led to it.
+use Rattle.lists.specs.Load.{listWords}
 use Rattle.word.proofs.Lists.{range-lent}
 use denote.Ref.{now}
 use Rattle.layout.specs.Layout.{listsIn}
@@ -17,7 +18,7 @@ part-result-end c = search needs
 
 returns : tie.Need-returns
 unfolding listsIn
-returns c = range-lent (now (c .before .args .place)) 15 288
+returns c = range-lent (now (c .before .args .place)) 15 listWords
 
 pub lists-of-spec : {M : Type 1} → statement M
 lists-of-spec = tie.close (tie.spec sub-result part-result-start part-result-end returns)

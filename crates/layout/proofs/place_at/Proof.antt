@@ -2,7 +2,7 @@
 use Rattle.word.proofs.Lists.{range-lent}
 use denote.Ref.{now}
 use Prim.Native.Nat.{_+_, _*_}
-use Rattle.layout.specs.Layout.{placeIn}
+use Rattle.layout.specs.Layout.{placeWords, placeIn}
 use borrow.Author.Needs.{needs}
 use Rattle.layout.proofs.place_at.Statement.{statement}
 use Rattle.layout.proofs.place_at.Tie as tie
@@ -30,7 +30,7 @@ part-result-end c = search needs
 
 returns : tie.Need-returns
 unfolding placeIn
-returns c = let a = c .before .args in range-lent (now (a .desk)) (17 + a .p * 303) 303
+returns c = let a = c .before .args in range-lent (now (a .desk)) (17 + a .p * placeWords) placeWords
 
 pub place-at-spec : {M : Type 1} → statement M
 place-at-spec =

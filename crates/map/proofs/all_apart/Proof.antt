@@ -25,7 +25,8 @@ apart-from-later-requires c κs = omega arith
 returns : tie.Need-returns Inv-loop μ-loop
 returns c =
     let l = c .before .before .before .loop in
-    two-fails stretchesApart none _ (l .r) _ (omega arith) (sym (c .before .apart-from-later .ensures) ∙ not-true _ (c .if1 .taken)) (l .inv .1)
+    two-fails stretchesApart none _ (l .r) _ (omega arith) (sym (c .before .apart-from-later .ensures) ∙ not-true _ (c .if1 .taken))
+    (l .inv .1)
 
 add-r : tie.Need-add-r Inv-loop μ-loop
 add-r c = omega arith
@@ -36,8 +37,11 @@ loop-less c = omega arith
 loop-again : tie.Need-loop-again Inv-loop μ-loop
 loop-again c =
     let l = c .before .before .before .loop in
-    let m = c .before .before .before .before .args .m in
-    (omega arith, two-more stretchesApart none m (l .r) _ (omega arith) (sym (c .before .apart-from-later .ensures) ∙ not-false _ (c .if1 .left)) (l .inv .1))
+    let m = c .before .before .before .before .args .m in (
+      omega arith,
+      two-more stretchesApart none m (l .r) _ (omega arith)
+          (sym (c .before .apart-from-later .ensures) ∙ not-false _ (c .if1 .left)) (l .inv .1),
+    )
 
 returns-2 : tie.Need-returns-2 Inv-loop μ-loop
 returns-2 c = two-ends stretchesApart none _ (c .before .loop .r) _ (omega arith) (c .before .loop .inv .1)

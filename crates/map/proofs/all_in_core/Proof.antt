@@ -44,8 +44,11 @@ loop-again : tie.Need-loop-again Inv-loop μ-loop
 unfolding inCore
 loop-again c =
     let l = c .before .before .before .before .loop in
-    let m = c .before .before .before .before .before .args .t2 in
-    (omega arith, every-more _ none m (l .r) _ (omega arith) (sym (c .before .run-within .ensures) ∙ not-false _ (c .if1 .left)) (l .inv .1))
+    let m = c .before .before .before .before .before .args .t2 in (
+      omega arith,
+      every-more _ none m (l .r) _ (omega arith) (sym (c .before .run-within .ensures) ∙ not-false _ (c .if1 .left))
+          (l .inv .1),
+    )
 
 returns-2 : tie.Need-returns-2 Inv-loop μ-loop
 returns-2 c = every-ends _ none _ (c .before .loop .r) _ (omega arith) (c .before .loop .inv .1)

@@ -54,8 +54,13 @@ loop-again : tie.Need-loop-again Inv-loop μ-loop
 unfolding stretchesApart
 loop-again c =
     let l = c .before .before .before .before .loop in
-    let m = c .before .before .before .before .before .before .args .t1 in
-    (omega arith, omega arith, refl, every-more _ none m (l .q) _ (omega arith) (sym (c .before .runs-apart .ensures) ∙ not-false _ (c .if1 .left)) (l .inv .3))
+    let m = c .before .before .before .before .before .before .args .t1 in (
+      omega arith,
+      omega arith,
+      refl,
+      every-more _ none m (l .q) _ (omega arith)
+          (sym (c .before .runs-apart .ensures) ∙ not-false _ (c .if1 .left)) (l .inv .3),
+    )
 
 returns-2 : tie.Need-returns-2 Inv-loop μ-loop
 returns-2 c = every-ends _ none _ (c .before .loop .q) _ (omega arith) (c .before .loop .inv .3)

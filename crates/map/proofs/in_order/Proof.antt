@@ -5,7 +5,8 @@ use native.Mathlib.Omega.{arith}
 use borrow.Author.Needs.{needs}
 use lib.ListN.{drop}
 use Rattle.map.specs.HowOrder.{inOrder}
-use Rattle.map.proofs.Order.{order-past, order-away, order-skip, order-long, order-next, order-starts, order-fails, order-more, order-ends}
+use Rattle.map.proofs.Order.{order-past, order-away, order-skip, order-long, order-next, order-starts, order-fails}
+use Rattle.map.proofs.Order.{order-more, order-ends}
 use Rattle.map.proofs.in_order.Statement.{statement}
 use Rattle.map.proofs.in_order.Tie as tie
 
@@ -36,7 +37,8 @@ returns c =
     let l = c .before .before .before .before .before .before .loop in
     let f = c .before .struct-known .given in
     order-fails _ (l .left) _ (l .r) _ (l .inv .2) (omega arith)
-    (order-away _ (l .left) (w .result) _ _ (l .inv .1) (w .ensures) (f .0 .0 .fits) (omega arith) (c .before .before .if1 .taken) (c .if2 .taken))
+    (order-away _ (l .left) (w .result) _ _ (l .inv .1) (w .ensures) (f .0 .0 .fits) (omega arith) (c .before .before .if1 .taken)
+    (c .if2 .taken))
 
 returns-2 : tie.Need-returns-2 Inv-loop μ-loop
 returns-2 c =
@@ -57,7 +59,8 @@ loop-again c =
       omega arith,
       l .inv .1,
       order-more _ (l .left) _ (l .r) _ (l .inv .2) (l .left) (omega arith)
-          (order-skip _ (l .left) (w .result) _ _ (l .inv .1) (w .ensures) (f .0 .0 .fits) (omega arith) (c .before .before .before .if1 .taken) (c .before .if2 .left) (c .if3 .left)),
+          (order-skip _ (l .left) (w .result) _ _ (l .inv .1) (w .ensures) (f .0 .0 .fits) (omega arith)
+          (c .before .before .before .if1 .taken) (c .before .if2 .left) (c .if3 .left)),
     )
 
 returns-3 : tie.Need-returns-3 Inv-loop μ-loop
@@ -66,7 +69,8 @@ returns-3 c =
     let l = c .before .before .before .before .before .before .loop in
     let f = c .before .struct-known2 .given in
     order-fails _ (l .left) _ (l .r) _ (l .inv .2) (omega arith)
-    (order-long _ (l .left) (w .result) _ _ (l .inv .1) (w .ensures) (f .0 .0 .fits) (omega arith) (c .before .before .if1 .left) (c .if4 .taken))
+    (order-long _ (l .left) (w .result) _ _ (l .inv .1) (w .ensures) (f .0 .0 .fits) (omega arith) (c .before .before .if1 .left)
+    (c .if4 .taken))
 
 loop-less-2 : tie.Need-loop-less-2 Inv-loop μ-loop
 loop-less-2 c = omega arith

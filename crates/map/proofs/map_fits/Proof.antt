@@ -18,7 +18,8 @@ in-order-requires : tie.Need-in-order-requires
 in-order-requires c κs = search needs
 
 returns-2 : tie.Need-returns-2
-returns-2 c = rw (← c .before .before .read-map .ensures) (sym (order-obeys _ _ (sym (c .before .in-order .ensures) ∙ c .if2 .taken)))
+returns-2 c = rw (← c .before .before .read-map .ensures)
+    (sym (order-obeys _ _ (sym (c .before .in-order .ensures) ∙ c .if2 .taken)))
 
 pairs-fit-requires-2 : tie.Need-pairs-fit-requires-2
 pairs-fit-requires-2 c κs = search needs

@@ -33,7 +33,12 @@ loop-less : tie.Need-loop-less Inv-loop μ-loop
 loop-less c = omega arith
 
 loop-again : tie.Need-loop-again Inv-loop μ-loop
-loop-again c = (omega arith, simp length-set (omega arith), filled-more _ _ _ _ _ (omega arith) (c .stretch-of .ensures) (c .before .before .loop .inv .2))
+loop-again c = (
+  omega arith,
+  simp length-set (omega arith),
+  filled-more _ _ _ _ _ (omega arith) (c .stretch-of .ensures)
+      (c .before .before .loop .inv .2),
+)
 
 returns : tie.Need-returns Inv-loop μ-loop
 unfolding mapOf

@@ -4,6 +4,7 @@ use mathlib.Core.Path.{_≡_, ap, _∙_}
 use native.Mathlib.Omega.{arith}
 use lib.ListN.{length, length-set}
 use borrow.Author.Needs.{needs}
+use Rattle.word.specs.Limits.{wordsInBlock}
 use Rattle.word.proofs.Fill.{filled, filled-none, filled-more, filled-all}
 use Rattle.octal.specs.Lines.{isGood, wordOf, lineWord, isBlock, blockOf}
 use Rattle.octal.proofs.Text.{goodFrom, good-all, good-more, good-end}
@@ -12,7 +13,7 @@ use Rattle.octal.proofs.read_lines.Tie as tie
 
 abbrev Inv-loop : tie.InvT-loop
 Inv-loop text block₀ good₀ i₀ block good i =
-    (i ≤ 256) × (length block ≡ 256) × (isBlock text ≡ goodFrom text good i) × (block ≡ filled (lineWord text) block₀ i)
+    (i ≤ 256) × (length block ≡ wordsInBlock) × (isBlock text ≡ goodFrom text good i) × (block ≡ filled (lineWord text) block₀ i)
 
 abbrev μ-loop : tie.MeasureT-loop
 μ-loop text block₀ good₀ i₀ block good i = 256 - i

@@ -35,14 +35,26 @@ unfolding segmentOf
 returns-2 c =
     let d = c .before in
     let b = d .before .before .before .before .before .before in
-    rw (sym (b .before .before .read-bank .ensures) ∙ b .ibank .given .1, ne-eqb _ _ (d .before .before .before .if1 .left), sym (d .before .before .read-bank2 .ensures) ∙ d .dbank .given .1)
+    rw (
+      sym (b .before .before .read-bank .ensures)
+          ∙ b .ibank .given .1,
+      ne-eqb _ _ (d .before .before .before .if1 .left),
+      sym (d .before .before .read-bank2 .ensures)
+          ∙ d .dbank .given .1,
+    )
 
 returns-3 : tie.Need-returns-3
 unfolding segmentOf
 returns-3 c =
     let d = c .before in
     let b = d .before .before .before .before .before .before in
-    rw (sym (b .before .before .read-bank .ensures) ∙ b .ibank .given .1, ne-eqb _ _ (d .before .before .before .if1 .left), sym (d .before .before .read-bank2 .ensures) ∙ d .f .given .1)
+    rw (
+      sym (b .before .before .read-bank .ensures)
+          ∙ b .ibank .given .1,
+      ne-eqb _ _ (d .before .before .before .if1 .left),
+      sym (d .before .before .read-bank2 .ensures)
+          ∙ d .f .given .1,
+    )
 
 returns-4 : tie.Need-returns-4
 unfolding segmentOf

@@ -30,7 +30,8 @@ returns : tie.Need-returns Inv-loop μ-loop
 returns c =
     let l = c .before .before .before .before .loop in
     let z = c .before .before .before .before .before .before .before in
-    left-fails _ _ _ _ _ _ (z .pre .0) (l .t) _ _ (omega arith) (c .before .before .core-table .ensures) _ (c .before .entry-fits .ensures) (not-true _ (c .if1 .taken)) (l .inv .1)
+    left-fails _ _ _ _ _ _ (z .pre .0) (l .t) _ _ (omega arith) (c .before .before .core-table .ensures) _
+    (c .before .entry-fits .ensures) (not-true _ (c .if1 .taken)) (l .inv .1)
 
 add-t : tie.Need-add-t Inv-loop μ-loop
 add-t c = omega arith
@@ -41,8 +42,11 @@ loop-less c = omega arith
 loop-again : tie.Need-loop-again Inv-loop μ-loop
 loop-again c =
     let l = c .before .before .before .before .loop in
-    let z = c .before .before .before .before .before .before .before in
-    (omega arith, left-more _ _ _ _ _ _ (z .pre .0) (l .t) _ _ (omega arith) (c .before .before .core-table .ensures) _ (c .before .entry-fits .ensures) (not-false _ (c .if1 .left)) (l .inv .1))
+    let z = c .before .before .before .before .before .before .before in (
+      omega arith,
+      left-more _ _ _ _ _ _ (z .pre .0) (l .t) _ _ (omega arith) (c .before .before .core-table .ensures) _
+          (c .before .entry-fits .ensures) (not-false _ (c .if1 .left)) (l .inv .1),
+    )
 
 returns-2 : tie.Need-returns-2 Inv-loop μ-loop
 returns-2 c = let l = c .before .loop in

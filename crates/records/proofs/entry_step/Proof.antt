@@ -25,14 +25,28 @@ unfolding entryStep afterEntries
 returns-2 c =
     let s = c .before .before in
     let z = s .before .before .before .before in
-    rw (← s .before .entries-fit .ensures, not-false (s .before .entries-fit .result) (s .if1 .left), core-length (z .args .g) (now (z .args .lists)) (z .pre .lists), ← c .before .entry-blocks .ensures, lt-ltb _ _ (c .if2 .taken))
+    rw (
+      ← s .before .entries-fit .ensures,
+      not-false (s .before .entries-fit .result) (s .if1 .left),
+      core-length (z .args .g)
+          (now (z .args .lists)) (z .pre .lists),
+      ← c .before .entry-blocks .ensures,
+      lt-ltb _ _ (c .if2 .taken),
+    )
 
 returns-3 : tie.Need-returns-3
 unfolding entryStep afterEntries
 returns-3 c =
     let s = c .before .before in
     let z = s .before .before .before .before in
-    rw (← s .before .entries-fit .ensures, not-false (s .before .entries-fit .result) (s .if1 .left), core-length (z .args .g) (now (z .args .lists)) (z .pre .lists), ← c .before .entry-blocks .ensures, le-ltb _ _ (c .if2 .left))
+    rw (
+      ← s .before .entries-fit .ensures,
+      not-false (s .before .entries-fit .result) (s .if1 .left),
+      core-length (z .args .g)
+          (now (z .args .lists)) (z .pre .lists),
+      ← c .before .entry-blocks .ensures,
+      le-ltb _ _ (c .if2 .left),
+    )
 
 pub entry-step-spec : {M : Type 1} → statement M
 entry-step-spec =

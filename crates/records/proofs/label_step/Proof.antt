@@ -22,7 +22,8 @@ enum-known-f c = search needs
 
 returns : tie.Need-returns
 unfolding labelStep
-returns c = rw (sym (c .before .before .before .before .read-label .ensures) ∙ c .before .before .l .given .1) (c .take-label .ensures)
+returns c = rw (sym (c .before .before .before .before .read-label .ensures) ∙ c .before .before .l .given .1)
+    (c .take-label .ensures)
 
 returns-2 : tie.Need-returns-2
 unfolding labelStep withLabel

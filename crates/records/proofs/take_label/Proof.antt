@@ -26,14 +26,26 @@ unfolding withLabel afterLabel
 returns-2 c =
     let s = c .before .before .before in
     let a = s .before .before .before .args in
-    rw (sym (s .before .assignments-fit .ensures) ∙ not-false _ (s .if1 .left), io-length (a .g) (now (a .lists)), ← c .before .entry-blocks .ensures, eq-eqb _ _ (c .if2 .taken))
+    rw (
+      sym (s .before .assignments-fit .ensures)
+          ∙ not-false _ (s .if1 .left),
+      io-length (a .g) (now (a .lists)),
+      ← c .before .entry-blocks .ensures,
+      eq-eqb _ _ (c .if2 .taken),
+    )
 
 returns-3 : tie.Need-returns-3
 unfolding withLabel afterLabel
 returns-3 c =
     let s = c .before .before .before in
     let a = s .before .before .before .args in
-    rw (sym (s .before .assignments-fit .ensures) ∙ not-false _ (s .if1 .left), io-length (a .g) (now (a .lists)), ← c .before .entry-blocks .ensures, ne-eqb _ _ (c .if2 .left))
+    rw (
+      sym (s .before .assignments-fit .ensures)
+          ∙ not-false _ (s .if1 .left),
+      io-length (a .g) (now (a .lists)),
+      ← c .before .entry-blocks .ensures,
+      ne-eqb _ _ (c .if2 .left),
+    )
 
 pub take-label-spec : {M : Type 1} → statement M
 take-label-spec =

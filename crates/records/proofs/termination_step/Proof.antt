@@ -22,7 +22,13 @@ placed-requires c κs = rw (c .before .before .read-start .ensures) (omega arith
 
 returns-2 : tie.Need-returns-2
 unfolding terminationStep
-returns-2 c = rw (← c .before .before .before .read-start .ensures, sym (c .before .before .in-bank .ensures) ∙ not-false _ (c .before .if1 .left), c .placed .ensures, c .before .before .before .read-start .ensures)
+returns-2 c = rw (
+  ← c .before .before .before .read-start .ensures,
+  sym (c .before .before .in-bank .ensures)
+      ∙ not-false _ (c .before .if1 .left),
+  c .placed .ensures,
+  c .before .before .before .read-start .ensures,
+)
 
 pub termination-step-spec : {M : Type 1} → statement M
 termination-step-spec =

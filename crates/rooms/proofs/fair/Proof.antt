@@ -3,7 +3,8 @@ use Prim.Native.Nat.{_≤_, _-_}
 use mathlib.Core.Path.{_≡_, refl}
 use native.Mathlib.Omega.{arith}
 use lib.ListN.{length, length-set}
-use Rattle.rooms.proofs.Counted.{Counted, counted-none, counted-free, counted-held, counted-stranger, counted-third, counted-end}
+use Rattle.rooms.proofs.Counted.{Counted, counted-none, counted-free, counted-held, counted-stranger, counted-third}
+use Rattle.rooms.proofs.Counted.{counted-end}
 use Rattle.rooms.proofs.fair.Statement.{statement}
 use Rattle.rooms.proofs.fair.Tie as tie
 
@@ -26,7 +27,8 @@ add-i : tie.Need-add-i Inv-loop μ-loop
 add-i c = omega arith
 
 returns : tie.Need-returns Inv-loop μ-loop
-returns c = let l = c .before .before .before .before .loop in counted-stranger _ _ (l .i) _ (l .inv .3) (omega arith) (c .if2 .taken)
+returns c = let l = c .before .before .before .before .loop in counted-stranger _ _ (l .i) _ (l .inv .3) (omega arith)
+    (c .if2 .taken)
 
 sub-r : tie.Need-sub-r Inv-loop μ-loop
 sub-r c = omega arith
@@ -59,8 +61,13 @@ loop-less c = omega arith
 
 loop-again : tie.Need-loop-again Inv-loop μ-loop
 loop-again c =
-    let l = c .before .before .before .before .before .loop in
-    (omega arith, simp length-set (omega arith), omega arith, counted-held _ _ (l .i) _ (l .inv .3) _ (omega arith) (omega arith) (omega arith) (c .if3 .left))
+    let l = c .before .before .before .before .before .loop in (
+      omega arith,
+      simp length-set (omega arith),
+      omega arith,
+      counted-held _ _ (l .i) _ (l .inv .3) _ (omega arith) (omega arith)
+          (omega arith) (c .if3 .left),
+    )
 
 loop-less-2 : tie.Need-loop-less-2 Inv-loop μ-loop
 loop-less-2 c = omega arith

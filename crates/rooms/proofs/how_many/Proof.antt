@@ -28,7 +28,12 @@ one-if-same-requires : tie.Need-one-if-same-requires Inv-loop μ-loop
 one-if-same-requires c κs = omega arith
 
 add-n : tie.Need-add-n Inv-loop μ-loop
-add-n c = omega (arith, hit-most (getD (now (c .before .before .before .before .before .args .numbers)) (c .before .before .before .loop .i) 0) (c .before .before .before .before .before .args .x))
+add-n c = omega (
+  arith,
+  hit-most
+      (getD (now (c .before .before .before .before .before .args .numbers)) (c .before .before .before .loop .i) 0)
+      (c .before .before .before .before .before .args .x),
+)
 
 add-i : tie.Need-add-i Inv-loop μ-loop
 add-i c = omega arith
@@ -40,8 +45,12 @@ loop-again : tie.Need-loop-again Inv-loop μ-loop
 loop-again c =
     let a = c .before .before .before .before .before .args in
     let l = c .before .before .before .loop in
-    let e = c .one-if-same .ensures in
-    (omega arith, omega (arith, hit-most (getD (now (a .numbers)) (l .i) 0) (a .x)), rw e (count-more (a .x) (now (a .numbers)) (l .i) (l .n) _ (omega arith) (l .inv .2)))
+    let e = c .one-if-same .ensures in (
+      omega arith,
+      omega (arith, hit-most (getD (now (a .numbers)) (l .i) 0) (a .x)),
+      rw e
+          (count-more (a .x) (now (a .numbers)) (l .i) (l .n) _ (omega arith) (l .inv .2)),
+    )
 
 returns : tie.Need-returns Inv-loop μ-loop
 returns c = count-end _ _ (c .before .loop .i) _ _ (omega arith) (c .before .loop .inv .2)

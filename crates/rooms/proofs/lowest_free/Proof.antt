@@ -37,8 +37,11 @@ loop-less c = omega arith
 
 loop-again : tie.Need-loop-again Inv-loop μ-loop
 loop-again c =
-    let l = c .before .before .before .loop in
-    (omega arith, lowest-more (now (c .before .before .before .before .args .holders)) (l .p) _ (omega arith) (c .if1 .left) (l .inv .1))
+    let l = c .before .before .before .loop in (
+      omega arith,
+      lowest-more (now (c .before .before .before .before .args .holders)) (l .p) _ (omega arith) (c .if1 .left)
+          (l .inv .1),
+    )
 
 returns-2 : tie.Need-returns-2 Inv-loop μ-loop
 returns-2 c = lowest-end _ (c .before .loop .p) _ (omega arith) (c .before .loop .inv .1)

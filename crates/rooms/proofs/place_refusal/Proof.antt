@@ -21,11 +21,23 @@ idle-rooms-requires c κs = search needs
 
 returns-2 : tie.Need-returns-2
 unfolding placeRefusal
-returns-2 c = search (tests, sym (c .before .idle-rooms .ensures), sym (c .before .before .free-places .ensures), sym (c .before .before .before .before .before .held-by .ensures))
+returns-2 c = search (
+  tests,
+  sym (c .before .idle-rooms .ensures),
+  sym (c .before .before .free-places .ensures),
+  sym
+      (c .before .before .before .before .before .held-by .ensures),
+)
 
 returns-3 : tie.Need-returns-3
 unfolding placeRefusal
-returns-3 c = search (tests, sym (c .before .idle-rooms .ensures), sym (c .before .before .free-places .ensures), sym (c .before .before .before .before .before .held-by .ensures))
+returns-3 c = search (
+  tests,
+  sym (c .before .idle-rooms .ensures),
+  sym (c .before .before .free-places .ensures),
+  sym
+      (c .before .before .before .before .before .held-by .ensures),
+)
 
 returns-4 : tie.Need-returns-4
 unfolding placeRefusal

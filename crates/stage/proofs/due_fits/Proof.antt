@@ -47,7 +47,11 @@ returns-3 c = rw (c .enum-told .given .1)
 
 returns-4 : tie.Need-returns-4
 unfolding dueFits
-returns-4 c = rw (c .before .before .before .before .before .before .due .given .1, sym (c .before .before .before .bank-fits .ensures) ∙ not-false _ (c .before .before .if1 .left)) (c .bank-fits2 .ensures)
+returns-4 c = rw (
+  c .before .before .before .before .before .before .due .given .1,
+  sym
+      (c .before .before .before .bank-fits .ensures) ∙ not-false _ (c .before .before .if1 .left),
+) (c .bank-fits2 .ensures)
 
 returns-5 : tie.Need-returns-5
 unfolding dueFits
@@ -55,7 +59,11 @@ returns-5 c = rw (c .before .before .due2 .given .1) (c .bank-fits3 .ensures)
 
 returns-6 : tie.Need-returns-6
 unfolding dueFits
-returns-6 c = rw (c .before .before .before .before .due3 .given .1, sym (c .before .before .section-fits .ensures) ∙ not-false _ (c .before .if2 .left)) (c .bank-fits4 .ensures)
+returns-6 c = rw (
+  c .before .before .before .before .due3 .given .1,
+  sym (c .before .before .section-fits .ensures)
+      ∙ not-false _ (c .before .if2 .left),
+) (c .bank-fits4 .ensures)
 
 pub due-fits-spec : {M : Type 1} → statement M
 due-fits-spec =

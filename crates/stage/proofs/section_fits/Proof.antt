@@ -21,7 +21,13 @@ returns-2 c =
     let s = c .before .before .before .before .before .before .before .before in
     let a = s .args in
     let n = c .before .before .before .if1 .left in
-    rw (core-length (a .g) (now (a .lists)) (s .pre), lt-ltb _ _ n, core-at (a .g) (now (a .lists)) (s .pre) _ _ n, ← c .before .before .core-table .ensures)
+    rw (
+      core-length (a .g) (now (a .lists)) (s .pre),
+      lt-ltb _ _ n,
+      core-at (a .g) (now (a .lists))
+          (s .pre) _ _ n,
+      ← c .before .before .core-table .ensures,
+    )
 
 pub section-fits-spec : {M : Type 1} → statement M
 section-fits-spec = tie.close (tie.spec returns core-table-requires returns-2)

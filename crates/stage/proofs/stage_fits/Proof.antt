@@ -38,7 +38,13 @@ returns-2 : tie.Need-returns-2
 unfolding stageFits
 returns-2 c = let z = c .before .before .before .before .before .before .before in
     let e = core-length (z .args .g) (now (z .args .lists)) (z .pre) in
-    rw (c .before .before .before .s2 .given .1, e, sym (c .before .due-fits .ensures) ∙ not-true _ (c .if2 .taken), and-false (labelCountsFit (z .args .g .io) (z .args .g .tables) _))
+    rw (
+      c .before .before .before .s2 .given .1,
+      e,
+      sym (c .before .due-fits .ensures)
+          ∙ not-true _ (c .if2 .taken),
+      and-false (labelCountsFit (z .args .g .io) (z .args .g .tables) _),
+    )
 
 label-counts-fit-requires-2 : tie.Need-label-counts-fit-requires-2
 label-counts-fit-requires-2 c κs = search needs
@@ -63,13 +69,24 @@ returns-4 : tie.Need-returns-4
 unfolding stageFits
 returns-4 c = let z = c .before .before .before .before .before .before .before .before in
     let e = core-length (z .args .g) (now (z .args .lists)) (z .pre) in
-    rw (c .before .before .before .before .s .given .1, e, sym (c .before .before .label-counts-fit .ensures) ∙ not-false _ (c .before .if1 .left), ← c .entry-blocks .ensures)
+    rw (
+      c .before .before .before .before .s .given .1,
+      e,
+      sym (c .before .before .label-counts-fit .ensures)
+          ∙ not-false _ (c .before .if1 .left),
+      ← c .entry-blocks .ensures,
+    )
 
 returns-5 : tie.Need-returns-5
 unfolding stageFits
 returns-5 c = let z = c .before .before .before .before .before .before .before .before in
     let e = core-length (z .args .g) (now (z .args .lists)) (z .pre) in
-    rw (c .before .before .before .before .s2 .given .1, e, sym (c .before .before .due-fits .ensures) ∙ not-false _ (c .before .if2 .left)) (c .label-counts-fit2 .ensures ∙ sym (and-true _))
+    rw (
+      c .before .before .before .before .s2 .given .1,
+      e,
+      sym (c .before .before .due-fits .ensures)
+          ∙ not-false _ (c .before .if2 .left),
+    ) (c .label-counts-fit2 .ensures ∙ sym (and-true _))
 
 returns-6 : tie.Need-returns-6
 unfolding stageFits

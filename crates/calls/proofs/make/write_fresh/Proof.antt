@@ -18,7 +18,8 @@ copy-in-requires c κs = simp length-set (omega arith)
 clear-places-requires : tie.Need-clear-places-requires
 clear-places-requires c κs =
     let s = c .before .before .before .before .before .before .before in
-    ap length (c .before .before .before .copy-in .ensures) ∙ fixed-length (now (s .args .desk)) (s .args .core) (now (s .args .numbers)) (s .pre .0) (s .pre .1)
+    ap length (c .before .before .before .copy-in .ensures)
+    ∙ fixed-length (now (s .args .desk)) (s .args .core) (now (s .args .numbers)) (s .pre .0) (s .pre .1)
 
 same-length : tie.Need-same-length
 same-length c =

@@ -23,13 +23,18 @@ area-in-requires : tie.Need-area-in-requires
 area-in-requires c κs = search needs
 
 returns : tie.Need-returns
-returns c = area-outside _ _ _ _ (c .before .before .before .read-map .ensures ∙ ap mapOf (c .before .before .before .before .map-numbers .ensures)) (sym (c .before .area-in .ensures) ∙ not-true _ (c .if1 .taken))
+returns c = area-outside _ _ _ _
+    (c .before .before .before .read-map .ensures ∙ ap mapOf (c .before .before .before .before .map-numbers .ensures))
+    (sym (c .before .area-in .ensures) ∙ not-true _ (c .if1 .taken))
 
 all-beside-requires : tie.Need-all-beside-requires
 all-beside-requires c κs = search needs
 
 returns-2 : tie.Need-returns-2
-returns-2 c = area-inside _ _ _ _ (c .before .before .before .before .read-map .ensures ∙ ap mapOf (c .before .before .before .before .before .map-numbers .ensures)) _ (sym (c .before .before .area-in .ensures) ∙ not-false _ (c .before .if1 .left)) (c .all-beside .ensures)
+returns-2 c = area-inside _ _ _ _
+    (c .before .before .before .before .read-map .ensures
+    ∙ ap mapOf (c .before .before .before .before .before .map-numbers .ensures)) _
+    (sym (c .before .before .area-in .ensures) ∙ not-false _ (c .before .if1 .left)) (c .all-beside .ensures)
 
 pub area-fits-spec : {M : Type 1} → statement M
 area-fits-spec =

@@ -8,7 +8,8 @@ use Rattle.lists.proofs.Take.{taken-words, taken-nothing}
 use Rattle.layout.proofs.Places.{lists-length}
 use Rattle.rooms.specs.Rooms.{placeRefusal, lowestFree}
 use Rattle.desk.proofs.Facts.{sound-long}
-use Rattle.calls.proofs.Grant.{area-in-core, area-small, none-due, place-inside, place-long, desk-written, words-inside, words-lent, grant-denied, grant-outside, grant-unlisted, grant-given}
+use Rattle.calls.proofs.Grant.{area-in-core, area-small, none-due, place-inside, place-long, desk-written, words-inside}
+use Rattle.calls.proofs.Grant.{words-lent, grant-denied, grant-outside, grant-unlisted, grant-given}
 use borrow.Author.Needs.{needs}
 use Rattle.calls.proofs.open.grant.Statement.{statement}
 use Rattle.calls.proofs.open.grant.Tie as tie
@@ -153,7 +154,8 @@ returns-3 c =
     let o = taken-words _ _ _ _ _ _ k .0 in
     let n = sound-long _ (s .pre .desk) in
     grant-given _ _ _ _ _ _ f g _ _ _ o (l .lowest-free .ensures ∙ ap lowestFree e)
-    (desk-written _ _ _ _ _ _ _ _ n (omega (arith, part-write-place-end l)) refl (area-small _ (s .pre .desk) _ _ (s .pre .room) g) o
+    (desk-written _ _ _ _ _ _ _ _ n (omega (arith, part-write-place-end l)) refl
+    (area-small _ (s .pre .desk) _ _ (s .pre .room) g) o
     (c .before .before .before .before .before .before .write-place .ensures))
     (c .before .before .clear .ensures)
 

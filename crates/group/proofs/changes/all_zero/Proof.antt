@@ -37,8 +37,11 @@ loop-less : tie.Need-loop-less Inv-loop μ-loop
 loop-less c = omega arith
 
 loop-again : tie.Need-loop-again Inv-loop μ-loop
-loop-again c = let l = c .before .before .before .loop in
-    (omega arith, every-more isZero 0 (now (c .before .before .before .before .args .numbers)) (l .i) _ (omega arith) (eq-eqb _ _ (c .if1 .left)) (l .inv .1))
+loop-again c = let l = c .before .before .before .loop in (
+  omega arith,
+  every-more isZero 0 (now (c .before .before .before .before .args .numbers)) (l .i) _ (omega arith)
+      (eq-eqb _ _ (c .if1 .left)) (l .inv .1),
+)
 
 returns-2 : tie.Need-returns-2 Inv-loop μ-loop
 returns-2 c = every-ends isZero 0 _ (c .before .loop .i) _ (omega arith) (c .before .loop .inv .1)

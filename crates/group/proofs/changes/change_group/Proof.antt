@@ -34,10 +34,14 @@ same-length c = search needs
 
 returns : tie.Need-returns
 returns c = let p = c .before .before .before .before .before .before .before .before .before .before .before .before .pre in
-    no-change _ _ _ _ _ _ (p .indicators) (copied-in _ _ _ _ _ _ p _ (c .before .before .before .before .before .before .copy-in .ensures)) (sym (c .before .all-zero .ensures) ∙ c .if1 .taken)
+    no-change _ _ _ _ _ _ (p .indicators)
+    (copied-in _ _ _ _ _ _ p _ (c .before .before .before .before .before .before .copy-in .ensures))
+    (sym (c .before .all-zero .ensures) ∙ c .if1 .taken)
 
 change-words-requires : tie.Need-change-words-requires
-change-words-requires c κs = copied-ready _ _ _ _ _ _ (c .before .before .before .before .before .before .before .before .before .before .before .before .before .pre) _ (c .before .before .before .before .before .before .before .copy-in .ensures)
+change-words-requires c κs = copied-ready _ _ _ _ _ _
+    (c .before .before .before .before .before .before .before .before .before .before .before .before .before .pre) _
+    (c .before .before .before .before .before .before .before .copy-in .ensures)
 
 same-length-2 : tie.Need-same-length-2
 same-length-2 c = search needs

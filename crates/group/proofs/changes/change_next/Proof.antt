@@ -34,13 +34,19 @@ unfolding nextStep assignedBy
 returns c = let a = c .before .before .before .before .before .before .before .before .before .before .before .before .args in
     let l = assignedBy (a .s) (now (a .lists)) in
     let q = c .before .before .before .before .before .if1 .taken in
-    rw (plain-none (a .c) (length (now (a .given)) - a .k) (omega arith), moved-both l (getD (now (a .given)) (a .k) 0) (a .c) (eq-eqb _ _ q), sym (c .before .before .before .moved-word .ensures)) (c .before .before .store-word .ensures)
+    rw (
+      plain-none (a .c) (length (now (a .given)) - a .k) (omega arith),
+      moved-both l (getD (now (a .given)) (a .k) 0) (a .c)
+          (eq-eqb _ _ q),
+      sym (c .before .before .before .moved-word .ensures),
+    ) (c .before .before .store-word .ensures)
 
 pass-unchanged-requires : tie.Need-pass-unchanged-requires
 pass-unchanged-requires c κs = search needs
 
 returns-2 : tie.Need-returns-2
-returns-2 c = unchanged-next _ _ _ _ _ _ (c .before .if2 .taken) (c .before .before .before .before .before .before .before .before .before .before .pre .same) (c .pass-unchanged .ensures)
+returns-2 c = unchanged-next _ _ _ _ _ _ (c .before .if2 .taken)
+    (c .before .before .before .before .before .before .before .before .before .before .pre .same) (c .pass-unchanged .ensures)
 
 change-word-requires : tie.Need-change-word-requires
 change-word-requires c κs = search needs
@@ -54,7 +60,12 @@ same-length-2 c = search needs
 returns-3 : tie.Need-returns-3
 unfolding nextStep assignedBy
 returns-3 c = let a = c .before .before .before .before .before .before .before .before .before .before .before .before .before .before .args in
-    rw (plain-none (a .c) (length (now (a .given)) - a .k) (omega (arith, c .before .before .before .before .before .if2 .left)), sym (c .before .before .before .change-word .ensures)) (c .before .before .store-word2 .ensures)
+    rw (
+      plain-none (a .c) (length (now (a .given)) - a .k)
+          (omega (arith, c .before .before .before .before .before .if2 .left)),
+      sym (c .before .before .before .change-word .ensures),
+    )
+    (c .before .before .store-word2 .ensures)
 
 pub change-next-spec : {M : Type 1} → statement M
 change-next-spec =

@@ -28,22 +28,32 @@ refill-requires : tie.Need-refill-requires Inv-loop μ-loop
 refill-requires c κs = let p = c .before .before .before .before .before .before .before .pre .0 in
     let w = c .before .loop .inv in
     let r = turn-near _ _ _ _ _ _ p _ _ _ _ w (c .loop-test .taken) in
-    record { words = p .indicators; sees = w .sees; near = omega (arith, r); few = omega (arith, p .indicators .first, p .indicators .last, p .long) }
+    record {
+      words = p .indicators;
+      sees = w .sees;
+      near = omega (arith, r);
+      few = omega
+          (arith, p .indicators .first, p .indicators .last, p .long);
+    }
 
 change-next-requires : tie.Need-change-next-requires Inv-loop μ-loop
-change-next-requires c κs = turn-ready _ _ _ _ _ _ (c .before .before .before .before .before .before .before .before .before .pre .0) _ _ _ _ (c .before .before .before .loop .inv) (c .before .before .loop-test .taken) _ (c .before .refill .ensures)
+change-next-requires c κs = turn-ready _ _ _ _ _ _
+    (c .before .before .before .before .before .before .before .before .before .pre .0) _ _ _ _
+    (c .before .before .before .loop .inv) (c .before .before .loop-test .taken) _ (c .before .refill .ensures)
 
 enum-known-d : tie.Need-enum-known-d Inv-loop μ-loop
 enum-known-d c = search needs
 
 loop-less : tie.Need-loop-less Inv-loop μ-loop
 loop-less c = let e = c .before .d .given in
-    let r = turn-goes _ _ _ _ _ _ (c .before .before .before .before .before .before .before .before .before .before .before .before .before .before .before .pre .0) _ _ _ _ (c .before .before .before .before .before .before .before .before .before .loop .inv) (c .before .before .before .before .before .before .before .before .loop-test .taken) _ (c .before .before .before .before .before .before .before .refill .ensures) _ _ (c .before .before .before .before .before .change-next .ensures) (e .0 .0) (e .0 .1 .0) (e .1) in
+    let r = turn-goes _ _ _ _ _ _
+    (c .before .before .before .before .before .before .before .before .before .before .before .before .before .before .before .pre .0) _ _ _ _ (c .before .before .before .before .before .before .before .before .before .loop .inv) (c .before .before .before .before .before .before .before .before .loop-test .taken) _ (c .before .before .before .before .before .before .before .refill .ensures) _ _ (c .before .before .before .before .before .change-next .ensures) (e .0 .0) (e .0 .1 .0) (e .1) in
     omega (arith, r .0, r .1 .most)
 
 loop-again : tie.Need-loop-again Inv-loop μ-loop
 loop-again c = let e = c .before .d .given in
-    turn-goes _ _ _ _ _ _ (c .before .before .before .before .before .before .before .before .before .before .before .before .before .before .before .pre .0) _ _ _ _ (c .before .before .before .before .before .before .before .before .before .loop .inv) (c .before .before .before .before .before .before .before .before .loop-test .taken) _ (c .before .before .before .before .before .before .before .refill .ensures) _ _ (c .before .before .before .before .before .change-next .ensures) (e .0 .0) (e .0 .1 .0) (e .1) .1
+    turn-goes _ _ _ _ _ _
+    (c .before .before .before .before .before .before .before .before .before .before .before .before .before .before .before .pre .0) _ _ _ _ (c .before .before .before .before .before .before .before .before .before .loop .inv) (c .before .before .before .before .before .before .before .before .loop-test .taken) _ (c .before .before .before .before .before .before .before .refill .ensures) _ _ (c .before .before .before .before .before .change-next .ensures) (e .0 .0) (e .0 .1 .0) (e .1) .1
 
 enum-known-f : tie.Need-enum-known-f Inv-loop μ-loop
 enum-known-f c = search needs
@@ -52,11 +62,13 @@ clear-requires : tie.Need-clear-requires Inv-loop μ-loop
 clear-requires c κs = search needs
 
 same-length : tie.Need-same-length Inv-loop μ-loop
-same-length c = omega (arith, c .before .before .before .before .before .before .before .before .before .before .before .before .before .loop .inv .long, c .before .before .before .before .before .before .before .before .before .before .before .before .before .before .before .before .before .before .before .pre .0 .room)
+same-length c = omega
+    (arith, c .before .before .before .before .before .before .before .before .before .before .before .before .before .loop .inv .long, c .before .before .before .before .before .before .before .before .before .before .before .before .before .before .before .before .before .before .before .pre .0 .room)
 
 returns : tie.Need-returns Inv-loop μ-loop
 returns c = let e = c .before .before .before .before .before .f .given in
-    turn-stops _ _ _ _ _ _ (c .before .before .before .before .before .before .before .before .before .before .before .before .before .before .before .before .before .before .before .pre .0) _ _ _ _ (c .before .before .before .before .before .before .before .before .before .before .before .before .before .loop .inv) (c .before .before .before .before .before .before .before .before .before .before .before .before .loop-test .taken) _ (c .before .before .before .before .before .before .before .before .before .before .before .refill .ensures) _ _ (c .before .before .before .before .before .before .before .before .before .change-next .ensures) (e .0 .0) (e .1) _ (c .before .before .clear .ensures)
+    turn-stops _ _ _ _ _ _
+    (c .before .before .before .before .before .before .before .before .before .before .before .before .before .before .before .before .before .before .before .pre .0) _ _ _ _ (c .before .before .before .before .before .before .before .before .before .before .before .before .before .loop .inv) (c .before .before .before .before .before .before .before .before .before .before .before .before .loop-test .taken) _ (c .before .before .before .before .before .before .before .before .before .before .before .refill .ensures) _ _ (c .before .before .before .before .before .before .before .before .before .change-next .ensures) (e .0 .0) (e .1) _ (c .before .before .clear .ensures)
 
 same-length-2 : tie.Need-same-length-2 Inv-loop μ-loop
 same-length-2 c = omega (arith, c .before .loop .inv .long)

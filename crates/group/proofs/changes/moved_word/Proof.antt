@@ -22,7 +22,8 @@ add-t10 c = search needs
 
 returns : tie.Need-returns
 unfolding movedWord
-returns c = let e = rw (c .before .before .before .before .before .before .field .ensures) at (c .before .before .before .before .before .placed .ensures) in
+returns c = let e = rw (c .before .before .before .before .before .before .field .ensures) at
+    (c .before .before .before .before .before .placed .ensures) in
     let t = rw e at (c .before .before .before .if1 .taken) in
     rw (lt-ltb _ _ t, c .before .before .move-right .ensures)
 

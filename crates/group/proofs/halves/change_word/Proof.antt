@@ -34,7 +34,8 @@ enum-known-f c = search needs
 
 returns : tie.Need-returns
 unfolding bothOf
-returns c = rw (sym (c .before .before .before .before .left-half .ensures), c .before .before .v .given .1) (c .right-half .ensures)
+returns c = rw (sym (c .before .before .before .before .left-half .ensures), c .before .before .v .given .1)
+    (c .right-half .ensures)
 
 returns-2 : tie.Need-returns-2
 unfolding bothOf

@@ -22,7 +22,9 @@ pass-requires c κs = search needs
 
 returns : tie.Need-returns
 returns c = let a = c .before .before .before .before .before .before .args in
-    half-stays (assignedBy (a .s) (now (a .lists))) Left (a .w) _ (a .c) _ (c .before .before .before .before .field .ensures) (c .before .before .before .look .ensures) _ (sym (c .before .before .same-in .ensures) ∙ c .before .if1 .taken) (c .pass .ensures)
+    half-stays (assignedBy (a .s) (now (a .lists))) Left (a .w) _ (a .c) _ (c .before .before .before .before .field .ensures)
+    (c .before .before .before .look .ensures) _ (sym (c .before .before .same-in .ensures) ∙ c .before .if1 .taken)
+    (c .pass .ensures)
 
 type-in-requires : tie.Need-type-in-requires
 type-in-requires c κs = search needs
@@ -38,7 +40,12 @@ passed-requires c κs = search needs
 
 returns-2 : tie.Need-returns-2
 returns-2 c = let a = c .before .before .before .before .before .before .before .before .before .args in
-    half-changes (assignedBy (a .s) (now (a .lists))) Left (a .w) _ (a .c) _ (c .before .before .before .before .before .before .before .field .ensures) (c .before .before .before .before .before .before .look .ensures) _ _ _ _ (sym (c .before .before .before .before .before .same-in .ensures) ∙ c .before .before .before .before .if1 .left) (c .before .before .before .type-in .ensures) (c .before .before .more-in .ensures) (c .before .left-step .ensures) (c .passed .ensures)
+    half-changes (assignedBy (a .s) (now (a .lists))) Left (a .w) _ (a .c) _
+    (c .before .before .before .before .before .before .before .field .ensures)
+    (c .before .before .before .before .before .before .look .ensures) _ _ _ _
+    (sym (c .before .before .before .before .before .same-in .ensures) ∙ c .before .before .before .before .if1 .left)
+    (c .before .before .before .type-in .ensures) (c .before .before .more-in .ensures) (c .before .left-step .ensures)
+    (c .passed .ensures)
 
 pub left-half-spec : {M : Type 1} → statement M
 left-half-spec =

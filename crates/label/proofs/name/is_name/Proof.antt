@@ -24,16 +24,20 @@ enum-told-4 : tie.Need-enum-told-4
 enum-told-4 c = search needs
 
 returns : tie.Need-returns
-returns c = let d = c .before .before in sym (name-two _ _ _ _ (d .before .spell-word .ensures) (d .spell-word2 .ensures) ∙ ap good (c .enum-told .given .1))
+returns c = let d = c .before .before in sym
+    (name-two _ _ _ _ (d .before .spell-word .ensures) (d .spell-word2 .ensures) ∙ ap good (c .enum-told .given .1))
 
 returns-2 : tie.Need-returns-2
-returns-2 c = let d = c .before .before in sym (name-two _ _ _ _ (d .before .spell-word .ensures) (d .spell-word2 .ensures) ∙ ap good (c .enum-told2 .given .1))
+returns-2 c = let d = c .before .before in sym
+    (name-two _ _ _ _ (d .before .spell-word .ensures) (d .spell-word2 .ensures) ∙ ap good (c .enum-told2 .given .1))
 
 returns-3 : tie.Need-returns-3
-returns-3 c = let d = c .before .before in sym (name-two _ _ _ _ (d .before .spell-word .ensures) (d .spell-word2 .ensures) ∙ ap good (c .enum-told3 .given .1))
+returns-3 c = let d = c .before .before in sym
+    (name-two _ _ _ _ (d .before .spell-word .ensures) (d .spell-word2 .ensures) ∙ ap good (c .enum-told3 .given .1))
 
 returns-4 : tie.Need-returns-4
-returns-4 c = let d = c .before .before in sym (name-two _ _ _ _ (d .before .spell-word .ensures) (d .spell-word2 .ensures) ∙ ap good (c .enum-told4 .given .1))
+returns-4 c = let d = c .before .before in sym
+    (name-two _ _ _ _ (d .before .spell-word .ensures) (d .spell-word2 .ensures) ∙ ap good (c .enum-told4 .given .1))
 
 pub is-name-spec : {M : Type 1} → statement M
 is-name-spec =

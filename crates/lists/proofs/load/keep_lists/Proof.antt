@@ -54,7 +54,8 @@ part-keep-ranks-end c = search needs
 keep-ranks-requires : tie.Need-keep-ranks-requires
 keep-ranks-requires c κs =
     let s = c .before .before .before .before .before .before .before .before .before .before .before .before .before .before .before .before .before in
-    tables-ranking (s .args .area) (now (s .args .ios)) (now (s .args .tables)) (s .pre .small) (s .pre .obey) _ _ (s .pre .words) (omega arith)
+    tables-ranking (s .args .area) (now (s .args .ios)) (now (s .args .tables)) (s .pre .small) (s .pre .obey) _ _ (s .pre .words)
+    (omega arith)
 
 same-length : tie.Need-same-length
 same-length c = search needs
@@ -64,9 +65,12 @@ returns c =
     let s = c .before .before .before .before .before .before .before .before .before .before .before .before .before .before .before .before .before .before .before .before in
     let ios = now (s .args .ios) in
     let o = lists-obey (s .args .area) ios (now (s .args .tables)) (s .pre .obey) in
-    lists-written (s .args .area) ios (now (s .args .tables)) (now (s .args .lists)) (s .pre .small) (s .pre .obey) (s .pre .long) _ _ _ _ _ (s .pre .words)
-    (ap (λ (l : List ℕ). foursKept l ((length ios + 3) / 4)) (c .before .before .before .before .before .before .before .before .before .before .before .before .before .before .copy-in .ensures) ∙ filled-fours 128 ios (o .ios-few))
-    (c .before .before .before .before .before .before .before .before .before .before .keep-numbers .ensures) (c .before .before .before .before .before .before .copy-in2 .ensures) (c .before .before .keep-ranks .ensures)
+    lists-written (s .args .area) ios (now (s .args .tables)) (now (s .args .lists)) (s .pre .small) (s .pre .obey)
+    (s .pre .long) _ _ _ _ _ (s .pre .words)
+    (ap (λ (l : List ℕ). foursKept l ((length ios + 3) / 4))
+    (c .before .before .before .before .before .before .before .before .before .before .before .before .before .before .copy-in .ensures) ∙ filled-fours 128 ios (o .ios-few))
+    (c .before .before .before .before .before .before .before .before .before .before .keep-numbers .ensures)
+    (c .before .before .before .before .before .before .copy-in2 .ensures) (c .before .before .keep-ranks .ensures)
 
 pub keep-lists-spec : {M : Type 1} → statement M
 keep-lists-spec =

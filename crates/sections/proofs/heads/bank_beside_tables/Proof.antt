@@ -24,7 +24,8 @@ use Rattle.sections.proofs.heads.bank_beside_tables.Statement.{statemen
 use Rattle.sections.proofs.heads.bank_beside_tables.Tie as tie
 
 -- the table that the code reads, compared with the bank at its place in core
-beside-here : (g : Given) (l : List ℕ) → Readable g l → (bank : Bank) (k : ℕ) (at : Absolute) (t : Table) (b v : Bool) → k < g .tables
+beside-here : (g : Given) (l : List ℕ) → Readable g l → (bank : Bank) (k : ℕ) (at : Absolute) (t : Table) (b v : Bool)
+    → k < g .tables
     → at ≡ absoluteOf (g .area) (bank .at) → t ≡ coreTable g l k → b ≡ apart (at .0) (bank .count) (t .at .0) (t .len) → b ≡ v
     → besideTable (g .area) bank (getD (coreTables g l) k noTable) ≡ v
 unfolding besideTable
@@ -57,7 +58,8 @@ returns c = let b = c .before .before in
     let a = z .args in
     let n = core-length (a .g) (now (a .lists)) (z .pre .0) in
     every-fails (besideTable (a .g .area) (a .bank)) noTable (coreTables (a .g) (now (a .lists))) (l .k) _ (omega arith)
-    (beside-here _ _ (z .pre .0) _ _ _ _ _ _ (b .before .loop-test .taken) (b .before .before .before .placed .ensures) (b .core-table .ensures) (c .before .runs-apart .ensures) (not-true _ (c .if1 .taken))) (l .inv .1)
+    (beside-here _ _ (z .pre .0) _ _ _ _ _ _ (b .before .loop-test .taken) (b .before .before .before .placed .ensures)
+    (b .core-table .ensures) (c .before .runs-apart .ensures) (not-true _ (c .if1 .taken))) (l .inv .1)
 
 add-k : tie.Need-add-k Inv-loop μ-loop
 add-k c = omega arith
@@ -73,7 +75,8 @@ loop-again c = let b = c .before .before in
     let n = core-length (a .g) (now (a .lists)) (z .pre .0) in (
       omega arith,
       every-more (besideTable (a .g .area) (a .bank)) noTable (coreTables (a .g) (now (a .lists))) (l .k) _ (omega arith)
-          (beside-here _ _ (z .pre .0) _ _ _ _ _ _ (b .before .loop-test .taken) (b .before .before .before .placed .ensures) (b .core-table .ensures) (c .before .runs-apart .ensures) (not-false _ (c .if1 .left))) (l .inv .1),
+          (beside-here _ _ (z .pre .0) _ _ _ _ _ _ (b .before .loop-test .taken) (b .before .before .before .placed .ensures)
+          (b .core-table .ensures) (c .before .runs-apart .ensures) (not-false _ (c .if1 .left))) (l .inv .1),
     )
 
 returns-2 : tie.Need-returns-2 Inv-loop μ-loop

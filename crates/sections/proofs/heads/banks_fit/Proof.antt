@@ -21,7 +21,13 @@ bank-fits-requires-2 c κs = search needs
 returns-2 : tie.Need-returns-2
 unfolding banksFit
 returns-2 c = let b = c .before .before in
-    rw (← b .before .bank-fits .ensures, not-false (b .before .bank-fits .result) (b .if1 .left), ← c .before .bank-fits2 .ensures, not-true (c .before .bank-fits2 .result) (c .if2 .taken))
+    rw (
+      ← b .before .bank-fits .ensures,
+      not-false (b .before .bank-fits .result)
+          (b .if1 .left),
+      ← c .before .bank-fits2 .ensures,
+      not-true (c .before .bank-fits2 .result) (c .if2 .taken),
+    )
 
 runs-apart-requires : tie.Need-runs-apart-requires
 runs-apart-requires c κs = search needs
@@ -30,7 +36,16 @@ returns-3 : tie.Need-returns-3
 unfolding banksFit
 returns-3 c = let d = c .before .before in
     let b = d .before .before in
-    rw (← b .before .bank-fits .ensures, not-false (b .before .bank-fits .result) (b .if1 .left), ← d .before .bank-fits2 .ensures, not-false (d .before .bank-fits2 .result) (d .if2 .left), ← c .before .runs-apart .ensures, not-true (c .before .runs-apart .result) (c .if3 .taken))
+    rw (
+      ← b .before .bank-fits .ensures,
+      not-false (b .before .bank-fits .result)
+          (b .if1 .left),
+      ← d .before .bank-fits2 .ensures,
+      not-false (d .before .bank-fits2 .result)
+          (d .if2 .left),
+      ← c .before .runs-apart .ensures,
+      not-true (c .before .runs-apart .result) (c .if3 .taken),
+    )
 
 bank-beside-tables-requires : tie.Need-bank-beside-tables-requires
 bank-beside-tables-requires c κs = let b = c .before .before .before .before in
@@ -43,7 +58,19 @@ unfolding banksFit
 returns-4 c = let r = c .before .before in
     let d = r .before .before in
     let b = d .before .before in
-    rw (← b .before .bank-fits .ensures, not-false (b .before .bank-fits .result) (b .if1 .left), ← d .before .bank-fits2 .ensures, not-false (d .before .bank-fits2 .result) (d .if2 .left), ← r .before .runs-apart .ensures, not-false (r .before .runs-apart .result) (r .if3 .left), ← c .before .bank-beside-tables .ensures, not-true (c .before .bank-beside-tables .result) (c .if4 .taken))
+    rw (
+      ← b .before .bank-fits .ensures,
+      not-false (b .before .bank-fits .result)
+          (b .if1 .left),
+      ← d .before .bank-fits2 .ensures,
+      not-false (d .before .bank-fits2 .result)
+          (d .if2 .left),
+      ← r .before .runs-apart .ensures,
+      not-false (r .before .runs-apart .result)
+          (r .if3 .left),
+      ← c .before .bank-beside-tables .ensures,
+      not-true (c .before .bank-beside-tables .result) (c .if4 .taken),
+    )
 
 bank-beside-tables-requires-2 : tie.Need-bank-beside-tables-requires-2
 bank-beside-tables-requires-2 c κs = let d = c .before .before .before .before in
@@ -57,7 +84,20 @@ returns-5 c = let e = c .before in
     let r = e .before .before in
     let d = r .before .before in
     let b = d .before .before in
-    rw (← b .before .bank-fits .ensures, not-false (b .before .bank-fits .result) (b .if1 .left), ← d .before .bank-fits2 .ensures, not-false (d .before .bank-fits2 .result) (d .if2 .left), ← r .before .runs-apart .ensures, not-false (r .before .runs-apart .result) (r .if3 .left), ← e .before .bank-beside-tables .ensures, not-false (e .before .bank-beside-tables .result) (e .if4 .left)) (c .bank-beside-tables2 .ensures)
+    rw (
+      ← b .before .bank-fits .ensures,
+      not-false (b .before .bank-fits .result)
+          (b .if1 .left),
+      ← d .before .bank-fits2 .ensures,
+      not-false (d .before .bank-fits2 .result)
+          (d .if2 .left),
+      ← r .before .runs-apart .ensures,
+      not-false (r .before .runs-apart .result)
+          (r .if3 .left),
+      ← e .before .bank-beside-tables .ensures,
+      not-false (e .before .bank-beside-tables .result) (e .if4 .left),
+    )
+    (c .bank-beside-tables2 .ensures)
 
 pub banks-fit-spec : {M : Type 1} → statement M
 banks-fit-spec =

@@ -35,7 +35,15 @@ returns-2 : tie.Need-returns-2
 unfolding sectionStep withSection
 returns-2 c = let f = c .before .before .before in
     let m = f .before .before .before .before .before in
-    rw (← m .before .before .read-table-section .ensures, m .t .given .1, le-leb _ _ (f .before .if1 .left), ← f .section-fits .ensures, c .before .before .if2 .taken, c .one-fewer .ensures)
+    rw (
+      ← m .before .before .read-table-section .ensures,
+      m .t .given .1,
+      le-leb _ _
+          (f .before .if1 .left),
+      ← f .section-fits .ensures,
+      c .before .before .if2 .taken,
+      c .one-fewer .ensures,
+    )
 
 enum-known-f : tie.Need-enum-known-f
 enum-known-f c = search needs
@@ -44,7 +52,14 @@ returns-3 : tie.Need-returns-3
 unfolding sectionStep withSection
 returns-3 c = let f = c .before in
     let m = f .before .before .before .before .before in
-    rw (← m .before .before .read-table-section .ensures, m .t .given .1, le-leb _ _ (f .before .if1 .left), ← f .section-fits .ensures, c .if2 .left)
+    rw (
+      ← m .before .before .read-table-section .ensures,
+      m .t .given .1,
+      le-leb _ _
+          (f .before .if1 .left),
+      ← f .section-fits .ensures,
+      c .if2 .left,
+    )
 
 returns-4 : tie.Need-returns-4
 unfolding sectionStep withSection

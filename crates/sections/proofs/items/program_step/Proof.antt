@@ -14,13 +14,17 @@ slice-aggregate-walk-items : tie.Need-slice-aggregate-walk-items
 slice-aggregate-walk-items c = search needs
 
 walk-items-requires : tie.Need-walk-items-requires
-walk-items-requires c κs = rw (copy-same _ _ (c .before .before .before .before .before .before .before .before .pre .waits .long) (c .before .before .before .copy-in .ensures)) (c .before .before .before .before .before .before .before .before .pre)
+walk-items-requires c κs = rw
+    (copy-same _ _ (c .before .before .before .before .before .before .before .before .pre .waits .long)
+    (c .before .before .before .copy-in .ensures)) (c .before .before .before .before .before .before .before .before .pre)
 
 same-length : tie.Need-same-length
 same-length c = search needs
 
 returns : tie.Need-returns
-returns c = rw (copy-same _ _ (c .before .before .before .before .before .before .before .before .before .before .before .pre .waits .long) (c .before .before .before .before .before .before .copy-in .ensures)) at (c .before .before .walk-items .ensures)
+returns c = rw (copy-same _ _
+    (c .before .before .before .before .before .before .before .before .before .before .before .pre .waits .long)
+    (c .before .before .before .before .before .before .copy-in .ensures)) at (c .before .before .walk-items .ensures)
 
 pub program-step-spec : {M : Type 1} → statement M
 program-step-spec =

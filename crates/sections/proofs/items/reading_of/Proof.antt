@@ -21,7 +21,8 @@ core-table-requires : tie.Need-core-table-requires
 core-table-requires c κs = search needs
 
 add-above : tie.Need-add-above
-add-above c = let b = rw (c .before .before .before .before .due3 .given .1) at (c .before .before .before .before .before .before .before .pre .1) in
+add-above c = let b = rw (c .before .before .before .before .due3 .given .1) at
+    (c .before .before .before .before .before .before .before .pre .1) in
     omega arith
 
 returns : tie.Need-returns

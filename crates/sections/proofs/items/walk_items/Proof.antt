@@ -49,16 +49,20 @@ loop-less : tie.Need-loop-less Inv-loop μ-loop
 loop-less c = let s = c .before .before .before .before .before in
     let b = s .before .before in
     let l = b .before .before .before .loop in
-    let o = turn-on _ _ (l .counts) (l .next) (l .i) (l .core) _ (b .before .before .loop-test .taken) (b .if1 .left) (l .inv .3) _ _ (s .item-step .ensures) _ _ _ (c .before .d .given .1) in
+    let o = turn-on _ _ (l .counts) (l .next) (l .i) (l .core) _ (b .before .before .loop-test .taken) (b .if1 .left)
+    (l .inv .3) _ _ (s .item-step .ensures) _ _ _ (c .before .d .given .1) in
     omega (arith, o .0, o .1)
 
 loop-again : tie.Need-loop-again Inv-loop μ-loop
 loop-again c = let s = c .before .before .before .before .before in
     let b = s .before .before in
     let l = b .before .before .before .loop in
-    let o = turn-on _ _ (l .counts) (l .next) (l .i) (l .core) _ (b .before .before .loop-test .taken) (b .if1 .left) (l .inv .3) _ _ (s .item-step .ensures) _ _ _ (c .before .d .given .1) in
-    let w = turn-waits _ _ (l .counts) (l .next) (l .i) (l .core) _ (b .before .before .loop-test .taken) (b .if1 .left) (l .inv .3) _ _ (s .item-step .ensures) _ _ _ (c .before .d .given .1) (l .inv .2) in
-    let n = turn-length _ _ (l .counts) (l .next) (l .i) (l .core) _ (b .before .before .loop-test .taken) (b .if1 .left) (l .inv .3) _ _ (s .item-step .ensures) (l .inv .2) in
+    let o = turn-on _ _ (l .counts) (l .next) (l .i) (l .core) _ (b .before .before .loop-test .taken) (b .if1 .left)
+    (l .inv .3) _ _ (s .item-step .ensures) _ _ _ (c .before .d .given .1) in
+    let w = turn-waits _ _ (l .counts) (l .next) (l .i) (l .core) _ (b .before .before .loop-test .taken) (b .if1 .left)
+    (l .inv .3) _ _ (s .item-step .ensures) _ _ _ (c .before .d .given .1) (l .inv .2) in
+    let n = turn-length _ _ (l .counts) (l .next) (l .i) (l .core) _ (b .before .before .loop-test .taken) (b .if1 .left)
+    (l .inv .3) _ _ (s .item-step .ensures) (l .inv .2) in
     (o .1, n ∙ l .inv .1, w, o .2)
 
 enum-known-r : tie.Need-enum-known-r Inv-loop μ-loop
@@ -68,13 +72,15 @@ same-length-2 : tie.Need-same-length-2 Inv-loop μ-loop
 same-length-2 c = let s = c .before .before .before .before .before in
     let b = s .before .before in
     let l = b .before .before .before .loop in
-    turn-length _ _ (l .counts) (l .next) (l .i) (l .core) _ (b .before .before .loop-test .taken) (b .if1 .left) (l .inv .3) _ _ (s .item-step .ensures) (l .inv .2) ∙ l .inv .1
+    turn-length _ _ (l .counts) (l .next) (l .i) (l .core) _ (b .before .before .loop-test .taken) (b .if1 .left) (l .inv .3) _ _
+    (s .item-step .ensures) (l .inv .2) ∙ l .inv .1
 
 returns-2 : tie.Need-returns-2 Inv-loop μ-loop
 returns-2 c = let s = c .before .before .before .before .before in
     let b = s .before .before in
     let l = b .before .before .before .loop in
-    turn-stop _ _ (l .counts) (l .next) (l .i) (l .core) _ (b .before .before .loop-test .taken) (b .if1 .left) (l .inv .3) _ _ (s .item-step .ensures) _ (c .before .r .given .1)
+    turn-stop _ _ (l .counts) (l .next) (l .i) (l .core) _ (b .before .before .loop-test .taken) (b .if1 .left) (l .inv .3) _ _
+    (s .item-step .ensures) _ (c .before .r .given .1)
 
 same-length-3 : tie.Need-same-length-3 Inv-loop μ-loop
 same-length-3 c = c .before .loop .inv .1

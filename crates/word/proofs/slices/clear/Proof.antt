@@ -35,15 +35,20 @@ loop-less c = omega arith
 loop-again : tie.Need-loop-again Inv-loop μ-loop
 loop-again c =
     let l = c .before .loop in
-    let n = c .before .before .args .n in
-    (omega arith, simp length-set (omega arith), copied-more _ _ _ _ _ _ (omega arith) (rw length-replicate (omega arith)) (sym (getD-replicate n (l .i) 0 0 (omega arith))) (l .inv .2))
+    let n = c .before .before .args .n in (
+      omega arith,
+      simp length-set (omega arith),
+      copied-more _ _ _ _ _ _ (omega arith) (rw length-replicate (omega arith))
+          (sym (getD-replicate n (l .i) 0 0 (omega arith))) (l .inv .2),
+    )
 
 same-length : tie.Need-same-length Inv-loop μ-loop
 same-length c = omega arith
 
 returns : tie.Need-returns Inv-loop μ-loop
 unfolding cleared
-returns c = copied-all _ _ (replicate (c .before .before .args .n) 0) _ _ (rw length-replicate (omega arith)) (c .before .loop .inv .2)
+returns c = copied-all _ _ (replicate (c .before .before .args .n) 0) _ _ (rw length-replicate (omega arith))
+    (c .before .loop .inv .2)
 
 pub clear-spec : {M : Type 1} → statement M
 clear-spec =
