@@ -74,7 +74,7 @@
    loads, and bring both back together: a load that goes on over another core ends in another image, and no call can tell. A desk
    is for the library that made it: save CLAMP_VERSION_STRING beside it.
 
-   Stack. Measured, the most of many calls: 2,720 bytes in open, 2,768 in feed, 432 in release, 160 in make (docs/PERFORMANCE.md). The
+   Stack. Measured, the most of many calls: 2,736 bytes in open, 2,784 in feed, 448 in release, 160 in make (docs/PERFORMANCE.md). The
    first call that copies memory may take some 3 KB more, where the dynamic linker then looks for memcpy. No call is recursive.
 
    Cost. Every call tests the whole desk: some 400 instructions with one load of few tables, 8,700 with twelve loads of 128 tables

@@ -1,7 +1,7 @@
 -- What happened made no difference to a load: its feeds are answered, and its area is, as if they alone had come.
 use Prim.Native.Nat.{ℕ, _+_}
 use mathlib.Core.Path.{_≡_, refl, sym, ap, ap₂, subst, _∙_}
-use mathlib.Core.Bool.{true, false, _&&_, true≢false, false≢true}
+use mathlib.Core.Bool.{true, false, true≢false, false≢true}
 use mathlib.Core.List.{List, [], _∷_}
 use mathlib.Core.Logic.{⊎-elim}
 use native.Mathlib.Omega.{arith}
@@ -12,8 +12,7 @@ use Rattle.word.specs.declared.Area.{Area}
 use Rattle.word.proofs.Cases.{by-test, and-left, and-right}
 use Rattle.lists.specs.Load.{Load}
 use Rattle.layout.specs.declared.Place.{Place}
-use Rattle.layout.specs.Layout.{placeIn, holderOf, ownOf}
-use Rattle.calls.specs.declared.Answer.{Answer}
+use Rattle.layout.specs.Layout.{placeIn, holderOf}
 use Rattle.feed.specs.Feed.{loadIn}
 use Rattle.feed.proofs.Blocked.{block-laws}
 use Rattle.demands.specs.Orders.{run}
@@ -21,7 +20,7 @@ use Rattle.demands.specs.History.{State, Call, answerTo, call, Event, ev
 use Rattle.demands.specs.History.{feedsIt, isOwnFeed, ownFeeds, answersFor}
 use Rattle.demands.specs.History.Call.{Make, Open, Feed, Release}
 use Rattle.demands.specs.History.Event.{Here, Elsewhere, OutsideStore}
-use Rattle.demands.specs.Opening.{Opening, afterOpen, ownEvents}
+use Rattle.demands.specs.Opening.{afterOpen, ownEvents}
 use Rattle.demands.specs.Demands.{Demand2Alone}
 use Rattle.demands.proofs.Prepared.{Prepared}
 use Rattle.demands.proofs.Held.{areaOf}

@@ -1,6 +1,6 @@
 -- No call reads a core word: of two cores of one length it tells and leaves the same on the desk.
 use Prim.Native.Nat.{ℕ, _+_, _≤_}
-use mathlib.Core.Path.{_≡_, refl, sym, ap, _∙_}
+use mathlib.Core.Path.{_≡_, refl}
 use mathlib.Core.Bool.{true}
 use mathlib.Core.List.{List}
 use lib.ListN.{length}
@@ -27,7 +27,7 @@ use Rattle.feed.specs.Feed.{loadIn, settledOf, takenOf, checkedOf, heldOf, feed
 use Rattle.feed.proofs.Blocked.{block-laws}
 use Rattle.feed.proofs.Fed.{holds-place}
 use Rattle.feed.proofs.Held.{held-inside, held-fit}
-use Rattle.demands.specs.History.{State, Call, answerTo, call, lent}
+use Rattle.demands.specs.History.{answerTo, call}
 use Rattle.demands.specs.History.Call.{Make, Open, Feed, Release}
 use Rattle.demands.specs.Demands.{Demand1Blind}
 use Rattle.demands.proofs.Reach.{both-when}

@@ -1,14 +1,12 @@
 -- Demand 2: what a load that completed leaves in its area, and what the desk says of its place.
-use Prim.Native.Nat.{ℕ}
-use mathlib.Core.Path.{_≡_, refl, ap, _∙_}
-use mathlib.Core.List.{List}
+use mathlib.Core.Path.{refl, ap, _∙_}
 use Rattle.lists.specs.Obey.{tablesOf}
 use Rattle.lists.specs.Load.{Load}
 use Rattle.stage.specs.declared.Stage.the-variants.{Label}
 use Rattle.layout.specs.declared.Place.{Place}
-use Rattle.layout.specs.Layout.{placeIn, ownOf}
+use Rattle.layout.specs.Layout.{ownOf}
 use Rattle.feed.specs.Feed.{loadIn}
-use Rattle.demands.specs.Opening.{Opening, afterOpen}
+use Rattle.demands.specs.Opening.{afterOpen}
 use Rattle.demands.specs.Demands.{Demand2, Demand2Area}
 use Rattle.demands.proofs.Imaged.{image-is}
 use Rattle.demands.proofs.Begun.{begun}

@@ -8,15 +8,14 @@ use mathlib.Core.Logic.{_⊎_, inl, inr, ⊎-elim}
 use native.Mathlib.Omega.{arith}
 use lib.ListN.{length, length-set}
 use lib.Seq.{getD-set-other}
-use lib.Dec.{eqb, leb, ltb}
+use lib.Dec.{eqb}
 use borrow.Author.Tests.{eq-eqb, ne-eqb, le-leb, lt-ltb}
 use Rattle.word.specs.Lists.{every}
 use Rattle.word.specs.declared.Absolute.{Absolute}
 use Rattle.word.specs.declared.Area.{Area}
 use Rattle.word.proofs.Cases.{by-eq, when, and-left, and-right}
 use Rattle.stage.specs.Record.{isOver}
-use Rattle.layout.specs.declared.Place.{Place}
-use Rattle.layout.specs.Layout.{placeIn, holderOf, ownOf, stageIn, holds}
+use Rattle.layout.specs.Layout.{placeIn, holderOf, stageIn, holds}
 use Rattle.desk.specs.Sound.{sound}
 use Rattle.calls.specs.Outcome.{Outcome}
 use Rattle.calls.proofs.Entry.{entered-cases}
@@ -32,7 +31,7 @@ use Rattle.demands.proofs.Held.{areaOf, held-by}
 use Rattle.demands.proofs.Views.{View, view, view-by, view-kept}
 use Rattle.demands.proofs.Reach.{leftBy, feed-confined}
 use Rattle.demands.proofs.Outcomes.{make-sorted, feed-sorted}
-use Rattle.demands.proofs.Ready.{neither, event-sound, event-gone, event-ready}
+use Rattle.demands.proofs.Ready.{neither, event-gone, event-ready}
 use Rattle.demands.proofs.Calls.{open-view, release-view}
 
 pub place-of : (p : ℕ) (s t : State) → view p t ≡ view p s → placeIn (t .desk) p ≡ placeIn (s .desk) p

@@ -1,6 +1,6 @@
 -- Demand 3, of the feeds: they meet the laws of `Framed` (Parts.antt), so in any order that keeps each load's own they give the
 -- same. Given the laws of a block's step, and that feed keeps a desk sound.
-use Prim.Native.Nat.{ℕ, suc, min, _≤_, _<_}
+use Prim.Native.Nat.{ℕ, suc, min, _≤_}
 use mathlib.Core.Path.{_≡_, refl, sym, ap, _∙_}
 use mathlib.Core.Bool.{true, false}
 use mathlib.Core.List.{List, [], _∷_, map}
@@ -30,7 +30,7 @@ use Rattle.demands.proofs.Prepared.{Prepared}
 use Rattle.demands.proofs.Parts.{Framed, same-state, same-answers}
 use Rattle.demands.proofs.Turns.{only-in-turn}
 use Rattle.demands.proofs.Views.{View, view, view-kept}
-use Rattle.demands.proofs.Rest.{Rest, rest, rest-still, fixed-at, whole}
+use Rattle.demands.proofs.Rest.{Rest, restOf, rest-still, fixed-at, whole}
 use Rattle.demands.proofs.Reach.{leftBy, feed-confined, feed-match}
 
 -- ---- a feed that names no load
@@ -100,13 +100,13 @@ module _ (laws : BlockLaws) (kept : FeedKeeps) where
       (λ z. n (omega arith)))
       (λ h. rw (past-same (e .room) (e .place) (e .block) h s))
 
-  still : (e : Fed) (s : State) → Prepared s → rest (feed e s) ≡ rest s
+  still : (e : Fed) (s : State) → Prepared s → restOf (feed e s) ≡ restOf s
   still e s k =
       by-lt (e .place) 12
       (λ h. rest-still (e .place) h s (feed e s) (feed-confined laws s (e .place) (e .block) (e .room)))
       (λ h. rw (past-same (e .room) (e .place) (e .block) h s))
 
-  framed : Framed State Fed View Answer Rest placeNumber feed fedAnswer Prepared view rest
+  framed : Framed State Fed View Answer Rest placeNumber feed fedAnswer Prepared view restOf
   framed = record {
     kept = λ e s k. feed-ready (e .room) (e .place) (e .block) s k;
     own = own;

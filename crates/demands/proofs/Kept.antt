@@ -1,14 +1,12 @@
 -- Whatever happens, the desk says of a load's place what open was given, until the place is released or the desk is made anew.
 use Prim.Native.Nat.{ℕ, _+_}
-use mathlib.Core.Path.{_≡_, refl, sym, ap, subst, _∙_}
-use mathlib.Core.Bool.{true, false, false≢true}
+use mathlib.Core.Path.{_≡_, refl, ap, _∙_}
+use mathlib.Core.Bool.{true, false}
 use mathlib.Core.List.{List, [], _∷_}
-use mathlib.Core.Logic.{⊎-elim}
 use native.Mathlib.Omega.{arith}
 use Rattle.word.proofs.Cases.{by-eq}
 use Rattle.layout.specs.declared.Place.{Place}
-use Rattle.layout.specs.Layout.{placeIn, holderOf, ownOf, holders}
-use Rattle.rooms.specs.Rooms.{lowestFree}
+use Rattle.layout.specs.Layout.{placeIn, holderOf, ownOf}
 use Rattle.desk.specs.Sound.{sound}
 use Rattle.feed.proofs.Blocked.{block-laws}
 use Rattle.demands.specs.Orders.{run}

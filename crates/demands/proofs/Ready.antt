@@ -5,7 +5,7 @@ use mathlib.Core.Bool.{Bool, true, false, _||_, true≢false}
 use mathlib.Core.List.{List}
 use mathlib.Core.Logic.{inl, inr, ⊎-elim}
 use native.Mathlib.Omega.{arith}
-use lib.ListN.{length, getD, length-set}
+use lib.ListN.{length, length-set}
 use borrow.Author.Tests.{ltb-true}
 use Rattle.word.specs.Lists.{every}
 use Rattle.word.specs.Word.{isWord, wordLimit}
@@ -32,7 +32,7 @@ use Rattle.demands.specs.History.{State, Call, answerTo, call, Event, le
 use Rattle.demands.specs.History.Call.{Make, Open, Feed, Release}
 use Rattle.demands.specs.History.Event.{Here, Elsewhere, OutsideStore}
 use Rattle.demands.specs.Grants.{coreThen}
-use Rattle.demands.specs.Demands.{KeptSound, Demand1Sound, Demand1Words}
+use Rattle.demands.specs.Demands.{Demand1Sound, Demand1Words}
 use Rattle.demands.proofs.Prepared.{Prepared}
 use Rattle.demands.proofs.Outcomes.{Granted, make-sorted, open-sorted}
 use Rattle.demands.proofs.Granted.{call-core}

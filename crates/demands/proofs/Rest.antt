@@ -76,8 +76,8 @@ pub record Rest : Type 0 where
   pub core : ℕ
   pub outside : ℕ → ℕ
 
-unfoldable pub rest : State → Rest
-rest s = record {
+unfoldable pub restOf : State → Rest
+restOf s = record {
   fixed = range (s .desk) 0 fixedWords;
   long = length (s .desk);
   core = length (s .core);
@@ -92,10 +92,10 @@ module _ (p : ℕ) (in-p : p < placeCount) (s t : State) (c : Confined p s t) wh
   owns : (q : ℕ) → ownOf (placeIn (t .desk) q) ≡ ownOf (placeIn (s .desk) q)
   owns q = by-eq q p (λ e. rw e (c .own)) (λ e. ap ownOf (c .others q e))
 
-  pub rest-still : rest t ≡ rest s
-  unfolding rest
+  pub rest-still : restOf t ≡ restOf s
+  unfolding restOf
   rest-still =
-      rest-eq (rest t) (rest s) (c .fixed) (c .long) (c .core)
+      rest-eq (restOf t) (restOf s) (c .fixed) (c .long) (c .core)
       (λ i. rw (covered-of 12 (t .desk) (s .desk) i owns)
       (by-test (covered 12 (s .desk) i)
       (λ q. rw q)
@@ -123,7 +123,7 @@ core-at l core i h =
     sym (getD-range core (areaOf l .at .0) (extent l) (i - areaOf l .at .0) (omega arith)
     ∙ ap (λ (n : ℕ). getD core n 0) (omega arith))
 
-module _ (s t : State) (r : rest s ≡ rest t) (v : (p : ℕ) → view p s ≡ view p t) where
+module _ (s t : State) (r : restOf s ≡ restOf t) (v : (p : ℕ) → view p s ≡ view p t) where
   places-same : (p : ℕ) → placeIn (s .desk) p ≡ placeIn (t .desk) p
   unfolding view
   places-same p = ap (λ (w : View). w .place) (v p)
@@ -133,7 +133,7 @@ module _ (s t : State) (r : rest s ≡ rest t) (v : (p : ℕ) → view p s ≡ v
   words-same p = ap (λ (w : View). w .words) (v p)
 
   desk-same : s .desk ≡ t .desk
-  unfolding rest
+  unfolding restOf
   desk-same =
       ext-getD 0 (s .desk) (t .desk) (ap (λ (x : Rest). x .long) r)
       (λ j h. by-lt j fixedWords
@@ -141,7 +141,7 @@ module _ (s t : State) (r : rest s ≡ rest t) (v : (p : ℕ) → view p s ≡ v
       (λ m. desk-at (s .desk) j m ∙ rw (places-same ((j - fixedWords) / placeWords)) (sym (desk-at (t .desk) j m))))
 
   core-same : s .core ≡ t .core
-  unfolding rest
+  unfolding restOf
   core-same =
       ext-getD 0 (s .core) (t .core) (ap (λ (x : Rest). x .core) r)
       (λ i h. by-test (covered 12 (s .desk) i)

@@ -1,7 +1,7 @@
 -- Demand 3, of the rooms: whatever happens after a desk was made, the grants and releases give each room what it holds by the desk,
 -- and so F, H and refusals 5 and 6.
 use Prim.Native.Nat.{ℕ, _+_, _≤_, _<_}
-use mathlib.Core.Path.{_≡_, refl, sym, ap, subst, _∙_}
+use mathlib.Core.Path.{_≡_, refl, sym, ap, _∙_}
 use mathlib.Core.Bool.{true, false≢true}
 use mathlib.Core.List.{List, [], _∷_}
 use mathlib.Core.Logic.{⊎-elim}
@@ -34,7 +34,7 @@ use Rattle.calls.proofs.Entry.{entered-on, entered-cases}
 use Rattle.calls.proofs.Made.{make-sound, make-core}
 use Rattle.demands.specs.Orders.{run}
 use Rattle.demands.specs.History.{State, answerTo, call, Event, lent, event, Told, told, isReleased}
-use Rattle.demands.specs.History.Call.{Make, Open}
+use Rattle.demands.specs.History.Call.{Make}
 use Rattle.demands.specs.History.Event.{Here, Elsewhere, OutsideStore}
 use Rattle.demands.specs.Grants.{heldAfter, heldBy, freePlaces, idleRooms, coreAfter}
 use Rattle.demands.specs.Demands.{Asked, openAnswer, Refuses, PlacesGiven, Demand3Rooms}

@@ -25,12 +25,11 @@ use Rattle.feed.specs.Block.{blockStep}
 use Rattle.feed.specs.Feed.{loadIn, staged, settledOf, takenOf, feedOf}
 use Rattle.feed.proofs.Blocked.{block-laws}
 use Rattle.demands.specs.Image.{lastBlock, fileStart}
-use Rattle.demands.specs.Orders.{run}
 use Rattle.demands.specs.History.{State, Call, answerTo, call, Event, lent, event, Told, toldBy, told}
 use Rattle.demands.specs.History.{takenIn, taken, startsIn, starts, goneBy, isGone}
 use Rattle.demands.specs.History.Call.{Feed}
 use Rattle.demands.specs.History.Event.{Here, Elsewhere, OutsideStore}
-use Rattle.demands.specs.Opening.{Opening, afterOpen}
+use Rattle.demands.specs.Opening.{afterOpen}
 use Rattle.demands.specs.Demands.{Demand2Start}
 use Rattle.demands.proofs.Held.{areaOf, held-place}
 use Rattle.demands.proofs.Views.{staged-stage}

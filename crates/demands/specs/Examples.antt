@@ -4,7 +4,7 @@
 use Prim.Native.Nat.{ℕ}
 use mathlib.Core.Path.{_≡_}
 use mathlib.Core.List.{List, [], _∷_}
-use lib.ListN.{length, replicate, set}
+use lib.ListN.{replicate, set}
 use Rattle.word.specs.Fault.{fault}
 use Rattle.word.specs.Lists.{splice, cleared}
 use Rattle.word.specs.declared.Area.{Area}
@@ -14,7 +14,7 @@ use Rattle.calls.specs.declared.Answer.the-variants.{Refused, Made, Opened, Mor
 use Rattle.hand_deck.specs.Blocks.{deckLabel, deckProgram, deckTermination}
 use Rattle.demands.specs.HandDeck.{deckGiven}
 use Rattle.demands.specs.Orders.{run}
-use Rattle.demands.specs.History.{State, Call, call, Event, event, Told, told}
+use Rattle.demands.specs.History.{State, Event, event, Told, told}
 use Rattle.demands.specs.History.Call.{Make, Open, Feed, Release}
 use Rattle.demands.specs.History.Event.{Here, Elsewhere, OutsideStore}
 

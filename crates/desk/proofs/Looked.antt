@@ -20,7 +20,7 @@ use Rattle.map.proofs.Map.{map-at, map-of-says}
 use Rattle.rooms.specs.Rooms.{fair, heldPlaces, Fair}
 use Rattle.rooms.proofs.Rooms.{fair-says, no-third}
 use Rattle.rooms.proofs.Held.{Next, held-next, held-none}
-use Rattle.layout.specs.Layout.{deskWords, coreLength, mapNumbers, placeIn, places, holderOf, ownOf, holders}
+use Rattle.layout.specs.Layout.{deskWords, coreLength, mapNumbers, placeIn, holderOf, ownOf, holders}
 use Rattle.layout.proofs.Places.{holder-at, length-holders, getD-holders}
 use Rattle.desk.specs.Sound.{areaIn, heldFits, placeFits, areasApart, SmallStretch, placesFit}
 use Rattle.desk.proofs.Tested.{places-say}

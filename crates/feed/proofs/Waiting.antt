@@ -1,5 +1,5 @@
 -- What a waiting load gives to the step of the record that is due.
-use Prim.Native.Nat.{ℕ, _+_, _≤_, _<_}
+use Prim.Native.Nat.{ℕ, _<_}
 use mathlib.Core.Path.{_≡_, refl}
 use mathlib.Core.Bool.{Bool}
 use mathlib.Core.List.{List}
@@ -9,7 +9,6 @@ use borrow.Author.Tests.{ltb-true}
 use Rattle.word.proofs.Cases.{and-right}
 use Rattle.lists.proofs.Reading.{core-length, io-length}
 use Rattle.stage.specs.declared.LabelCounts.{LabelCounts}
-use Rattle.stage.specs.declared.Stage.{Stage}
 use Rattle.stage.specs.declared.Stage.the-variants.{Label, Entry}
 use Rattle.stage.specs.Ranges.{labelCountsFit, stageFits}
 use Rattle.stage.specs.declared.Step.{Step}

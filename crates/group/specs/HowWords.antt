@@ -13,7 +13,7 @@ use Rattle.word.specs.Word.{isWord}
 use Rattle.field.specs.Field.{Assignments}
 use Rattle.indicator.specs.declared.Cursor.{Cursor}
 use Rattle.indicator.specs.Indicator.{InBlock, afterAll}
-use Rattle.indicator.specs.HowCursor.{lookOf, pastField, plainWords, pastPlain}
+use Rattle.indicator.specs.HowCursor.{plainWords, pastPlain}
 use Rattle.group.specs.Group.{Words, changedWords}
 use Rattle.group.specs.declared.changes.GroupChange.{GroupChange}
 use Rattle.group.specs.declared.changes.GroupChange.the-variants.{Bits, Stop as stop-group}

@@ -4,7 +4,7 @@ use mathlib.Core.Bool.{true, false}
 use lib.ListN.{getD}
 use Rattle.word.specs.Lists.{every, everyTwo, tab}
 use Rattle.block.specs.Fieldata.{spelt, characters}
-use Rattle.block.specs.Records.{modification, program, termination, ofRecord}
+use Rattle.block.specs.Records.{program, termination, ofRecord}
 use Rattle.block.specs.Checksum.{sumOf}
 use Rattle.block.specs.Block.{verdict, sealVerdict}
 use Rattle.block.specs.declared.Record.the-variants.{Label, Program, Termination}

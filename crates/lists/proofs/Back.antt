@@ -1,6 +1,6 @@
 -- The lists that are lent to open, written into the numbers of a load's lists part after part, and read back.
-use Prim.Native.Nat.{ℕ, _+_, _-_, _*_, _/_, _≤_}
-use mathlib.Core.Path.{_≡_, sym, ap, _∙_}
+use Prim.Native.Nat.{ℕ, _+_, _-_, _≤_}
+use mathlib.Core.Path.{_≡_, _∙_}
 use mathlib.Core.Bool.{true}
 use mathlib.Core.List.{List, _++_}
 use native.Mathlib.Omega.{arith}
@@ -10,10 +10,9 @@ use Rattle.word.specs.declared.Area.{Area}
 use Rattle.word.specs.Lists.{range, splice}
 use Rattle.word.proofs.Lists.{length-splice, length-range, range-splice-same, range-splice-before, range-splice-inner, splice-lent}
 use Rattle.lists.specs.HowKeep.{numbersKept, wordsKept, ranksKept}
-use Rattle.lists.specs.HowKept.{numbersIn, tablesIn}
 use Rattle.lists.specs.Obey.{tablesOf, listsObey}
-use Rattle.lists.specs.Load.{Load, loadOf, givenBy, keptLists, iosIn, wordsIn, ranksIn, coreTables, ioNumbers, ioWords}
-use Rattle.lists.specs.Load.{wordsPlace, ranksPlace, listWords, ReadsBack, Keepable}
+use Rattle.lists.specs.Load.{keptLists, iosIn, wordsIn, ranksIn, coreTables, ioNumbers, ioWords}
+use Rattle.lists.specs.Load.{wordsPlace, ranksPlace, listWords, ReadsBack}
 use Rattle.lists.proofs.Keep.{lists-obey, numbers-copied-back, tables-copied-back}
 use Rattle.lists.proofs.Numbers.{numbers-kept-length}
 use Rattle.lists.proofs.Ranks.{words-few, ranks-length}

@@ -10,4 +10,5 @@ pub mod Ranks
 pub mod Ranking
 pub mod Keep
 pub mod Back
+pub mod InArea
 pub mod Take

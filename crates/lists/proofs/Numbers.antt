@@ -9,7 +9,7 @@ use lib.ListN.{length, getD, replicate, length-replicate, getD-replicate, List·
 use lib.Seq.{ext-getD}
 use borrow.Author.Tests.{ltb-true}
 use Rattle.word.specs.Word.{part}
-use Rattle.word.specs.Lists.{every, tab, splice}
+use Rattle.word.specs.Lists.{every, splice}
 use Rattle.word.proofs.Cases.{by-eq, by-lt}
 use Rattle.word.proofs.Every.{every-place}
 use Rattle.word.proofs.Lists.{length-tab, getD-tab, getD-range, range-splice-same, getD-splice-out}

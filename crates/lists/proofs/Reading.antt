@@ -1,11 +1,11 @@
 -- What is read of a load's lists in their one slice: how many there are, each by its number, and no number is too large.
-use Prim.Native.Nat.{ℕ, _+_, _<_, _≤_, _^_}
+use Prim.Native.Nat.{ℕ, _<_}
 use mathlib.Core.Path.{_≡_, _∙_}
 use mathlib.Core.Bool.{true}
 use mathlib.Core.List.{List}
 use native.Mathlib.Omega.{arith}
 use lib.ListN.{length, getD}
-use Rattle.word.specs.Lists.{every, range}
+use Rattle.word.specs.Lists.{every}
 use Rattle.word.proofs.Lists.{length-range}
 use Rattle.lists.specs.declared.Given.{Given}
 use Rattle.lists.specs.declared.Table.{Table}

@@ -1,5 +1,5 @@
 -- "Termination: word 1 bits 15-0 give the start, relative to the Program Name." A start that is not in the IBANK is 22.
-use Prim.Native.Nat.{_+_, _-_, ℕ}
+use Prim.Native.Nat.{_+_, ℕ}
 use mathlib.Core.Bool.{Bool, false, cond}
 use mathlib.Core.List.{List}
 use lib.ListN.{getD}

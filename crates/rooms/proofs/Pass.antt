@@ -10,7 +10,7 @@ use borrow.Author.Tests.{le-leb, lt-leb}
 use Rattle.word.specs.Lists.{tab}
 use Rattle.word.proofs.Cases.{by-lt}
 use Rattle.word.proofs.Lists.{getD-tab}
-use Rattle.rooms.specs.Rooms.{hit, count, free, held, heldEach, idle}
+use Rattle.rooms.specs.Rooms.{hit, count, held, heldEach, idle}
 use Rattle.rooms.specs.HowTally.{slotOf, tallied}
 use Rattle.rooms.proofs.Count.{hit-yes, hit-no, count-take, count-take-most, tab-set, each-at}
 

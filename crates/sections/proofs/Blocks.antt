@@ -30,7 +30,7 @@ use Rattle.sections.specs.Waits.{assignments}
 use Rattle.sections.specs.Program.{afterGroup, itemStep, ItemOutcome, StepOutcome, StepMeets, closes, followed, programFrom}
 use Rattle.sections.specs.Program.{programStep}
 use Rattle.sections.proofs.Ranges.{StageFits}
-use Rattle.sections.proofs.Leads.{Told, ItemLeads, item-leads}
+use Rattle.sections.proofs.Leads.{StepTold, ItemLeads, item-leads}
 use Rattle.sections.proofs.Turns.{item-cases, item-length, InPlace, item-in-place, open-place}
 
 -- two outcomes that meet the contract are equal
@@ -41,20 +41,20 @@ one-outcome o r r′ core core′ p q = (p .told ∙ sym (q .told), p .left ∙ 
 -- ---- the answer
 module _ (x : Load) (block : List ℕ) where
   -- an answer for the next stage is one for this stage
-  told-through : (s t : Stage) (r : Step) → (StageFits x s → StageFits x t) → Told x t r → Told x s r
+  told-through : (s t : Stage) (r : Step) → (StageFits x s → StageFits x t) → StepTold x t r → StepTold x s r
   told-through s t (More u) h k = λ f. k (h f)
   told-through s t (Done a) h k = k
   told-through s t (Refused f) h k = k
 
   follow-told : (s : Stage) (i : ℕ) (it : Item) (core : List ℕ) (next : LabelCounts → Due → ℕ → List ℕ → StepOutcome)
       → ItemLeads x s i it
-      → ((d : LabelCounts) (t : Due) (p : ℕ) → Told x (Program d t) (next d t p core .step))
-      → Told x s (followed it core next .step)
+      → ((d : LabelCounts) (t : Due) (p : ℕ) → StepTold x (Program d t) (next d t p core .step))
+      → StepTold x s (followed it core next .step)
   follow-told s i (Go d t p) core next l h = told-through s (Program d t) (next d t p core .step) (l .2) (h d t p)
   follow-told s i (Stop r) core next l h = l
 
   from-told : (n : ℕ) (c : LabelCounts) (due : Due) (i : ℕ) (core : List ℕ)
-      → Told x (Program c due) (programFrom n x c due block i core .step)
+      → StepTold x (Program c due) (programFrom n x c due block i core .step)
   unfolding programFrom
   from-told zero c due i core = λ f. f
   from-told (suc n) c due i core = by-test (closes block i)
@@ -65,7 +65,7 @@ module _ (x : Load) (block : List ℕ) where
       (λ d t p. from-told n d t p (itemStep x c due block i core .core))))
 
   module _ (c : LabelCounts) (due : Due) (core : List ℕ) where
-    program-told : Told x (Program c due) (programStep x c due block core .step)
+    program-told : StepTold x (Program c due) (programStep x c due block core .step)
     unfolding programStep
     program-told = from-told lastWord c due 1 core
 

@@ -44,15 +44,15 @@ use Rattle.sections.specs.Program.{inSection, afterLast, afterGroup, ite
 use Rattle.sections.proofs.Ranges.{StageFits, LabelCountsFit, BankFits, says-first, says-segment, says-section, says-table}
 
 -- an answer for a load that waited for s
-abbrev pub Told : Load → Stage → Step → Type 0
-Told x s (More t) = StageFits x s → StageFits x t
-Told x s (Done a) = ⊥
-Told x s (Refused f) = Among 17 21 f
+abbrev pub StepTold : Load → Stage → Step → Type 0
+StepTold x s (More t) = StageFits x s → StageFits x t
+StepTold x s (Done a) = ⊥
+StepTold x s (Refused f) = Among 17 21 f
 
 -- an item at place i, where s is due
 abbrev pub ItemLeads : Load → Stage → ℕ → Item → Type 0
 ItemLeads x s i (Go c due p) = (i < p) × (p ≤ 255) × (StageFits x s → StageFits x (Program c due))
-ItemLeads x s i (Stop r) = Told x s r
+ItemLeads x s i (Stop r) = StepTold x s r
 
 -- ---- heads
 abbrev ofBank : BankRead → Type 0

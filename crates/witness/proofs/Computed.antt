@@ -1,10 +1,7 @@
 -- Examples that show that the demands are not vacuous: whole histories of loads on a desk of 3,653 numbers and a core of 4,096
 -- words, by computing alone.
-use Prim.Native.Nat.{ℕ}
 use mathlib.Core.Path.{_≡_, refl}
 use mathlib.Core.List.{List, [], _∷_, flatMap}
-use lib.ListN.{replicate, length, set}
-use Rattle.word.specs.Fault.{fault}
 use Rattle.word.specs.Lists.{every, everyTwo, range, tab, splice, cleared}
 use Rattle.word.specs.Runs.{within, apart}
 use Rattle.block.specs.Fieldata.{characters, spelt}
@@ -39,7 +36,6 @@ use Rattle.map.specs.Map.{stretchOf, mapOf, inCore, stretchesApart, mapObeys}
 use Rattle.rooms.specs.Rooms.{hit, count, free, held, heldEach, idle, atMost, fair, placeRefusal, lowestFree}
 use Rattle.layout.specs.Layout.{mapNumbers, holders, places, placeIn, ownOf, stageIn, listsIn, holds}
 use Rattle.desk.specs.Sound.{areaIn, countsFit, loadFits, heldFits, placeFits, areasApart, sound}
-use Rattle.calls.specs.declared.Answer.the-variants.{Refused, Made, Opened, More, Done, Released}
 use Rattle.calls.specs.Entry.{entryRefusal, entered}
 use Rattle.calls.specs.Make.{freed, freshDesk, makeOf}
 use Rattle.calls.specs.Open.{besideOwn, areaFits, openedOwn, openedPlace, openedDesk, opened, grantOf, openOf}
@@ -52,8 +48,8 @@ use Rattle.demands.specs.Image.{fileStart}
 use Rattle.demands.specs.Orders.{run}
 use Rattle.demands.specs.History.{State, answerTo, call, Event, event, Told, told, taken, starts, isGone}
 use Rattle.demands.specs.Opening.{Opening, afterOpen, imageSince, areaWords}
-use Rattle.demands.specs.Examples.{oldDesk, oldCore, old, oneRoom, twoRooms, make, answersIn, otherArea, open1, fed1, deckFeeds}
-use Rattle.demands.specs.Examples.{deckLife, byTurns, oneBroken, whileItLoads, dayLife, NotEmpty}
+use Rattle.demands.specs.Examples.{oldDesk, oldCore, old, oneRoom, twoRooms, make, answersIn, open1, fed1, deckFeeds}
+use Rattle.demands.specs.Examples.{whileItLoads, NotEmpty}
 use Rattle.demands.proofs.Demands.{demand-2, demand-2-start}
 
 -- a history, with every definition that computing it opens; a proof that unfolds it opens them all

@@ -27,8 +27,8 @@ pub record Faulty : Type 0 where
   pub block : ℕ
   pub words : List Named
 
-abbrev pub refusal : Faulty → Fault
-refusal f = fault (f .number)
+abbrev pub faultOf : Faulty → Fault
+faultOf f = fault (f .number)
 
 abbrev pub faultyBlock : Faulty → List ℕ
 faultyBlock f = withWords (f .words) (getD workedFile (f .block) [])

@@ -1,6 +1,5 @@
 -- What holds of the worked file, of the faulty ones and of the split one. Each statement is proved under the same name in small
 -- letters in proofs/, by computing from the definitions alone: `WorkedImage` by `worked-image`.
-use Prim.Native.Nat.{ℕ}
 use mathlib.Core.Path.{_≡_}
 use mathlib.Core.List.{List, [], _∷_, _++_, map}
 use lib.ListN.{length, replicate}
@@ -16,7 +15,7 @@ use Rattle.demands.specs.Examples.{oldCore, old}
 use Rattle.worked_file.specs.Blocks.{workedIos, workedTables, workedGiven, workedFile}
 use Rattle.worked_file.specs.Image.{workedImage}
 use Rattle.worked_file.specs.Lives.{life, answersTo, coreLeft, statesFrom, Waiting, waitsFrom}
-use Rattle.worked_file.specs.Refused.{answerIn, coreIn, stepIn, refusal, faultyFiles, edgeFiles}
+use Rattle.worked_file.specs.Refused.{answerIn, coreIn, stepIn, faultOf, faultyFiles, edgeFiles}
 use Rattle.worked_file.specs.Split.{splitTables, splitGiven, splitLabel, firstEntries, otherEntries, splitFile, splitImage}
 
 -- ---- the worked file
@@ -50,7 +49,7 @@ workedStates = statesFrom workedLife old
 
 -- each is refused in the block that has the fault, with its number
 abbrev pub FaultyAnswers : Type 0
-FaultyAnswers = map (answerIn workedStates) faultyFiles ≡ map (λ f. Refused (refusal f)) faultyFiles
+FaultyAnswers = map (answerIn workedStates) faultyFiles ≡ map (λ f. Refused (faultOf f)) faultyFiles
 
 -- and then the whole area is zero, and every other word of the core as it was
 abbrev pub FaultyCores : Type 0
@@ -61,7 +60,7 @@ abbrev pub workedWaits : List Waiting
 workedWaits = waitsFrom workedGiven (record { stage = Label; core = replicate 0o2200 0 }) workedFile
 
 abbrev pub EdgeSteps : Type 0
-EdgeSteps = map (stepIn workedWaits) edgeFiles ≡ map (λ f. RefusedStep (refusal f)) edgeFiles
+EdgeSteps = map (stepIn workedWaits) edgeFiles ≡ map (λ f. RefusedStep (faultOf f)) edgeFiles
 
 -- ---- the file whose last entry is split across two blocks
 

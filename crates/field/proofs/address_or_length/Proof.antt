@@ -1,7 +1,6 @@
 -- `field::address_or_length` meets its contract: either way out by the law of a kept table.
 use Rattle.field.proofs.Field.{address-or-length-kept}
 use mathlib.Core.Bool.{true, false}
-use native.Mathlib.Omega.{arith}
 use borrow.Author.Needs.{needs}
 use Rattle.field.proofs.address_or_length.Statement.{statement}
 use Rattle.field.proofs.address_or_length.Tie as tie

@@ -1,6 +1,6 @@
 -- `field::long_of` meets its contract: each way out by the tests on its way.
 use mathlib.Core.Path.{sym, _∙_}
-use borrow.Author.Tests.{lt-ltb, le-ltb}
+use borrow.Author.Tests.{le-ltb}
 use Rattle.word.proofs.Tests.{tests}
 use Rattle.field.specs.Field.{long}
 use borrow.Author.Needs.{needs}

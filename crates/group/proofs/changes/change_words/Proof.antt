@@ -3,7 +3,6 @@ use Prim.Native.Nat.{_-_}
 use native.Mathlib.Omega.{arith}
 use lib.ListN.{length}
 use Rattle.field.specs.Field.{assignedBy}
-use Rattle.indicator.specs.HowCursor.{startCursor}
 use Rattle.group.proofs.Loop.{Reached, reached-start, reached-end}
 use Rattle.group.proofs.LoopTurn.{turn-near, turn-ready, turn-goes, turn-stops}
 use borrow.Author.Needs.{needs}

@@ -1,6 +1,5 @@
 -- `items::item_step`: a head or a group, as the word is read.
 use mathlib.Core.Path.{refl}
-use native.Mathlib.Omega.{arith}
 use denote.Ref.{now}
 use Rattle.sections.proofs.Turns.{assigned-same, group-met}
 use Rattle.sections.proofs.Reading.{due-numbered, reads-group, reads-segment, reads-section}
