@@ -54,11 +54,11 @@
      - each of its own feeds was lent the core that its open was lent (a feed that was refused for another core's length, too);
      - nothing from outside was stored in its area.
 
-   Short of a new make and its own release nothing else does harm: programs may run and store in other areas, other rooms may open,
-   feed and release, calls may be refused, and other loads may be lent another core. The load's feeds are then answered, and its area
-   is left, as if they alone had come. Where a store hits the area, or one of its own feeds is lent another core, nothing is
-   promised, and no call can tell. The area holds the image from done on, until something is stored there, the place is released or
-   a new desk is made.
+   Short of a new make and its own release nothing else does harm: programs may run and store in other areas, other loads may be
+   opened, fed and released, calls may be refused, and other loads may be lent another core. The load's feeds are then answered, and
+   its area is left, as if they alone had come. Where a store hits the area, or one of its own feeds is lent another core, nothing is
+   promised of the area any more, and no call can tell (but that a core of another length meets 2). The area holds the image from
+   done on, until one of these happens, the place is released or a new desk is made.
 
    What open says of places, refusals 5 and 6 among it, holds whatever cores were lent and whatever was stored, as long as nothing
    but calls wrote to the desk since make. (A core of another length meets 2 first.)
@@ -267,7 +267,7 @@ uint64_t clamp_open(uint64_t *desk, uint64_t desk_len,
 
    Answers:
 
-     CLAMP_MORE, 0        the block is accepted. Its words are stored in the area, and the next block is due.
+     CLAMP_MORE, 0        the block is accepted. Its program words, if it has any, are stored in the area, and the next block is due.
      CLAMP_DONE, start    the termination block is accepted and the load is complete: the area holds the program's image, and start
                           is the absolute address at which it begins. The place and the area are the room's until released. If
                           since open something from outside was stored in the area, or one of the load's own feeds was lent

@@ -132,6 +132,9 @@ module _ (d : List ℕ) (n : ℕ) (m : List ℕ) (q : makeOf d n m .answer ≡ M
   pub make-core : coreLength (makeOf d n m .desk) ≡ n
   make-core = make-by (λ e. coreLength e ≡ n) d n m (λ a c b o. fresh-core d n m a b) q
 
+  pub make-map : mapNumbers (makeOf d n m .desk) ≡ m
+  make-map = make-by (λ e. mapNumbers e ≡ m) d n m (λ a c b o. fresh-map d n m a b) q
+
   -- all places are free
   pub make-holders : holders (makeOf d n m .desk) ≡ allFree
   make-holders = make-by (λ e. holders e ≡ allFree) d n m (λ a c b o. fresh-holders d n m a b) q

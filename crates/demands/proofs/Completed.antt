@@ -7,7 +7,7 @@ use Rattle.layout.specs.declared.Place.{Place}
 use Rattle.layout.specs.Layout.{ownOf}
 use Rattle.feed.specs.Feed.{loadIn}
 use Rattle.demands.specs.Opening.{afterOpen}
-use Rattle.demands.specs.Demands.{Demand2, Demand2Area}
+use Rattle.demands.specs.Demands.{Demand2, Demand2Zeros, Demand2Area}
 use Rattle.demands.proofs.Imaged.{image-is}
 use Rattle.demands.proofs.Begun.{begun}
 use Rattle.demands.proofs.Lives.{lives}
@@ -20,6 +20,9 @@ demand-2 o es a others grant stays safe done =
     let y = lives (o .room) (o .place) x a others es (afterOpen o) (afterOpen o .core) Label
     (b .ready) (b .holder) (b .load) (b .stage) (b .inside) (λ j h e. refl) safe stays done in
     y .area ∙ image-is x (afterOpen o .core) (y .left) _ (b .inside) (b .tables-inside) (b .zeros) (y .takes)
+
+pub demand-2-zeros : Demand2Zeros
+demand-2-zeros o k grant h = begun o grant .zeros k h
 
 pub demand-2-area : Demand2Area
 unfolding loadIn ownOf

@@ -3,7 +3,7 @@ use Rattle.feed.proofs.Blocked.{block-laws}
 use Rattle.feed.proofs.Fed.{feed-sound}
 use Rattle.demands.specs.Demands.{Demand1One, Demand1Number, Demand1Unchanged, Demand1Broken, Demand1Sound, Demand1Blind}
 use Rattle.demands.specs.Demands.{Demand1Words}
-use Rattle.demands.specs.Demands.{Demand2, Demand2Start, Demand2Alone, Demand2Area, Demand2Outside, Demand3Orders}
+use Rattle.demands.specs.Demands.{Demand2, Demand2Zeros, Demand2Start, Demand2Alone, Demand2Area, Demand2Outside, Demand3Orders}
 use Rattle.demands.specs.Demands.{Demand3Turns}
 use Rattle.demands.specs.Demands.{Demand3Images}
 use Rattle.demands.specs.Demands.{Demand3Rooms}
@@ -41,6 +41,9 @@ demand-1-words = ready.words-stored
 
 pub demand-2 : Demand2
 demand-2 = completed.demand-2
+
+pub demand-2-zeros : Demand2Zeros
+demand-2-zeros = completed.demand-2-zeros
 
 pub demand-2-start : Demand2Start
 demand-2-start = starting.demand-2-start

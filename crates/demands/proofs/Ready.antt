@@ -31,11 +31,11 @@ use Rattle.feed.proofs.Held.{held-inside, held-fit}
 use Rattle.demands.specs.History.{State, Call, answerTo, call, Event, lent, event, Told, toldBy, goneBy, isGone}
 use Rattle.demands.specs.History.Call.{Make, Open, Feed, Release}
 use Rattle.demands.specs.History.Event.{Here, Elsewhere, OutsideStore}
-use Rattle.demands.specs.Grants.{coreThen}
+use Rattle.demands.specs.Grants.{MadeWith, madeThen}
 use Rattle.demands.specs.Demands.{Demand1Sound, Demand1Words}
 use Rattle.demands.proofs.Prepared.{Prepared}
 use Rattle.demands.proofs.Outcomes.{Granted, make-sorted, open-sorted}
-use Rattle.demands.proofs.Granted.{call-core}
+use Rattle.demands.proofs.Granted.{call-made}
 
 -- ---- open where it is granted
 module _ (s : State) (r : ℕ) (a : Area) (ios tables : List ℕ) where
@@ -78,7 +78,7 @@ pub sound-kept : Demand1Sound
 unfolding call answerTo
 sound-kept = (
   λ s n m e. make-sound (s .desk) n m e,
-  λ c s. record { kept = call-sound c s; for-core = call-core c s; core-long = call-long c s },
+  λ c s. record { kept = call-sound c s; made-with = call-made c s; core-long = call-long c s },
 )
 
 -- ---- what is stored
@@ -135,11 +135,14 @@ pub neither : (b c : Bool) → (b || c) ≡ false → (b ≡ false) × (c ≡ fa
 neither true c q = absurd (true≢false q)
 neither false c q = (refl, q)
 
-call-same : (r p n : ℕ) (c : Call) (a : Answer) → goneBy r p c a ≡ false → coreThen n c a ≡ n
-call-same r p n (Make k m) a q = rw q
-call-same r p n (Open q a ios tables) b z = refl
-call-same r p n (Feed q k block) b z = refl
-call-same r p n (Release m q k) b z = refl
+call-same : (r p : ℕ) (w : MadeWith) (c : Call) (a : Answer) → goneBy r p c a ≡ false → madeThen w c a ≡ w
+call-same r p w (Make k m) a q = rw q
+call-same r p w (Open q a ios tables) b z = refl
+call-same r p w (Feed q k block) b z = refl
+call-same r p w (Release m q k) b z = refl
+
+core-same : (r p : ℕ) (c : Call) (s : State) → goneBy r p c (answerTo c s) ≡ false → coreLength (call c s .desk) ≡ coreLength (s .desk)
+core-same r p c s q = ap (λ (w : MadeWith). w .core) (call-made c s ∙ call-same r p _ c (answerTo c s) q)
 
 pub event-gone : (r p : ℕ) (e : Event) (s : State) (rest : List Told) → isGone r p (toldBy e s rest) ≡ false
     → isGone r p rest ≡ false
@@ -151,11 +154,9 @@ event-gone r p (OutsideStore j v) s rest q = q
 event-core : (r p : ℕ) (e : Event) (s : State) (rest : List Told) → isGone r p (toldBy e s rest) ≡ false
     → coreLength (event e s .desk) ≡ coreLength (s .desk)
 unfolding event isGone
-event-core r p (Here c) s rest q =
-    call-core c s ∙ call-same r p _ c (answerTo c s) (neither (goneBy r p c (answerTo c s)) (isGone r p rest) q .0)
+event-core r p (Here c) s rest q = core-same r p c s (neither (goneBy r p c (answerTo c s)) (isGone r p rest) q .0)
 event-core r p (Elsewhere other c) s rest q =
-    let t = lent other s in
-    call-core c t ∙ call-same r p _ c (answerTo c t) (neither (goneBy r p c (answerTo c t)) (isGone r p rest) q .0)
+    let t = lent other s in core-same r p c t (neither (goneBy r p c (answerTo c t)) (isGone r p rest) q .0)
 event-core r p (OutsideStore j v) s rest q = refl
 
 pub event-ready : (r p : ℕ) (e : Event) (s : State) (rest : List Told) → Prepared s → isGone r p (toldBy e s rest) ≡ false

@@ -31,19 +31,19 @@ use Rattle.calls.specs.Outcome.{Outcome}
 use Rattle.calls.specs.Open.{besideOwn, areaFits, opened, grantOf, openOf}
 use Rattle.calls.specs.Release.{releaseOf}
 use Rattle.calls.proofs.Entry.{entered-on, entered-cases}
-use Rattle.calls.proofs.Made.{make-sound, make-core}
+use Rattle.calls.proofs.Made.{make-sound}
 use Rattle.demands.specs.Orders.{run}
 use Rattle.demands.specs.History.{State, answerTo, call, Event, lent, event, Told, told, isReleased}
 use Rattle.demands.specs.History.Call.{Make}
 use Rattle.demands.specs.History.Event.{Here, Elsewhere, OutsideStore}
-use Rattle.demands.specs.Grants.{heldAfter, heldBy, freePlaces, idleRooms, coreAfter}
+use Rattle.demands.specs.Grants.{heldAfter, heldBy, freePlaces, idleRooms, MadeWith, madeAfter, saysMade}
 use Rattle.demands.specs.Demands.{Asked, openAnswer, Refuses, PlacesGiven, Demand3Rooms}
 use Rattle.demands.proofs.Counting.{free-told, idle-told, place-free, gives-five, gives-six, given-five, given-six}
-use Rattle.demands.proofs.Granted.{call-held, call-core}
+use Rattle.demands.proofs.Granted.{call-held, call-made}
 use Rattle.demands.proofs.Outcomes.{release-sorted}
 use Rattle.demands.proofs.Ready.{event-sound}
 
--- ---- what a room holds by the desk, and the desk's core length, are what is counted
+-- ---- what a room holds by the desk, and what the desk was made with, are what is counted
 pub run-held : (r : ℕ) (es : List Event) (s : State)
     → heldAfter r (held r (holders (s .desk))) (told es s) ≡ held r (holders (run event es s .desk))
 unfolding run told event heldAfter
@@ -55,14 +55,14 @@ run-held r (Elsewhere other c ∷ es) s =
     ap (λ (n : ℕ). heldAfter r n (told es t)) (sym (call-held c (lent other s) r)) ∙ run-held r es t
 run-held r (OutsideStore j v ∷ es) s = run-held r es (event (OutsideStore j v) s)
 
-run-core : (es : List Event) (s : State) → coreAfter (coreLength (s .desk)) (told es s) ≡ coreLength (run event es s .desk)
-unfolding run told event coreAfter
-run-core [] s = refl
-run-core (Here c ∷ es) s = ap (λ (n : ℕ). coreAfter n (told es (call c s))) (sym (call-core c s)) ∙ run-core es (call c s)
-run-core (Elsewhere other c ∷ es) s =
+run-made : (es : List Event) (s : State) → madeAfter (saysMade (s .desk)) (told es s) ≡ saysMade (run event es s .desk)
+unfolding run told event madeAfter
+run-made [] s = refl
+run-made (Here c ∷ es) s = ap (λ (w : MadeWith). madeAfter w (told es (call c s))) (sym (call-made c s)) ∙ run-made es (call c s)
+run-made (Elsewhere other c ∷ es) s =
     let t = event (Elsewhere other c) s in
-    ap (λ (n : ℕ). coreAfter n (told es t)) (sym (call-core c (lent other s))) ∙ run-core es t
-run-core (OutsideStore j v ∷ es) s = run-core es (event (OutsideStore j v) s)
+    ap (λ (w : MadeWith). madeAfter w (told es t)) (sym (call-made c (lent other s))) ∙ run-made es t
+run-made (OutsideStore j v ∷ es) s = run-made es (event (OutsideStore j v) s)
 
 run-sound : (es : List Event) (s : State) → sound (s .desk) ≡ true → sound (run event es s .desk) ≡ true
 unfolding run
@@ -150,7 +150,7 @@ module _ (ts : List Told) (d : List ℕ) (ok : sound d ≡ true) (agree : (r : �
   idle-is : idleRooms ts ≡ idle l
   idle-is = idle-told ts l agree
 
-  places-given : PlacesGiven ts (coreLength d) d r
+  places-given : PlacesGiven ts (saysMade d) d r
   places-given = record {
     served = λ q z.
         let none : held r l ≡ 0 = sym (agree r) ∙ z in
@@ -183,9 +183,8 @@ module _ (s : State) (n : ℕ) (m : List ℕ) (es : List Event) (made : answerTo
   unfolding answerTo call
   fresh-sound = make-sound (s .desk) n m made
 
-  fresh-core : coreLength (fresh .desk) ≡ n
-  unfolding answerTo call
-  fresh-core = make-core (s .desk) n m made
+  fresh-made : saysMade (fresh .desk) ≡ record { core = n; map = m }
+  fresh-made = call-made (Make n m) s ∙ rw made
 
   fresh-held : (r : ℕ) → held r (holders (fresh .desk)) ≡ 0
   fresh-held r = call-held (Make n m) s r ∙ rw made
@@ -193,12 +192,12 @@ module _ (s : State) (n : ℕ) (m : List ℕ) (es : List Event) (made : answerTo
   counted-held : (r : ℕ) → heldBy r (told es fresh) ≡ held r (holders (run event es fresh .desk))
   counted-held r = rw (fresh-held r) at (run-held r es fresh)
 
-  counted-core : coreAfter n (told es fresh) ≡ coreLength (run event es fresh .desk)
-  counted-core = rw fresh-core at (run-core es fresh)
+  counted-made : madeAfter (record { core = n; map = m }) (told es fresh) ≡ saysMade (run event es fresh .desk)
+  counted-made = rw fresh-made at (run-made es fresh)
 
 pub demand-3-rooms : Demand3Rooms
 demand-3-rooms s n m es r made room =
     let t = call (Make n m) s in
-    rw (counted-core s n m es made)
+    rw (counted-made s n m es made)
     (places-given (told es t) (run event es t .desk) (run-sound es t (fresh-sound s n m es made))
     (counted-held s n m es made) r room)

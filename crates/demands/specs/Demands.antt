@@ -30,7 +30,7 @@ use Rattle.demands.specs.History.{isIn}
 use Rattle.demands.specs.History.Call.{Make, Open, Feed, Release}
 use Rattle.demands.specs.Opening.{Opening, IsGranted, afterOpen, since, Stays, Unharmed, ownEvents, imageSince, areaWords}
 use Rattle.demands.specs.Feeding.{Fed, feed, fedAnswer, placeNumber, fedEvents}
-use Rattle.demands.specs.Grants.{heldBy, freePlaces, idleRooms, coreThen, coreAfter}
+use Rattle.demands.specs.Grants.{heldBy, freePlaces, idleRooms, MadeWith, madeThen, madeAfter, saysMade}
 
 -- a core word outside an area
 abbrev pub Outside : Area → ℕ → Type 0
@@ -77,11 +77,11 @@ Demand1Broken =
     (s : State) (r p : ℕ) (block : List ℕ) (f : Fault) → answerTo (Feed r p block) s ≡ Refused f → 13 ≤ f .number
     → BrokenOff p (ownOf (placeIn (s .desk) p) .given .area) s (call (Feed r p block) s)
 
--- "A fresh desk is sound, and each call keeps it so", whatever core it is lent. A made desk has the core length that make was
--- given; no other call changes that, and none the length of the core.
+-- "A fresh desk is sound, and each call keeps it so", whatever core it is lent. A made desk has the core length and the map that make
+-- was given; no other call changes them, and none the length of the core.
 pub record KeptSound (c : Call) (s : State) : Type 0 where
   pub kept : sound (s .desk) ≡ true → sound (call c s .desk) ≡ true
-  pub for-core : coreLength (call c s .desk) ≡ coreThen (coreLength (s .desk)) c (answerTo c s)
+  pub made-with : saysMade (call c s .desk) ≡ madeThen (saysMade (s .desk)) c (answerTo c s)
   pub core-long : length (call c s .core) ≡ length (s .core)
 
 abbrev pub Demand1Sound : Type 0
@@ -107,6 +107,11 @@ Demand2 =
     (o : Opening) (es : List Event) (a : Absolute) (others : List Absolute) → IsGranted o → Stays o es → Unharmed o es
     → starts (o .room) (o .place) (since o es) ≡ a ∷ others
     → areaWords o (run event es (afterOpen o)) ≡ imageSince o es
+
+-- before its first block the area is zeros
+abbrev pub Demand2Zeros : Type 0
+Demand2Zeros =
+    (o : Opening) (k : ℕ) → IsGranted o → k < o .area .size → getD (afterOpen o .core) (o .area .at .0 + k) 0 ≡ 0
 
 -- harm or not, the start is then the file's own, moved by the area's address, and it was answered so once
 abbrev pub Demand2Start : Type 0
@@ -167,7 +172,7 @@ Demand3Images =
     → areaWords o (run event (between ++ fedEvents fs) (afterOpen o)) ≡ imageSince o (between ++ fedEvents es)
 
 -- ---- Demand 3, of the rooms: what open answers to room r, whatever area, lists and core it comes with. F and H are counted from
--- the grants and releases since the desk was last made; n is the core length that it was made with.
+-- the grants and releases since the desk was last made; w is what it was made with.
 pub record Asked : Type 0 where
   pub area : Area
   pub ios : List ℕ
@@ -180,20 +185,20 @@ openAnswer desk r q = answerTo (Open r (q .area) (q .ios) (q .tables)) (record {
 abbrev pub Refuses : List ℕ → ℕ → Asked → ℕ → Type 0
 Refuses desk r q f = openAnswer desk r q ≡ Refused (fault f)
 
-pub record PlacesGiven (ts : List Told) (n : ℕ) (desk : List ℕ) (r : ℕ) : Type 0 where
+pub record PlacesGiven (ts : List Told) (w : MadeWith) (desk : List ℕ) (r : ℕ) : Type 0 where
   -- "A room that holds nothing is never refused for want of a place", and one is free for it
   pub served : (q : Asked) → heldBy r ts ≡ 0 → (1 ≤ freePlaces ts) × (Refuses desk r q 5 → ⊥) × (Refuses desk r q 6 → ⊥)
   -- 5 is given just where the room holds two; a core of another length meets 2 before
   pub five : (q : Asked) → Refuses desk r q 5 → heldBy r ts ≡ 2
-  pub five-given : (q : Asked) → length (q .core) ≡ n → heldBy r ts ≡ 2 → Refuses desk r q 5
+  pub five-given : (q : Asked) → length (q .core) ≡ w .core → heldBy r ts ≡ 2 → Refuses desk r q 5
   -- 6 just where it holds one and F is not greater than H
   pub six : (q : Asked) → Refuses desk r q 6 → (heldBy r ts ≡ 1) × (freePlaces ts ≤ idleRooms ts)
-  pub six-given : (q : Asked) → length (q .core) ≡ n → heldBy r ts ≡ 1 → freePlaces ts ≤ idleRooms ts → Refuses desk r q 6
+  pub six-given : (q : Asked) → length (q .core) ≡ w .core → heldBy r ts ≡ 1 → freePlaces ts ≤ idleRooms ts → Refuses desk r q 6
   -- and no room holds over two
   pub most : heldBy r ts ≤ 2
   -- a room that holds nothing is given a place for any area in its stretch and lists that obey
-  pub given : (q : Asked) → length (q .core) ≡ n → heldBy r ts ≡ 0
-      → areaIn (getD (mapOf (mapNumbers desk)) r none) (q .area) ≡ true → listsObey (q .area) (q .ios) (q .tables) ≡ true
+  pub given : (q : Asked) → length (q .core) ≡ w .core → heldBy r ts ≡ 0
+      → areaIn (getD (mapOf (w .map)) r none) (q .area) ≡ true → listsObey (q .area) (q .ios) (q .tables) ≡ true
       → (p : ℕ) × (openAnswer desk r q ≡ Opened p)
   -- a place is given back only by a room that holds one
   pub freed : (k p : ℕ) → answerTo (Release k r p) (record { desk = desk; core = [] }) ≡ Released → 1 ≤ heldBy r ts
@@ -202,5 +207,5 @@ pub record PlacesGiven (ts : List Told) (n : ℕ) (desk : List ℕ) (r : ℕ) : 
 abbrev pub Demand3Rooms : Type 0
 Demand3Rooms =
     (s : State) (n : ℕ) (m : List ℕ) (es : List Event) (r : ℕ) → answerTo (Make n m) s ≡ Made → r < roomCount
-    → PlacesGiven (told es (call (Make n m) s)) (coreAfter n (told es (call (Make n m) s)))
+    → PlacesGiven (told es (call (Make n m) s)) (madeAfter (record { core = n; map = m }) (told es (call (Make n m) s)))
     (run event es (call (Make n m) s) .desk) r

@@ -5,6 +5,7 @@ use mathlib.Core.Bool.{Bool, true, false, cond, _&&_}
 use mathlib.Core.List.{List, [], _∷_}
 use lib.Dec.{eqb}
 use Rattle.word.specs.Limits.{roomCount, placeCount}
+use Rattle.layout.specs.Layout.{coreLength, mapNumbers}
 use Rattle.calls.specs.declared.Answer.{Answer}
 use Rattle.calls.specs.declared.Answer.the-variants.{Refused, Made, Opened, More, Done, Released}
 use Rattle.demands.specs.History.{Call, Told, isMade, isReleased}
@@ -50,13 +51,22 @@ freePlaces ts = placeCount - heldByAll roomCount ts
 unfoldable pub idleRooms : List Told → ℕ
 idleRooms ts = noneOf roomCount ts
 
--- ---- the core length that the desk was last made with, if it was n before
-abbrev pub coreThen : ℕ → Call → Answer → ℕ
-coreThen n (Make k m) answer = cond (isMade answer) k n
-coreThen n (Open q area ios tables) answer = n
-coreThen n (Feed q k block) answer = n
-coreThen n (Release k q p) answer = n
+-- ---- what the desk was last made with: the core length and the map
+pub record MadeWith : Type 0 where
+  pub core : ℕ
+  pub map : List ℕ
 
-unfoldable pub coreAfter : ℕ → List Told → ℕ
-coreAfter n [] = n
-coreAfter n (t ∷ ts) = coreAfter (coreThen n (t .call) (t .answer)) ts
+-- after a call, if it was w before
+abbrev pub madeThen : MadeWith → Call → Answer → MadeWith
+madeThen w (Make n m) answer = cond (isMade answer) (record { core = n; map = m }) w
+madeThen w (Open q area ios tables) answer = w
+madeThen w (Feed q p block) answer = w
+madeThen w (Release n q p) answer = w
+
+unfoldable pub madeAfter : MadeWith → List Told → MadeWith
+madeAfter w [] = w
+madeAfter w (t ∷ ts) = madeAfter (madeThen w (t .call) (t .answer)) ts
+
+-- what the desk's numbers say of it
+abbrev pub saysMade : List ℕ → MadeWith
+saysMade d = record { core = coreLength d; map = mapNumbers d }

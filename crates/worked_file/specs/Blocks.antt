@@ -60,8 +60,8 @@ unfoldable pub workedEntries : List ℕ
 workedEntries = withWords (
     -- *MODRC
     named 0 0o502224112710
-    -- the entries of the jump switch JUMP, the channel CHAN and the units TAPEA and TAPEB, two words each: the tag, and what the
-    -- assembler had assigned, which is disregarded
+    -- the entries of the jump switch JUMP, the channel CHAN and the units TAPEA and TAPEB, two words each: the tag, and a
+    -- word that is disregarded
     ∷ named 1 0o173222250505
     ∷ named 2 0o000040000001
     ∷ named 3 0o101506230505

@@ -115,8 +115,8 @@ edgeFiles =
     ∷ record { number = 17; block = 2; words = named 2 0o000003200024 ∷ named 255 0o000000661440 ∷ [] }
     -- 17, "sharing no word with .. a table": the DBANK has 13 words from 20 (octal 24) on, and table 0 is at 32 (octal 40)
     ∷ record { number = 17; block = 2; words = named 2 0o000015000024 ∷ named 255 0o000000461452 ∷ [] }
-    -- 17, "Both lie in the area": the DBANK has 3 words from 126 (octal 176) on
-    ∷ record { number = 17; block = 2; words = named 2 0o000003000176 ∷ named 255 0o000000461612 ∷ [] }
+    -- 17, "Both lie in the area": the DBANK has one word at 128 (octal 200)
+    ∷ record { number = 17; block = 2; words = named 2 0o000001000200 ∷ named 255 0o000000461612 ∷ [] }
     -- 17, "a count from 1 to the assigned length": 9 words for table 0
     ∷ record { number = 17; block = 3; words = named 9 0o200011000000 ∷ named 255 0o000001225553 ∷ [] }
     -- 17, "rising from section to section": table 0 once more
@@ -129,8 +129,10 @@ edgeFiles =
     ∷ record { number = 17; block = 3; words = named 14 0o200120000402 ∷ named 255 0o000001226150 ∷ [] }
     -- 18, a table section word where a group is due
     ∷ record { number = 18; block = 3; words = named 5 0o200002000000 ∷ named 255 0o000000224123 ∷ [] }
-    -- 18, "the program words (at least 1)": group E has none
-    ∷ record { number = 18; block = 3; words = named 5 0o401400600025 ∷ named 255 0o000001225546 ∷ [] }
+    -- 18, "bits 35-34 are 10": group E has 11
+    ∷ record { number = 18; block = 3; words = named 5 0o601402600025 ∷ named 255 0o000001425550 ∷ [] }
+    -- 18, "the program words (at least 1)": group E has no words at all
+    ∷ record { number = 18; block = 3; words = named 5 0o400000600025 ∷ named 255 0o000001224146 ∷ [] }
     -- 18, "just as many indicator words as the bits need": group D has none
     ∷ record { number = 18; block = 3; words = named 1 0o401002000017 ∷ named 255 0o000001225150 ∷ [] }
     -- 18, group G has an indicator word more than the bits need
@@ -157,6 +159,10 @@ edgeFiles =
     ∷ record { number = 20; block = 3; words = named 16 0o777777000001 ∷ named 255 0o000001225546 ∷ [] }
     -- 20, G0 right is 4, and the last reference is 3
     ∷ record { number = 20; block = 3; words = named 16 0o777777000004 ∷ named 255 0o000001225551 ∷ [] }
+    -- 12, "checksum word differs": the label's is one more
+    ∷ record { number = 12; block = 0; words = named 254 0o000001272251 ∷ [] }
+    -- 11, "a word of 2^36 or more": word 18 of the modification block is 2^36
+    ∷ record { number = 11; block = 1; words = named 18 0o1000000000000 ∷ [] }
     -- 21, C2 right is the length of table 0 minus 9: below 0
     ∷ record { number = 21; block = 2; words = named 25 0o100100060011 ∷ named 255 0o000000461441 ∷ [] }
     ∷ []
