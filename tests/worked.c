@@ -18,7 +18,7 @@ struct faulty {
 
 #define COUNT(array) (sizeof(array) / sizeof(array)[0])
 
-enum { CORE_WORDS = 4096, OLD_WORD = 5, FAULTS = 48, BLOCKS = 5, IDENTIFIER_WORD = 0, CHECKSUM_WORD = 255 };
+enum { CORE_WORDS = 4096, OLD_WORD = 5, FAULTS = 51, BLOCKS = 5, IDENTIFIER_WORD = 0, CHECKSUM_WORD = 255 };
 
 /* The file with 85 core tables; what the blocks are that the definitions name one after another. */
 enum { SPLIT_AREA = 02000, SPLIT_TABLES = 85, SPLIT_IBANK = 2, SPLIT_SIZE = SPLIT_IBANK + SPLIT_TABLES + 1 };
@@ -97,7 +97,8 @@ static void check_file(const struct given *given, const block_words *blocks, uin
   check_cores(given->area, image);
 }
 
-/* Every block before this one is accepted, it is refused, and so is what comes after it. */
+/* Every block before this one is accepted, and it is refused: then the area is zeros and what comes after it is refused too; but with
+   11 and 12 nothing has changed, and the file goes on with the block as it should be. */
 static void check_refused(const struct given *given, const block_words *blocks, unsigned which, const uint64_t *block,
                           unsigned number) {
   static const uint64_t zeros[WORKED_SIZE];
@@ -105,6 +106,11 @@ static void check_refused(const struct given *given, const block_words *blocks, 
   for (unsigned i = 0; i < which; i++)
     feed_both(blocks[i], told(MORE, 0), i);
   feed_both(block, told(number, 0), which);
+  if (number < REFUSED_RECORD) {
+    for (unsigned i = which; i + 1 < BLOCKS; i++)
+      feed_both(blocks[i], told(MORE, 0), i);
+    return;
+  }
   check_cores(given->area, zeros);
   for (unsigned i = which + 1; i < BLOCKS; i++)
     feed_both(blocks[i], REFUSED(ENDED), i);

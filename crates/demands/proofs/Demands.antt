@@ -3,7 +3,8 @@ use Rattle.feed.proofs.Blocked.{block-laws}
 use Rattle.feed.proofs.Fed.{feed-sound}
 use Rattle.demands.specs.Demands.{Demand1One, Demand1Number, Demand1Unchanged, Demand1Broken, Demand1Sound, Demand1Blind}
 use Rattle.demands.specs.Demands.{Demand1Words}
-use Rattle.demands.specs.Demands.{Demand2, Demand2Zeros, Demand2Start, Demand2Alone, Demand2Area, Demand2Outside, Demand3Orders}
+use Rattle.demands.specs.Demands.{Demand2, Demand2Zeros, Demand2Start, Demand2Alone, Demand2Area, Demand2Outside}
+use Rattle.demands.specs.Demands.{Demand3Orders}
 use Rattle.demands.specs.Demands.{Demand3Turns}
 use Rattle.demands.specs.Demands.{Demand3Images}
 use Rattle.demands.specs.Demands.{Demand3Rooms}

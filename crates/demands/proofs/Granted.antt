@@ -18,10 +18,11 @@ use Rattle.stage.proofs.Back.{stage-length}
 use Rattle.rooms.specs.Rooms.{hit, count, held, allFree, lowestFree}
 use Rattle.rooms.proofs.Count.{hit-yes, hit-no, lowest-is-free}
 use Rattle.rooms.proofs.Rooms.{held-set, given-place}
-use Rattle.layout.specs.Layout.{stageAt, placeWords, coreLength, holders, holds}
+use Rattle.layout.specs.Layout.{stageAt, placeWords, holders, holds}
 use Rattle.layout.proofs.Places.{length-holders, getD-holders, holders-kept, core-kept, map-kept, holds-inside, holds-holder}
 use Rattle.desk.specs.Sound.{sound}
 use Rattle.desk.proofs.Facts.{sound-long, sound-fair}
+use Rattle.calls.specs.declared.Answer.{Answer}
 use Rattle.calls.specs.Outcome.{Outcome}
 use Rattle.calls.specs.Make.{makeOf}
 use Rattle.calls.specs.Open.{opened, openOf}
@@ -33,7 +34,7 @@ use Rattle.feed.specs.Feed.{staged, feedOf}
 use Rattle.feed.proofs.Fed.{feed-cases}
 use Rattle.demands.specs.History.{State, Call, answerTo, call}
 use Rattle.demands.specs.History.Call.{Make, Open, Feed, Release}
-use Rattle.demands.specs.Grants.{heldThen, MadeWith, madeThen, saysMade}
+use Rattle.demands.specs.Grants.{heldThen, holdersThen, MadeWith, madeThen, saysMade}
 use Rattle.demands.proofs.Outcomes.{Granted, make-sorted, open-sorted, release-sorted}
 
 -- ---- a place changes hands: what room r holds by it
@@ -61,13 +62,15 @@ module _ (l : List ℕ) (p q r : ℕ) (h : p < length l) where
       let e : hit (getD l p 0) (r + 1) ≡ cond (eqb q r) 1 0 = rw z (hit-room q r) in
       one-down (eqb q r) (held r l) (held r (set l p 0)) (omega (arith, held-set l p 0 h r, hit-no 0 (r + 1) (λ y. omega arith)))
 
-made-eq : {n k : ℕ} {m l : List ℕ} → n ≡ k → m ≡ l → _≡_ {A = MadeWith} (record { core = n; map = m }) (record { core = k; map = l })
+made-eq : {n k : ℕ} {m l : List ℕ} → n ≡ k → m ≡ l
+    → _≡_ {A = MadeWith} (record { core = n; map = m }) (record { core = k; map = l })
 made-eq p q = λ i. record { core = p i; map = q i }
 
 -- ---- what a call leaves, from what it answered: what each room holds, and what the desk was made with
 module _ (d : List ℕ) (c : Call) where
   pub record Counts (o : Outcome) : Type 0 where
     pub rooms : (r : ℕ) → held r (holders (o .desk)) ≡ heldThen r (held r (holders d)) c (o .answer)
+    pub places : holders (o .desk) ≡ holdersThen (holders d) c (o .answer)
     pub made : saysMade (o .desk) ≡ madeThen (saysMade d) c (o .answer)
 
 none-held : (r : ℕ) → held r allFree ≡ 0
@@ -77,9 +80,10 @@ none-held r = rw (hit-no 0 (r + 1) (λ z. omega arith))
 make-counts : (d : List ℕ) (n : ℕ) (m : List ℕ) → Counts d (Make n m) (makeOf d n m)
 make-counts d n m =
     ⊎-elim
-    (λ x. rw (x .1) (record { rooms = λ r. refl; made = refl }))
+    (λ x. rw (x .1) (record { rooms = λ r. refl; places = refl; made = refl }))
     (λ e. record {
       rooms = λ r. ap (held r) (make-holders d n m e) ∙ none-held r ∙ sym (ap (heldThen r (held r (holders d)) (Make n m)) e);
+      places = make-holders d n m e ∙ sym (ap (holdersThen (holders d) (Make n m)) e);
       made = made-eq (make-core d n m e) (make-map d n m e) ∙ sym (ap (madeThen (saysMade d) (Make n m)) e);
     })
     (make-sorted d n m)
@@ -93,13 +97,15 @@ module _ (d core : List ℕ) (q : ℕ) (a : Area) (ios tables : List ℕ) where
         (one-more (holders d) (lowestFree (holders d)) q r
         (omega (arith, length-holders d, given-place (holders d) q (sound-fair d (g .desk)) (g .room) (g .given)))
         (lowest-is-free (holders d)));
-    made = let w = opened-replaced d (g .desk) q a ios tables (g .room) (g .given) (g .fit) (g .obey) in made-eq (w .core) (w .map-same);
+    places = opened-holders d (g .desk) q a ios tables (g .room) (g .given) (g .fit) (g .obey);
+    made = let w = opened-replaced d (g .desk) q a ios tables (g .room) (g .given) (g .fit) (g .obey) in made-eq (w .core)
+        (w .map-same);
   }
 
   open-counts : Counts d (Open q a ios tables) (openOf d core q a ios tables)
   open-counts =
       ⊎-elim
-      (λ x. rw (x .1) (record { rooms = λ r. refl; made = refl }))
+      (λ x. rw (x .1) (record { rooms = λ r. refl; places = refl; made = refl }))
       (λ x. rw (x .1) (opened-counts (x .0)))
       (open-sorted d core q a ios tables)
 
@@ -107,12 +113,13 @@ module _ (d core : List ℕ) (q : ℕ) (a : Area) (ios tables : List ℕ) where
 release-counts : (d : List ℕ) (n q p : ℕ) → Counts d (Release n q p) (releaseOf d n q p)
 release-counts d n q p =
     ⊎-elim
-    (λ x. rw (x .1) (record { rooms = λ r. refl; made = refl }))
+    (λ x. rw (x .1) (record { rooms = λ r. refl; places = refl; made = refl }))
     (λ x. let l = sound-long d (x .0) in
     let i = holds-inside d q p (x .1) in
     rw (x .2) (record {
       rooms = λ r. rw (freed-holders d l p i)
           (one-less (holders d) p q r (omega (arith, length-holders d)) (getD-holders d p i ∙ holds-holder d q p (x .1)));
+      places = freed-holders d l p i;
       made = made-eq (freed-core d l p i) (freed-map d l p i);
     }))
     (release-sorted d n q p)
@@ -123,9 +130,9 @@ module _ (d core block : List ℕ) (q p : ℕ) where
     few : stageAt + length (numbersOf t) ≤ placeWords
     few = omega (arith, stage-length t)
 
-    staged-held : (r : ℕ) → held r (holders (staged d p t)) ≡ held r (holders d)
+    staged-holders : holders (staged d p t) ≡ holders d
     unfolding staged
-    staged-held r = ap (held r) (holders-kept d (sound-long d s) p (holds-inside d q p h) stageAt (numbersOf t) few (omega arith))
+    staged-holders = holders-kept d (sound-long d s) p (holds-inside d q p h) stageAt (numbersOf t) few (omega arith)
 
     staged-made : saysMade (staged d p t) ≡ saysMade d
     unfolding staged
@@ -134,13 +141,17 @@ module _ (d core block : List ℕ) (q p : ℕ) where
         let i = holds-inside d q p h in
         made-eq (core-kept d l p i stageAt (numbersOf t) few) (map-kept d l p i stageAt (numbersOf t) few)
 
+    staged-counts : (answer : Answer) (core′ : List ℕ)
+        → Counts d (Feed q p block) (record { answer = answer; desk = staged d p t; core = core′ })
+    staged-counts answer core′ = record { rooms = λ r. ap (held r) staged-holders; places = staged-holders; made = staged-made }
+
   feed-counts : Counts d (Feed q p block) (feedOf d core q p block)
   feed-counts =
       feed-cases d core block q p (Counts d (Feed q p block))
-      (λ n l h. record { rooms = λ r. refl; made = refl })
-      (λ t s e h z. record { rooms = staged-held s h t; made = staged-made s h t })
-      (λ a s e h z. record { rooms = staged-held s h Complete; made = staged-made s h Complete })
-      (λ f s e h z. record { rooms = staged-held s h Broken; made = staged-made s h Broken })
+      (λ n l h. record { rooms = λ r. refl; places = refl; made = refl })
+      (λ t s e h z. staged-counts s h t _ _)
+      (λ a s e h z. staged-counts s h Complete _ _)
+      (λ f s e h z. staged-counts s h Broken _ _)
 
 -- ---- any call, in any state
 pub call-held : (c : Call) (s : State) (r : ℕ)
@@ -157,3 +168,10 @@ call-made (Make n m) s = make-counts (s .desk) n m .made
 call-made (Open q a ios tables) s = open-counts (s .desk) (s .core) q a ios tables .made
 call-made (Feed q p block) s = feed-counts (s .desk) (s .core) block q p .made
 call-made (Release n q p) s = release-counts (s .desk) n q p .made
+
+pub call-holders : (c : Call) (s : State) → holders (call c s .desk) ≡ holdersThen (holders (s .desk)) c (answerTo c s)
+unfolding call answerTo
+call-holders (Make n m) s = make-counts (s .desk) n m .places
+call-holders (Open q a ios tables) s = open-counts (s .desk) (s .core) q a ios tables .places
+call-holders (Feed q p block) s = feed-counts (s .desk) (s .core) block q p .places
+call-holders (Release n q p) s = release-counts (s .desk) n q p .places

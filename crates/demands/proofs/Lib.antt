@@ -4,6 +4,7 @@ pub mod Granted
 pub mod Ready
 pub mod Blind
 pub mod Counting
+pub mod Holding
 pub mod Served
 pub mod Stores
 pub mod Heads

@@ -141,7 +141,8 @@ call-same r p w (Open q a ios tables) b z = refl
 call-same r p w (Feed q k block) b z = refl
 call-same r p w (Release m q k) b z = refl
 
-core-same : (r p : ℕ) (c : Call) (s : State) → goneBy r p c (answerTo c s) ≡ false → coreLength (call c s .desk) ≡ coreLength (s .desk)
+core-same : (r p : ℕ) (c : Call) (s : State) → goneBy r p c (answerTo c s) ≡ false
+    → coreLength (call c s .desk) ≡ coreLength (s .desk)
 core-same r p c s q = ap (λ (w : MadeWith). w .core) (call-made c s ∙ call-same r p _ c (answerTo c s) q)
 
 pub event-gone : (r p : ℕ) (e : Event) (s : State) (rest : List Told) → isGone r p (toldBy e s rest) ≡ false

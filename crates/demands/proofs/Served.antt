@@ -16,7 +16,7 @@ use Rattle.word.specs.declared.Area.{Area}
 use Rattle.word.proofs.Cases.{and-both, both}
 use Rattle.word.proofs.Every.{every-by}
 use Rattle.map.specs.Map.{mapOf, none}
-use Rattle.rooms.specs.Rooms.{free, held, idle, Fair, lowestFree, placeRefusal}
+use Rattle.rooms.specs.Rooms.{free, held, idle, allFree, Fair, lowestFree, placeRefusal}
 use Rattle.rooms.proofs.Count.{count-some}
 use Rattle.rooms.proofs.Rooms.{none-denied}
 use Rattle.lists.specs.Obey.{listsObey}
@@ -36,12 +36,14 @@ use Rattle.demands.specs.Orders.{run}
 use Rattle.demands.specs.History.{State, answerTo, call, Event, lent, event, Told, told, isReleased}
 use Rattle.demands.specs.History.Call.{Make}
 use Rattle.demands.specs.History.Event.{Here, Elsewhere, OutsideStore}
-use Rattle.demands.specs.Grants.{heldAfter, heldBy, freePlaces, idleRooms, MadeWith, madeAfter, saysMade}
-use Rattle.demands.specs.Demands.{Asked, openAnswer, Refuses, PlacesGiven, Demand3Rooms}
+use Rattle.demands.specs.Grants.{heldAfter, heldBy, freePlaces, idleRooms, holdersAfter, MadeWith, madeAfter, saysMade}
+use Rattle.demands.specs.Opening.{Asked, openAnswer, Refuses}
+use Rattle.demands.specs.Demands.{PlacesGiven, Demand3Rooms}
 use Rattle.demands.proofs.Counting.{free-told, idle-told, place-free, gives-five, gives-six, given-five, given-six}
-use Rattle.demands.proofs.Granted.{call-held, call-made}
+use Rattle.demands.proofs.Granted.{call-held, call-holders, call-made}
 use Rattle.demands.proofs.Outcomes.{release-sorted}
 use Rattle.demands.proofs.Ready.{event-sound}
+use Rattle.demands.proofs.Holding.{places-held}
 
 -- ---- what a room holds by the desk, and what the desk was made with, are what is counted
 pub run-held : (r : ℕ) (es : List Event) (s : State)
@@ -63,6 +65,16 @@ run-made (Elsewhere other c ∷ es) s =
     let t = event (Elsewhere other c) s in
     ap (λ (w : MadeWith). madeAfter w (told es t)) (sym (call-made c (lent other s))) ∙ run-made es t
 run-made (OutsideStore j v ∷ es) s = run-made es (event (OutsideStore j v) s)
+
+run-holders : (es : List Event) (s : State) → holdersAfter (holders (s .desk)) (told es s) ≡ holders (run event es s .desk)
+unfolding run told event holdersAfter
+run-holders [] s = refl
+run-holders (Here c ∷ es) s =
+    ap (λ (l : List ℕ). holdersAfter l (told es (call c s))) (sym (call-holders c s)) ∙ run-holders es (call c s)
+run-holders (Elsewhere other c ∷ es) s =
+    let t = event (Elsewhere other c) s in
+    ap (λ (l : List ℕ). holdersAfter l (told es t)) (sym (call-holders c (lent other s))) ∙ run-holders es t
+run-holders (OutsideStore j v ∷ es) s = run-holders es (event (OutsideStore j v) s)
 
 run-sound : (es : List Event) (s : State) → sound (s .desk) ≡ true → sound (run event es s .desk) ≡ true
 unfolding run
@@ -195,9 +207,18 @@ module _ (s : State) (n : ℕ) (m : List ℕ) (es : List Event) (made : answerTo
   counted-made : madeAfter (record { core = n; map = m }) (told es fresh) ≡ saysMade (run event es fresh .desk)
   counted-made = rw fresh-made at (run-made es fresh)
 
+  fresh-free : holders (fresh .desk) ≡ allFree
+  fresh-free = call-holders (Make n m) s ∙ rw made
+
+  counted-holders : holdersAfter allFree (told es fresh) ≡ holders (run event es fresh .desk)
+  counted-holders = rw fresh-free at (run-holders es fresh)
+
 pub demand-3-rooms : Demand3Rooms
-demand-3-rooms s n m es r made room =
+demand-3-rooms s n m es r made room ts w desk is-ts is-w is-desk =
     let t = call (Make n m) s in
-    rw (counted-made s n m es made)
-    (places-given (told es t) (run event es t .desk) (run-sound es t (fresh-sound s n m es made))
-    (counted-held s n m es made) r room)
+    let ok = run-sound es t (fresh-sound s n m es made) in
+    rw (is-w, is-desk, is-ts, counted-made s n m es made, counted-holders s n m es made) (
+      places-given (told es t) (run event es t .desk) ok (counted-held s n m es made) r room,
+      places-held
+          (run event es t .desk) ok r room,
+    )

@@ -14,9 +14,10 @@ use Rattle.word.specs.declared.Absolute.{Absolute}
 use Rattle.word.specs.declared.Area.{Area}
 use Rattle.word.specs.declared.Fault.{Fault}
 use Rattle.map.specs.Map.{mapOf, none}
+use Rattle.rooms.specs.Rooms.{allFree, lowestFree}
 use Rattle.lists.specs.Obey.{listsObey}
 use Rattle.stage.specs.declared.Stage.the-variants.{Broken}
-use Rattle.layout.specs.Layout.{stageAt, listsAt, coreLength, mapNumbers, base, placeIn, ownOf, stageIn}
+use Rattle.layout.specs.Layout.{stageAt, listsAt, base, placeIn, ownOf, stageIn}
 use Rattle.desk.specs.Sound.{areaIn, sound}
 use Rattle.calls.specs.Answer.{packed, Small}
 use Rattle.calls.specs.declared.Answer.{Answer}
@@ -29,8 +30,9 @@ use Rattle.demands.specs.History.{State, Call, answerTo, call, Event, le
 use Rattle.demands.specs.History.{isIn}
 use Rattle.demands.specs.History.Call.{Make, Open, Feed, Release}
 use Rattle.demands.specs.Opening.{Opening, IsGranted, afterOpen, since, Stays, Unharmed, ownEvents, imageSince, areaWords}
+use Rattle.demands.specs.Opening.{Asked, openAnswer, Refuses}
 use Rattle.demands.specs.Feeding.{Fed, feed, fedAnswer, placeNumber, fedEvents}
-use Rattle.demands.specs.Grants.{heldBy, freePlaces, idleRooms, MadeWith, madeThen, madeAfter, saysMade}
+use Rattle.demands.specs.Grants.{heldBy, freePlaces, idleRooms, holdersAfter, MadeWith, madeThen, madeAfter, saysMade}
 
 -- a core word outside an area
 abbrev pub Outside : Area → ℕ → Type 0
@@ -77,8 +79,8 @@ Demand1Broken =
     (s : State) (r p : ℕ) (block : List ℕ) (f : Fault) → answerTo (Feed r p block) s ≡ Refused f → 13 ≤ f .number
     → BrokenOff p (ownOf (placeIn (s .desk) p) .given .area) s (call (Feed r p block) s)
 
--- "A fresh desk is sound, and each call keeps it so", whatever core it is lent. A made desk has the core length and the map that make
--- was given; no other call changes them, and none the length of the core.
+-- "A fresh desk is sound, and each call keeps it so", whatever core it is lent. A made desk has the core length and the map that
+-- make was given; no other call changes them, and none the length of the core.
 pub record KeptSound (c : Call) (s : State) : Type 0 where
   pub kept : sound (s .desk) ≡ true → sound (call c s .desk) ≡ true
   pub made-with : saysMade (call c s .desk) ≡ madeThen (saysMade (s .desk)) c (answerTo c s)
@@ -173,18 +175,6 @@ Demand3Images =
 
 -- ---- Demand 3, of the rooms: what open answers to room r, whatever area, lists and core it comes with. F and H are counted from
 -- the grants and releases since the desk was last made; w is what it was made with.
-pub record Asked : Type 0 where
-  pub area : Area
-  pub ios : List ℕ
-  pub tables : List ℕ
-  pub core : List ℕ
-
-abbrev pub openAnswer : List ℕ → ℕ → Asked → Answer
-openAnswer desk r q = answerTo (Open r (q .area) (q .ios) (q .tables)) (record { desk = desk; core = q .core })
-
-abbrev pub Refuses : List ℕ → ℕ → Asked → ℕ → Type 0
-Refuses desk r q f = openAnswer desk r q ≡ Refused (fault f)
-
 pub record PlacesGiven (ts : List Told) (w : MadeWith) (desk : List ℕ) (r : ℕ) : Type 0 where
   -- "A room that holds nothing is never refused for want of a place", and one is free for it
   pub served : (q : Asked) → heldBy r ts ≡ 0 → (1 ≤ freePlaces ts) × (Refuses desk r q 5 → ⊥) × (Refuses desk r q 6 → ⊥)
@@ -203,9 +193,23 @@ pub record PlacesGiven (ts : List Told) (w : MadeWith) (desk : List ℕ) (r : �
   -- a place is given back only by a room that holds one
   pub freed : (k p : ℕ) → answerTo (Release k r p) (record { desk = desk; core = [] }) ≡ Released → 1 ≤ heldBy r ts
 
+-- and of each place: l says who holds it, by the grants and releases
+pub record PlacesHeld (l : List ℕ) (w : MadeWith) (desk : List ℕ) (r : ℕ) : Type 0 where
+  -- open gives the lowest free place
+  pub lowest : (q : Asked) (p : ℕ) → openAnswer desk r q ≡ Opened p → p ≡ lowestFree l
+  -- the room that holds it can give it back, whatever its load waits for
+  pub released : (p : ℕ) → getD l p 0 ≡ r + 1 → answerTo (Release (w .core) r p) (record { desk = desk; core = [] }) ≡ Released
+  -- any other is refused with 9, and so are its feeds
+  pub not-released : (p : ℕ) → (getD l p 0 ≡ r + 1 → ⊥)
+      → answerTo (Release (w .core) r p) (record { desk = desk; core = [] }) ≡ Refused (fault 9)
+  pub not-fed : (p : ℕ) (block core : List ℕ) → length core ≡ w .core → (getD l p 0 ≡ r + 1 → ⊥)
+      → answerTo (Feed r p block) (record { desk = desk; core = core }) ≡ Refused (fault 9)
+
 -- after any make that was accepted, whatever happened then, further makes among it
 abbrev pub Demand3Rooms : Type 0
 Demand3Rooms =
     (s : State) (n : ℕ) (m : List ℕ) (es : List Event) (r : ℕ) → answerTo (Make n m) s ≡ Made → r < roomCount
-    → PlacesGiven (told es (call (Make n m) s)) (madeAfter (record { core = n; map = m }) (told es (call (Make n m) s)))
-    (run event es (call (Make n m) s) .desk) r
+    → (ts : List Told) (w : MadeWith) (desk : List ℕ)
+    → ts ≡ told es (call (Make n m) s) → w ≡ madeAfter (record { core = n; map = m }) ts
+    → desk ≡ run event es (call (Make n m) s) .desk
+    → PlacesGiven ts w desk r × PlacesHeld (holdersAfter allFree ts) w desk r

@@ -3,8 +3,10 @@
 use Prim.Native.Nat.{ℕ, zero, suc, _+_, _-_}
 use mathlib.Core.Bool.{Bool, true, false, cond, _&&_}
 use mathlib.Core.List.{List, [], _∷_}
+use lib.ListN.{set}
 use lib.Dec.{eqb}
 use Rattle.word.specs.Limits.{roomCount, placeCount}
+use Rattle.rooms.specs.Rooms.{allFree}
 use Rattle.layout.specs.Layout.{coreLength, mapNumbers}
 use Rattle.calls.specs.declared.Answer.{Answer}
 use Rattle.calls.specs.declared.Answer.the-variants.{Refused, Made, Opened, More, Done, Released}
@@ -50,6 +52,25 @@ freePlaces ts = placeCount - heldByAll roomCount ts
 
 unfoldable pub idleRooms : List Told → ℕ
 idleRooms ts = noneOf roomCount ts
+
+-- ---- who holds each place: room r by r + 1, nobody by 0. After a call, if l was before:
+abbrev pub withPlace : List ℕ → ℕ → Answer → List ℕ
+withPlace l q (Refused f) = l
+withPlace l q Made = l
+withPlace l q (Opened p) = set l p (q + 1)
+withPlace l q More = l
+withPlace l q (Done a) = l
+withPlace l q Released = l
+
+abbrev pub holdersThen : List ℕ → Call → Answer → List ℕ
+holdersThen l (Make n m) answer = cond (isMade answer) allFree l
+holdersThen l (Open q area ios tables) answer = withPlace l q answer
+holdersThen l (Feed q p block) answer = l
+holdersThen l (Release n q p) answer = cond (isReleased answer) (set l p 0) l
+
+unfoldable pub holdersAfter : List ℕ → List Told → List ℕ
+holdersAfter l [] = l
+holdersAfter l (t ∷ ts) = holdersAfter (holdersThen l (t .call) (t .answer)) ts
 
 -- ---- what the desk was last made with: the core length and the map
 pub record MadeWith : Type 0 where

@@ -4,10 +4,12 @@ use Prim.Native.Nat.{ℕ}
 use mathlib.Core.Path.{_≡_}
 use mathlib.Core.Bool.{true, false}
 use mathlib.Core.List.{List}
+use Rattle.word.specs.Fault.{fault}
 use Rattle.word.specs.Lists.{every, range}
 use Rattle.word.specs.declared.Area.{Area}
 use Rattle.lists.specs.Obey.{tablesOf}
-use Rattle.calls.specs.declared.Answer.the-variants.{Opened}
+use Rattle.calls.specs.declared.Answer.{Answer}
+use Rattle.calls.specs.declared.Answer.the-variants.{Refused, Opened}
 use Rattle.demands.specs.Image.{imageOf}
 use Rattle.demands.specs.History.{State, answerTo, call, Event, Told, told, taken, isGone, ownFeeds, harmless}
 use Rattle.demands.specs.History.Call.{Open}
@@ -49,3 +51,16 @@ imageSince o es = imageOf (o .area) (tablesOf (o .tables)) (o .ios) (taken (o .r
 
 abbrev pub areaWords : Opening → State → List ℕ
 areaWords o s = range (s .core) (o .area .at .0) (o .area .size)
+
+-- ---- an open that a room may come with: any area, lists and core; and what it is answered on a desk
+pub record Asked : Type 0 where
+  pub area : Area
+  pub ios : List ℕ
+  pub tables : List ℕ
+  pub core : List ℕ
+
+abbrev pub openAnswer : List ℕ → ℕ → Asked → Answer
+openAnswer desk r q = answerTo (Open r (q .area) (q .ios) (q .tables)) (record { desk = desk; core = q .core })
+
+abbrev pub Refuses : List ℕ → ℕ → Asked → ℕ → Type 0
+Refuses desk r q f = openAnswer desk r q ≡ Refused (fault f)

@@ -1,5 +1,5 @@
 -- Files that are refused: the worked file with one word changed, now and then two, and with it the checksum of that block. For
--- each refusal from 13 to 22 there is one; more show which of two faults is given, and the edges of rules.
+-- each refusal from 13 to 22 there is one; more show which of two faults is given, 11 and 12, and the edges of rules.
 use Prim.Native.Nat.{ℕ, _+_}
 use mathlib.Core.List.{List, [], _∷_}
 use lib.ListN.{getD}

@@ -66,7 +66,8 @@ returns-6 c =
       eq-eqb _ _
           (c .before .before .before .before .before .before .if4 .left),
       sym
-          (c .before .before .before .before .before .map-fits .ensures) ∙ not-false _ (c .before .before .before .before .if5 .left),
+          (c .before .before .before .before .before .map-fits .ensures)
+          ∙ not-false _ (c .before .before .before .before .if5 .left),
     )
     (record { told = refl; desk-left = c .before .before .write-fresh .ensures; core-left = refl })
 
