@@ -2,9 +2,8 @@
 use mathlib.Core.Path.{_≡_, refl, sym, ap, _∙_}
 use mathlib.Core.List.{List, [], _∷_, _++_, reverse, reverse-cons, flatMap}
 use Prim.Native.Nat.{ℕ, zero, suc, _+_, _-_, _*_, _/_, _%_, _^_, _≤_, _<_}
-use native.Mathlib.Nat.{not-suc-le-zero, lt-of-lt-of-le, mod-lt, zero-div}
+use native.Mathlib.Nat.{not-suc-le-zero, mod-lt, zero-div}
 use native.Mathlib.Omega.{arith}
-use lib.Pow.{pow-mono}
 use lib.ListN.{length, getD, length-append, length-reverse, List·getD-append, List·getD-eq-default}
 use lib.Seq.{getD-append-add, getD-at}
 use Rattle.word.specs.Word.{bit}
@@ -105,9 +104,3 @@ pub number-below : (block : List ℕ) (end m p n : ℕ) → numberAt (bitsBefore
 unfolding numberAt
 number-below block end m p zero = omega arith
 number-below block end m p (suc n) = omega (arith, number-below block end m p n, bit-below block end m (p + n))
-
--- so one bit more still fits a number of 64 bits
-pub number-fits : (block : List ℕ) (end m p n : ℕ) → n < 64
-    → 2 * numberAt (bitsBefore block end m) p n + getD (bitsBefore block end m) (p + n) 0 < 2 ^ 64
-unfolding numberAt
-number-fits block end m p n h = lt-of-lt-of-le (number-below block end m p (suc n)) (pow-mono h)

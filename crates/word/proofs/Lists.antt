@@ -186,36 +186,10 @@ range-splice-inner l a n o vs h k =
     (λ q. getD-splice-out l (a + o) vs (a + i) (omega arith) (λ x y. omega arith)
     ∙ sym (getD-splice-out (range l a n) o vs i (omega arith) (λ x y. omega arith) ∙ getD-range l a n i m))))
 
--- a stretch of a stretch
-pub range-range : (l : List ℕ) (a n b m : ℕ) → b + m ≤ n → range (range l a n) b m ≡ range l (a + b) m
-unfolding range
-range-range l a n b m h =
-    ext-getD 0 _ _ (simp (length-take, length-drop) (omega arith))
-    (λ i g. let k : i < m = omega (arith, length-take m (drop b (take n (drop a l)))) in
-    rw (
-      getD-take m (drop b (take n (drop a l))) i 0 k,
-      getD-drop b (take n (drop a l)) i 0,
-      getD-take n (drop a l) (b + i) 0 (omega arith),
-      getD-drop a l (b + i) 0,
-      getD-take m (drop (a + b) l) i 0 k,
-      getD-drop (a + b) l i 0,
-    ) (ap (λ (j : ℕ). getD l j 0) (omega arith)))
-
 -- one number written
 pub set-splice : (l : List ℕ) (i v : ℕ) → i < length l → set l i v ≡ splice l i (v ∷ [])
 unfolding splice
 set-splice l i v h = set-split l i v h ∙ rw add-one (sym (append-snoc (take i l) v (drop (suc i) l)))
-
--- written twice at one place: the second stands
-pub splice-splice : (l : List ℕ) (a : ℕ) (vs ws : List ℕ) → length vs ≡ length ws → a + length vs ≤ length l
-    → splice (splice l a vs) a ws ≡ splice l a ws
-unfolding splice
-splice-splice l a vs ws e k =
-    rw (← e)
-    (ap (λ (m : List ℕ). m ++ take (length vs) ws ++ drop (a + length vs) (splice l a vs))
-    (ap (take a) (append-assoc (take a l) (take (length vs) vs) (drop (a + length vs) l))
-    ∙ take-at (take a l) _ a (length-take-le a l (omega arith)))
-    ∙ ap (λ (m : List ℕ). take a l ++ take (length vs) ws ++ m) (drop-paste l a vs (length vs) (omega arith) (omega arith)))
 
 -- all of it replaced
 pub splice-whole : (l vs : List ℕ) → length vs ≡ length l → splice l 0 vs ≡ vs

@@ -1,6 +1,6 @@
 -- Tests that say facts, put together as the tests are.
-use mathlib.Core.Path.{_≡_, refl, sym, _∙_}
-use mathlib.Core.Bool.{Bool, true, false, not, _&&_, _||_, false≢true, true≢false}
+use mathlib.Core.Path.{_≡_, sym, _∙_}
+use mathlib.Core.Bool.{Bool, true, false, _&&_, true≢false}
 use Prim.Native.Nat.{ℕ, _+_, _≤_, _<_}
 use native.Mathlib.Omega.{arith}
 use mathlib.Core.List.{List}
@@ -9,7 +9,7 @@ use lib.Dec.{leb, ltb, eqb}
 use borrow.Author.Tests.{ltb-true, leb-true, eqb-true, lt-ltb, le-leb, eq-eqb, ne-eqb, lt-leb}
 use Rattle.word.specs.Lists.{every}
 use Rattle.word.specs.Runs.{within, apart, Apart, Says}
-use Rattle.word.proofs.Cases.{by-eq, by-lt, and-both, and-left, and-right, or-not}
+use Rattle.word.proofs.Cases.{by-eq, by-lt, and-both, and-left, and-right}
 use Rattle.word.proofs.Every.{every-place, every-by}
 
 pub says-eq : (m n : ℕ) → Says (eqb m n) (m ≡ n)
@@ -26,28 +26,6 @@ says-and {a} {b} s t = record {
   fact = λ h. (s .fact (and-left a b h), t .fact (and-right a b h));
   test = λ h. and-both a b (s .test (h .0)) (t .test (h .1));
 }
-
--- if a then b
-imp-of : (a b : Bool) → (a ≡ true → b ≡ true) → (not a || b) ≡ true
-imp-of true b f = f refl
-imp-of false b f = refl
-
-pub says-imp : {a b : Bool} {P Q : Type 0} → Says a P → Says b Q → Says (not a || b) (P → Q)
-says-imp {a} {b} s t = record {
-  fact = λ h p. t .fact (or-not a b h (s .test p));
-  test = λ f. imp-of a b (λ h. t .test (f (s .fact h)));
-}
-
-not-of : (a : Bool) → (a ≡ true → ⊥) → not a ≡ true
-not-of true f = absurd (f refl)
-not-of false f = refl
-
-not-is : (a : Bool) → not a ≡ true → a ≡ true → ⊥
-not-is true h q = false≢true h
-not-is false h q = false≢true q
-
-pub says-not : {a : Bool} {P : Type 0} → Says a P → Says (not a) (P → ⊥)
-says-not {a} s = record { fact = λ h p. not-is a h (s .test p); test = λ f. not-of a (λ h. f (s .fact h)) }
 
 -- a test that says a fact in another wording
 pub says-as : {b : Bool} {P Q : Type 0} → Says b P → (P → Q) → (Q → P) → Says b Q

@@ -1,13 +1,13 @@
 -- A stretch of a list written number by number: what stands in it, and what stands outside.
-use mathlib.Core.Path.{_≡_, refl, sym, _∙_}
+use mathlib.Core.Path.{_≡_, sym, _∙_}
 use mathlib.Core.Bool.{Bool, true}
 use mathlib.Core.List.{List, [], _∷_, append-assoc}
 use mathlib.Core.Logic.{_⊎_, inl, inr, ⊎-elim, _≢_}
-use Prim.Native.Nat.{ℕ, zero, suc, _+_, _<_, _≤_}
+use Prim.Native.Nat.{ℕ, suc, _+_, _<_, _≤_}
 use native.Mathlib.Omega.{arith}
 use native.Mathlib.Numerals.{add-one}
 use lib.ListN.{length, getD, set, take, length-set, replicate, length-replicate}
-use lib.Seq.{paste-zero, take-suc-set, take-set-le, drop-set-lt, getD-set-other}
+use lib.Seq.{paste-zero, take-suc-set, drop-set-lt, getD-set-other}
 use Rattle.word.specs.Lists.{every, range, splice, cleared}
 use Rattle.word.proofs.Cases.{and-left, and-right}
 use Rattle.word.proofs.Says.{every-at, says-every}
@@ -30,15 +30,6 @@ splice-first l a v vs h =
           (take (length vs) vs),
       e,
     )
-
--- a number that stood in the stretch before
-pub splice-set : (l : List ℕ) (j v a : ℕ) (vs : List ℕ) → a ≤ j → j < a + length vs → splice (set l j v) a vs ≡ splice l a vs
-unfolding splice
-splice-set l j v a vs h k = rw (take-set-le a l j v h, drop-set-lt (a + length vs) l j v k)
-
-pub cleared-set : (l : List ℕ) (j v a n : ℕ) → a ≤ j → j < a + n → cleared (set l j v) a n ≡ cleared l a n
-unfolding cleared
-cleared-set l j v a n h k = splice-set l j v a (replicate n 0) h (rw length-replicate k)
 
 pub length-cleared : (l : List ℕ) (a n : ℕ) → a + n ≤ length l → length (cleared l a n) ≡ length l
 unfolding cleared
@@ -65,7 +56,7 @@ pub getD-cleared-beside : (l : List ℕ) (a n j : ℕ) → a + n ≤ length l �
 unfolding cleared
 getD-cleared-beside l a n j h o = getD-splice-beside l a (replicate n 0) j (rw length-replicate h) (rw length-replicate o)
 
--- what every number of the list and every number written passes, every number passes afterwards
+-- what every number of a list passes
 module _ (f : ℕ → Bool) where
   pub every-both : (x : ℕ) (xs : List ℕ) → f x ≡ true → every f xs ≡ true → every f (x ∷ xs) ≡ true
   unfolding every
@@ -78,28 +69,6 @@ module _ (f : ℕ → Bool) where
   pub every-tail : (x : ℕ) (xs : List ℕ) → every f (x ∷ xs) ≡ true → every f xs ≡ true
   unfolding every
   every-tail x xs q = and-right (f x) (every f xs) q
-
-  every-set : (l : List ℕ) (j v : ℕ) → every f l ≡ true → f v ≡ true → every f (set l j v) ≡ true
-  every-set [] j v q p = q
-  every-set (x ∷ xs) zero v q p = every-both v xs p (every-tail x xs q)
-  every-set (x ∷ xs) (suc j) v q p = every-both x (set xs j v) (every-head x xs q) (every-set xs j v (every-tail x xs q) p)
-
-  pub every-splice : (l : List ℕ) (a : ℕ) (vs : List ℕ) → a + length vs ≤ length l → every f l ≡ true → every f vs ≡ true
-      → every f (splice l a vs) ≡ true
-  every-splice l a [] h q p = rw (splice-none l a) q
-  every-splice l a (v ∷ vs) h q p =
-      rw (splice-first l a v vs (omega arith))
-      (every-splice (set l a v) (a + 1) vs (rw length-set (omega arith)) (every-set l a v q (every-head v vs p))
-      (every-tail v vs p))
-
-  every-replicate : (n v : ℕ) → f v ≡ true → every f (replicate n v) ≡ true
-  unfolding every
-  every-replicate zero v p = refl
-  every-replicate (suc n) v p = every-both v (replicate n v) p (every-replicate n v p)
-
-  pub every-cleared : (l : List ℕ) (a n : ℕ) → a + n ≤ length l → every f l ≡ true → f 0 ≡ true → every f (cleared l a n) ≡ true
-  unfolding cleared
-  every-cleared l a n h q p = every-splice l a (replicate n 0) (rw length-replicate h) q (every-replicate n 0 p)
 
   pub every-range : (l : List ℕ) (a n : ℕ) → every f l ≡ true → every f (range l a n) ≡ true
   every-range l a n q =

@@ -1,6 +1,6 @@
 -- `map::all_in_core` meets its contract: the stretches not yet looked at decide.
 use Prim.Native.Nat.{_≤_, _-_}
-use mathlib.Core.Path.{_≡_, refl, sym, _∙_}
+use mathlib.Core.Path.{_≡_, refl}
 use native.Mathlib.Omega.{arith}
 use lib.ListN.{drop}
 use borrow.Author.Tests.{not-true, not-false}
@@ -32,7 +32,7 @@ returns : tie.Need-returns Inv-loop μ-loop
 unfolding inCore
 returns c =
     let l = c .before .before .before .before .loop in
-    every-fails _ none _ (l .r) _ (omega arith) (sym (c .before .run-within .ensures) ∙ not-true _ (c .if1 .taken)) (l .inv .1)
+    every-fails _ none _ (l .r) _ (omega arith) (rw (← c .before .run-within .ensures) (not-true _ (c .if1 .taken))) (l .inv .1)
 
 add-r : tie.Need-add-r Inv-loop μ-loop
 add-r c = omega arith
@@ -46,7 +46,7 @@ loop-again c =
     let l = c .before .before .before .before .loop in
     let m = c .before .before .before .before .before .args .t2 in (
       omega arith,
-      every-more _ none m (l .r) _ (omega arith) (sym (c .before .run-within .ensures) ∙ not-false _ (c .if1 .left))
+      every-more _ none m (l .r) _ (omega arith) (rw (← c .before .run-within .ensures) (not-false _ (c .if1 .left)))
           (l .inv .1),
     )
 

@@ -1,6 +1,6 @@
 -- `map::apart_from_later` meets its contract: the later stretches not yet looked at decide.
 use Prim.Native.Nat.{_+_, _≤_, _<_, _-_}
-use mathlib.Core.Path.{_≡_, refl, sym, _∙_}
+use mathlib.Core.Path.{_≡_, refl}
 use native.Mathlib.Omega.{arith}
 use lib.ListN.{drop, getD}
 use borrow.Author.Tests.{not-true, not-false}
@@ -42,7 +42,7 @@ returns : tie.Need-returns Inv-loop μ-loop
 unfolding stretchesApart
 returns c =
     let l = c .before .before .before .before .loop in
-    every-fails _ none _ (l .q) _ (omega arith) (sym (c .before .runs-apart .ensures) ∙ not-true _ (c .if1 .taken)) (l .inv .3)
+    every-fails _ none _ (l .q) _ (omega arith) (rw (← c .before .runs-apart .ensures) (not-true _ (c .if1 .taken))) (l .inv .3)
 
 add-q-2 : tie.Need-add-q-2 Inv-loop μ-loop
 add-q-2 c = omega arith
@@ -59,7 +59,7 @@ loop-again c =
       omega arith,
       refl,
       every-more _ none m (l .q) _ (omega arith)
-          (sym (c .before .runs-apart .ensures) ∙ not-false _ (c .if1 .left)) (l .inv .3),
+          (rw (← c .before .runs-apart .ensures) (not-false _ (c .if1 .left))) (l .inv .3),
     )
 
 returns-2 : tie.Need-returns-2 Inv-loop μ-loop
