@@ -68,16 +68,19 @@ made-eq p q = λ i. record { core = p i; map = q i }
 
 -- ---- what a call leaves, from what it answered: what each room holds, and what the desk was made with
 module _ (d : List ℕ) (c : Call) where
-  pub record Counts (o : Outcome) : Type 0 where
-    pub rooms : (r : ℕ) → held r (holders (o .desk)) ≡ heldThen r (held r (holders d)) c (o .answer)
-    pub places : holders (o .desk) ≡ holdersThen (holders d) c (o .answer)
-    pub made : saysMade (o .desk) ≡ madeThen (saysMade d) c (o .answer)
+  pub record Counts (answer : Answer) (desk : List ℕ) : Type 0 where
+    pub rooms : (r : ℕ) → held r (holders desk) ≡ heldThen r (held r (holders d)) c answer
+    pub places : holders desk ≡ holdersThen (holders d) c answer
+    pub made : saysMade desk ≡ madeThen (saysMade d) c answer
+
+  abbrev CountsBy : Outcome → Type 0
+  CountsBy o = Counts (o .answer) (o .desk)
 
 none-held : (r : ℕ) → held r allFree ≡ 0
 unfolding held count
 none-held r = rw (hit-no 0 (r + 1) (λ z. omega arith))
 
-make-counts : (d : List ℕ) (n : ℕ) (m : List ℕ) → Counts d (Make n m) (makeOf d n m)
+make-counts : (d : List ℕ) (n : ℕ) (m : List ℕ) → CountsBy d (Make n m) (makeOf d n m)
 make-counts d n m =
     ⊎-elim
     (λ x. rw (x .1) (record { rooms = λ r. refl; places = refl; made = refl }))
@@ -90,7 +93,7 @@ make-counts d n m =
 
 -- open, of room q
 module _ (d core : List ℕ) (q : ℕ) (a : Area) (ios tables : List ℕ) where
-  opened-counts : Granted d core q a ios tables → Counts d (Open q a ios tables) (opened d core q a ios tables)
+  opened-counts : Granted d core q a ios tables → CountsBy d (Open q a ios tables) (opened d core q a ios tables)
   unfolding opened
   opened-counts g = record {
     rooms = λ r. rw (opened-holders d (g .desk) q a ios tables (g .room) (g .given) (g .fit) (g .obey))
@@ -102,7 +105,7 @@ module _ (d core : List ℕ) (q : ℕ) (a : Area) (ios tables : List ℕ) where
         (w .map-same);
   }
 
-  open-counts : Counts d (Open q a ios tables) (openOf d core q a ios tables)
+  open-counts : CountsBy d (Open q a ios tables) (openOf d core q a ios tables)
   open-counts =
       ⊎-elim
       (λ x. rw (x .1) (record { rooms = λ r. refl; places = refl; made = refl }))
@@ -110,7 +113,7 @@ module _ (d core : List ℕ) (q : ℕ) (a : Area) (ios tables : List ℕ) where
       (open-sorted d core q a ios tables)
 
 -- release, of room q and place p
-release-counts : (d : List ℕ) (n q p : ℕ) → Counts d (Release n q p) (releaseOf d n q p)
+release-counts : (d : List ℕ) (n q p : ℕ) → CountsBy d (Release n q p) (releaseOf d n q p)
 release-counts d n q p =
     ⊎-elim
     (λ x. rw (x .1) (record { rooms = λ r. refl; places = refl; made = refl }))
@@ -141,37 +144,21 @@ module _ (d core block : List ℕ) (q p : ℕ) where
         let i = holds-inside d q p h in
         made-eq (core-kept d l p i stageAt (numbersOf t) few) (map-kept d l p i stageAt (numbersOf t) few)
 
-    staged-counts : (answer : Answer) (core′ : List ℕ)
-        → Counts d (Feed q p block) (record { answer = answer; desk = staged d p t; core = core′ })
-    staged-counts answer core′ = record { rooms = λ r. ap (held r) staged-holders; places = staged-holders; made = staged-made }
+    staged-counts : (answer : Answer) → Counts d (Feed q p block) answer (staged d p t)
+    staged-counts answer = record { rooms = λ r. ap (held r) staged-holders; places = staged-holders; made = staged-made }
 
-  feed-counts : Counts d (Feed q p block) (feedOf d core q p block)
+  feed-counts : CountsBy d (Feed q p block) (feedOf d core q p block)
   feed-counts =
-      feed-cases d core block q p (Counts d (Feed q p block))
+      feed-cases d core block q p (CountsBy d (Feed q p block))
       (λ n l h. record { rooms = λ r. refl; places = refl; made = refl })
-      (λ t s e h z. staged-counts s h t _ _)
-      (λ a s e h z. staged-counts s h Complete _ _)
-      (λ f s e h z. staged-counts s h Broken _ _)
+      (λ t s e h z. staged-counts s h t _)
+      (λ a s e h z. staged-counts s h Complete _)
+      (λ f s e h z. staged-counts s h Broken _)
 
 -- ---- any call, in any state
-pub call-held : (c : Call) (s : State) (r : ℕ)
-    → held r (holders (call c s .desk)) ≡ heldThen r (held r (holders (s .desk))) c (answerTo c s)
+pub call-counts : (c : Call) (s : State) → Counts (s .desk) c (answerTo c s) (call c s .desk)
 unfolding call answerTo
-call-held (Make n m) s = make-counts (s .desk) n m .rooms
-call-held (Open q a ios tables) s = open-counts (s .desk) (s .core) q a ios tables .rooms
-call-held (Feed q p block) s = feed-counts (s .desk) (s .core) block q p .rooms
-call-held (Release n q p) s = release-counts (s .desk) n q p .rooms
-
-pub call-made : (c : Call) (s : State) → saysMade (call c s .desk) ≡ madeThen (saysMade (s .desk)) c (answerTo c s)
-unfolding call answerTo
-call-made (Make n m) s = make-counts (s .desk) n m .made
-call-made (Open q a ios tables) s = open-counts (s .desk) (s .core) q a ios tables .made
-call-made (Feed q p block) s = feed-counts (s .desk) (s .core) block q p .made
-call-made (Release n q p) s = release-counts (s .desk) n q p .made
-
-pub call-holders : (c : Call) (s : State) → holders (call c s .desk) ≡ holdersThen (holders (s .desk)) c (answerTo c s)
-unfolding call answerTo
-call-holders (Make n m) s = make-counts (s .desk) n m .places
-call-holders (Open q a ios tables) s = open-counts (s .desk) (s .core) q a ios tables .places
-call-holders (Feed q p block) s = feed-counts (s .desk) (s .core) block q p .places
-call-holders (Release n q p) s = release-counts (s .desk) n q p .places
+call-counts (Make n m) s = make-counts (s .desk) n m
+call-counts (Open q a ios tables) s = open-counts (s .desk) (s .core) q a ios tables
+call-counts (Feed q p block) s = feed-counts (s .desk) (s .core) block q p
+call-counts (Release n q p) s = release-counts (s .desk) n q p

@@ -35,7 +35,7 @@ use Rattle.demands.specs.Grants.{MadeWith, madeThen}
 use Rattle.demands.specs.Demands.{Demand1Sound, Demand1Words}
 use Rattle.demands.proofs.Prepared.{Prepared}
 use Rattle.demands.proofs.Outcomes.{Granted, make-sorted, open-sorted}
-use Rattle.demands.proofs.Granted.{call-made}
+use Rattle.demands.proofs.Granted.{call-counts}
 
 -- ---- open where it is granted
 module _ (s : State) (r : ℕ) (a : Area) (ios tables : List ℕ) where
@@ -78,7 +78,7 @@ pub sound-kept : Demand1Sound
 unfolding call answerTo
 sound-kept = (
   λ s n m e. make-sound (s .desk) n m e,
-  λ c s. record { kept = call-sound c s; made-with = call-made c s; core-long = call-long c s },
+  λ c s. record { kept = call-sound c s; made-with = call-counts c s .made; core-long = call-long c s },
 )
 
 -- ---- what is stored
@@ -143,7 +143,7 @@ call-same r p w (Release m q k) b z = refl
 
 core-same : (r p : ℕ) (c : Call) (s : State) → goneBy r p c (answerTo c s) ≡ false
     → coreLength (call c s .desk) ≡ coreLength (s .desk)
-core-same r p c s q = ap (λ (w : MadeWith). w .core) (call-made c s ∙ call-same r p _ c (answerTo c s) q)
+core-same r p c s q = ap (λ (w : MadeWith). w .core) (call-counts c s .made ∙ call-same r p _ c (answerTo c s) q)
 
 pub event-gone : (r p : ℕ) (e : Event) (s : State) (rest : List Told) → isGone r p (toldBy e s rest) ≡ false
     → isGone r p rest ≡ false

@@ -26,6 +26,7 @@ use Rattle.desk.specs.Sound.{areaIn, sound}
 use Rattle.desk.proofs.Facts.{sound-fair}
 use Rattle.desk.proofs.Tested.{places-length, places-at}
 use Rattle.calls.specs.Answer.{codeOf}
+use Rattle.calls.specs.declared.Answer.{Answer}
 use Rattle.calls.specs.declared.Answer.the-variants.{Refused, Made, Opened, Released}
 use Rattle.calls.specs.Outcome.{Outcome}
 use Rattle.calls.specs.Open.{besideOwn, areaFits, opened, grantOf, openOf}
@@ -33,48 +34,29 @@ use Rattle.calls.specs.Release.{releaseOf}
 use Rattle.calls.proofs.Entry.{entered-on, entered-cases}
 use Rattle.calls.proofs.Made.{make-sound}
 use Rattle.demands.specs.Orders.{run}
-use Rattle.demands.specs.History.{State, answerTo, call, Event, lent, event, Told, told, isReleased}
+use Rattle.demands.specs.History.{State, Call, answerTo, call, Event, lent, event, Told, told, isReleased}
 use Rattle.demands.specs.History.Call.{Make}
 use Rattle.demands.specs.History.Event.{Here, Elsewhere, OutsideStore}
-use Rattle.demands.specs.Grants.{heldAfter, heldBy, freePlaces, idleRooms, holdersAfter, MadeWith, madeAfter, saysMade}
+use Rattle.demands.specs.Grants.{through, heldThen, heldBy, freePlaces, idleRooms, holdersThen, holdersBy, madeThen, saysMade}
 use Rattle.demands.specs.Opening.{Asked, openAnswer, Refuses}
 use Rattle.demands.specs.Demands.{PlacesGiven, Demand3Rooms}
 use Rattle.demands.proofs.Counting.{free-told, idle-told, place-free, gives-five, gives-six, given-five, given-six}
-use Rattle.demands.proofs.Granted.{call-held, call-holders, call-made}
+use Rattle.demands.proofs.Granted.{call-counts}
 use Rattle.demands.proofs.Outcomes.{release-sorted}
 use Rattle.demands.proofs.Ready.{event-sound}
 use Rattle.demands.proofs.Holding.{places-held}
 
--- ---- what a room holds by the desk, and what the desk was made with, are what is counted
-pub run-held : (r : ℕ) (es : List Event) (s : State)
-    → heldAfter r (held r (holders (s .desk))) (told es s) ≡ held r (holders (run event es s .desk))
-unfolding run told event heldAfter
-run-held r [] s = refl
-run-held r (Here c ∷ es) s =
-    ap (λ (n : ℕ). heldAfter r n (told es (call c s))) (sym (call-held c s r)) ∙ run-held r es (call c s)
-run-held r (Elsewhere other c ∷ es) s =
-    let t = event (Elsewhere other c) s in
-    ap (λ (n : ℕ). heldAfter r n (told es t)) (sym (call-held c (lent other s) r)) ∙ run-held r es t
-run-held r (OutsideStore j v ∷ es) s = run-held r es (event (OutsideStore j v) s)
-
-run-made : (es : List Event) (s : State) → madeAfter (saysMade (s .desk)) (told es s) ≡ saysMade (run event es s .desk)
-unfolding run told event madeAfter
-run-made [] s = refl
-run-made (Here c ∷ es) s = ap (λ (w : MadeWith). madeAfter w (told es (call c s))) (sym (call-made c s)) ∙ run-made es (call c s)
-run-made (Elsewhere other c ∷ es) s =
-    let t = event (Elsewhere other c) s in
-    ap (λ (w : MadeWith). madeAfter w (told es t)) (sym (call-made c (lent other s))) ∙ run-made es t
-run-made (OutsideStore j v ∷ es) s = run-made es (event (OutsideStore j v) s)
-
-run-holders : (es : List Event) (s : State) → holdersAfter (holders (s .desk)) (told es s) ≡ holders (run event es s .desk)
-unfolding run told event holdersAfter
-run-holders [] s = refl
-run-holders (Here c ∷ es) s =
-    ap (λ (l : List ℕ). holdersAfter l (told es (call c s))) (sym (call-holders c s)) ∙ run-holders es (call c s)
-run-holders (Elsewhere other c ∷ es) s =
-    let t = event (Elsewhere other c) s in
-    ap (λ (l : List ℕ). holdersAfter l (told es t)) (sym (call-holders c (lent other s))) ∙ run-holders es t
-run-holders (OutsideStore j v ∷ es) s = run-holders es (event (OutsideStore j v) s)
+-- ---- what the desk says of something is what comes of it through the calls, where each call leaves it so
+module _ {A : Type 0} (step : A → Call → Answer → A) (says : List ℕ → A)
+    (law : (c : Call) (s : State) → says (call c s .desk) ≡ step (says (s .desk)) c (answerTo c s)) where
+  run-through : (es : List Event) (s : State) → through step (says (s .desk)) (told es s) ≡ says (run event es s .desk)
+  unfolding run told event through
+  run-through [] s = refl
+  run-through (Here c ∷ es) s = ap (λ (w : A). through step w (told es (call c s))) (sym (law c s)) ∙ run-through es (call c s)
+  run-through (Elsewhere other c ∷ es) s =
+      let t = event (Elsewhere other c) s in
+      ap (λ (w : A). through step w (told es t)) (sym (law c (lent other s))) ∙ run-through es t
+  run-through (OutsideStore j v ∷ es) s = run-through es (event (OutsideStore j v) s)
 
 run-sound : (es : List Event) (s : State) → sound (s .desk) ≡ true → sound (run event es s .desk) ≡ true
 unfolding run
@@ -196,22 +178,23 @@ module _ (s : State) (n : ℕ) (m : List ℕ) (es : List Event) (made : answerTo
   fresh-sound = make-sound (s .desk) n m made
 
   fresh-made : saysMade (fresh .desk) ≡ record { core = n; map = m }
-  fresh-made = call-made (Make n m) s ∙ rw made
+  fresh-made = call-counts (Make n m) s .made ∙ rw made
 
   fresh-held : (r : ℕ) → held r (holders (fresh .desk)) ≡ 0
-  fresh-held r = call-held (Make n m) s r ∙ rw made
+  fresh-held r = call-counts (Make n m) s .rooms r ∙ rw made
 
   counted-held : (r : ℕ) → heldBy r (told es fresh) ≡ held r (holders (run event es fresh .desk))
-  counted-held r = rw (fresh-held r) at (run-held r es fresh)
+  counted-held r =
+      rw (fresh-held r) at (run-through (heldThen r) (λ d. held r (holders d)) (λ c t. call-counts c t .rooms r) es fresh)
 
-  counted-made : madeAfter (record { core = n; map = m }) (told es fresh) ≡ saysMade (run event es fresh .desk)
-  counted-made = rw fresh-made at (run-made es fresh)
+  counted-made : through madeThen (record { core = n; map = m }) (told es fresh) ≡ saysMade (run event es fresh .desk)
+  counted-made = rw fresh-made at (run-through madeThen saysMade (λ c t. call-counts c t .made) es fresh)
 
   fresh-free : holders (fresh .desk) ≡ allFree
-  fresh-free = call-holders (Make n m) s ∙ rw made
+  fresh-free = call-counts (Make n m) s .places ∙ rw made
 
-  counted-holders : holdersAfter allFree (told es fresh) ≡ holders (run event es fresh .desk)
-  counted-holders = rw fresh-free at (run-holders es fresh)
+  counted-holders : holdersBy (told es fresh) ≡ holders (run event es fresh .desk)
+  counted-holders = rw fresh-free at (run-through holdersThen holders (λ c t. call-counts c t .places) es fresh)
 
 pub demand-3-rooms : Demand3Rooms
 demand-3-rooms s n m es r made room ts w desk is-ts is-w is-desk =

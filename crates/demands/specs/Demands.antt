@@ -14,7 +14,7 @@ use Rattle.word.specs.declared.Absolute.{Absolute}
 use Rattle.word.specs.declared.Area.{Area}
 use Rattle.word.specs.declared.Fault.{Fault}
 use Rattle.map.specs.Map.{mapOf, none}
-use Rattle.rooms.specs.Rooms.{allFree, lowestFree}
+use Rattle.rooms.specs.Rooms.{lowestFree}
 use Rattle.lists.specs.Obey.{listsObey}
 use Rattle.stage.specs.declared.Stage.the-variants.{Broken}
 use Rattle.layout.specs.Layout.{stageAt, listsAt, base, placeIn, ownOf, stageIn}
@@ -32,7 +32,7 @@ use Rattle.demands.specs.History.Call.{Make, Open, Feed, Release}
 use Rattle.demands.specs.Opening.{Opening, IsGranted, afterOpen, since, Stays, Unharmed, ownEvents, imageSince, areaWords}
 use Rattle.demands.specs.Opening.{Asked, openAnswer, Refuses}
 use Rattle.demands.specs.Feeding.{Fed, feed, fedAnswer, placeNumber, fedEvents}
-use Rattle.demands.specs.Grants.{heldBy, freePlaces, idleRooms, holdersAfter, MadeWith, madeThen, madeAfter, saysMade}
+use Rattle.demands.specs.Grants.{heldBy, freePlaces, idleRooms, holdersBy, through, MadeWith, madeThen, saysMade}
 
 -- a core word outside an area
 abbrev pub Outside : Area → ℕ → Type 0
@@ -210,6 +210,6 @@ abbrev pub Demand3Rooms : Type 0
 Demand3Rooms =
     (s : State) (n : ℕ) (m : List ℕ) (es : List Event) (r : ℕ) → answerTo (Make n m) s ≡ Made → r < roomCount
     → (ts : List Told) (w : MadeWith) (desk : List ℕ)
-    → ts ≡ told es (call (Make n m) s) → w ≡ madeAfter (record { core = n; map = m }) ts
+    → ts ≡ told es (call (Make n m) s) → w ≡ through madeThen (record { core = n; map = m }) ts
     → desk ≡ run event es (call (Make n m) s) .desk
-    → PlacesGiven ts w desk r × PlacesHeld (holdersAfter allFree ts) w desk r
+    → PlacesGiven ts w desk r × PlacesHeld (holdersBy ts) w desk r

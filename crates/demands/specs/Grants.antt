@@ -13,6 +13,11 @@ use Rattle.calls.specs.declared.Answer.the-variants.{Refused, Made, Opened, Mor
 use Rattle.demands.specs.History.{Call, Told, isMade, isReleased}
 use Rattle.demands.specs.History.Call.{Make, Open, Feed, Release}
 
+-- what comes of w through the calls that were told, each by its answer
+unfoldable pub through : {A : Type 0} → (A → Call → Answer → A) → A → List Told → A
+through step w [] = w
+through step w (t ∷ ts) = through step (step w (t .call) (t .answer)) ts
+
 abbrev pub isOpened : Answer → Bool
 isOpened (Refused f) = false
 isOpened Made = false
@@ -29,13 +34,9 @@ heldThen r n (Open q area ios tables) answer = cond (isOpened answer && eqb q r)
 heldThen r n (Feed q p block) answer = n
 heldThen r n (Release k q p) answer = cond (isReleased answer && eqb q r) (n - 1) n
 
-unfoldable pub heldAfter : ℕ → ℕ → List Told → ℕ
-heldAfter r n [] = n
-heldAfter r n (t ∷ ts) = heldAfter r (heldThen r n (t .call) (t .answer)) ts
-
 -- how many places room r holds, where nobody held one before
 abbrev pub heldBy : ℕ → List Told → ℕ
-heldBy r ts = heldAfter r 0 ts
+heldBy r ts = through (heldThen r) 0 ts
 
 -- how many the first n rooms hold, and how many of them hold none
 unfoldable pub heldByAll : ℕ → List Told → ℕ
@@ -68,9 +69,9 @@ holdersThen l (Open q area ios tables) answer = withPlace l q answer
 holdersThen l (Feed q p block) answer = l
 holdersThen l (Release n q p) answer = cond (isReleased answer) (set l p 0) l
 
-unfoldable pub holdersAfter : List ℕ → List Told → List ℕ
-holdersAfter l [] = l
-holdersAfter l (t ∷ ts) = holdersAfter (holdersThen l (t .call) (t .answer)) ts
+-- where nobody held one before
+abbrev pub holdersBy : List Told → List ℕ
+holdersBy ts = through holdersThen allFree ts
 
 -- ---- what the desk was last made with: the core length and the map
 pub record MadeWith : Type 0 where
@@ -83,10 +84,6 @@ madeThen w (Make n m) answer = cond (isMade answer) (record { core = n; map = m 
 madeThen w (Open q area ios tables) answer = w
 madeThen w (Feed q p block) answer = w
 madeThen w (Release n q p) answer = w
-
-unfoldable pub madeAfter : MadeWith → List Told → MadeWith
-madeAfter w [] = w
-madeAfter w (t ∷ ts) = madeAfter (madeThen w (t .call) (t .answer)) ts
 
 -- what the desk's numbers say of it
 abbrev pub saysMade : List ℕ → MadeWith
