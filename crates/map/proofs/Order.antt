@@ -5,16 +5,17 @@ use mathlib.Core.Bool.{Bool, true, false, and-false}
 use mathlib.Core.List.{List, [], _∷_}
 use native.Mathlib.Omega.{arith}
 use native.Mathlib.Numerals.{add-one}
-use lib.ListN.{length, getD, drop, drop-of-length-le}
+use lib.ListN.{drop, drop-of-length-le}
 use lib.Seq.{drop-cons}
 use lib.Dec.{leb, eqb}
 use borrow.Author.Tests.{leb-true, leb-false, le-leb, lt-leb, eq-eqb, ne-eqb, eqb-true}
 use Rattle.word.specs.Lists.{every, everyTwo}
+use Rattle.word.specs.Limits.{roomCount}
 use Rattle.word.proofs.Cases.{by-test, by-lt, and-left, and-right, and-both}
 use Rattle.map.specs.declared.Stretch.{Stretch}
-use Rattle.map.specs.Map.{inCore, stretchesApart, mapObeys, none}
+use Rattle.map.specs.Map.{stretchOf, mapOf, inCore, stretchesApart, mapObeys, none}
 use Rattle.map.specs.HowOrder.{inOrder}
-use Rattle.map.proofs.Map.{in-core-says, stretches-apart-says}
+use Rattle.map.proofs.Map.{map-length, map-at, in-core-says, stretches-apart-says}
 
 -- ---- what the order says
 module _ (core : ℕ) where
@@ -114,15 +115,20 @@ module _ (core left x : ℕ) (s : Stretch) (m : List Stretch) (most : left ≤ c
 pub order-starts : (core : ℕ) (m : List Stretch) → inOrder core 0 m ≡ inOrder core (core - core) m
 order-starts core m = let e : core - core ≡ 0 = omega arith in rw e
 
-module _ (core left : ℕ) (m : List Stretch) (r : ℕ) (b : Bool) (q : b ≡ inOrder core (core - left) (drop r m)) where
-  pub order-fails : r < length m → inOrder core (core - left) (getD m r none ∷ drop (suc r) m) ≡ false → false ≡ b
-  order-fails h f = sym (q ∙ rw (drop-cons m r none h) f)
+module _ (core left : ℕ) (l : List ℕ) (r : ℕ) (b : Bool) (q : b ≡ inOrder core (core - left) (drop r (mapOf l))) where
+  -- the stretches from room r's on
+  from-room : (s : Stretch) → r < roomCount → s ≡ stretchOf l r → drop r (mapOf l) ≡ s ∷ drop (suc r) (mapOf l)
+  from-room s h e = drop-cons (mapOf l) r none (omega (arith, map-length l)) ∙ rw (map-at l r h, e) refl
 
-  pub order-more : (next : ℕ) → r < length m
-      → inOrder core (core - left) (getD m r none ∷ drop (suc r) m) ≡ inOrder core (core - next) (drop (suc r) m)
-      → b ≡ inOrder core (core - next) (drop (r + 1) m)
-  order-more next h f = q ∙ rw (drop-cons m r none h, add-one) f
+  pub order-fails : (s : Stretch) → r < roomCount → s ≡ stretchOf l r
+      → inOrder core (core - left) (s ∷ drop (suc r) (mapOf l)) ≡ false → false ≡ b
+  order-fails s h e f = sym (q ∙ rw (from-room s h e) f)
 
-  pub order-ends : length m ≤ r → true ≡ b
+  pub order-more : (next : ℕ) (s : Stretch) → r < roomCount → s ≡ stretchOf l r
+      → inOrder core (core - left) (s ∷ drop (suc r) (mapOf l)) ≡ inOrder core (core - next) (drop (suc r) (mapOf l))
+      → b ≡ inOrder core (core - next) (drop (r + 1) (mapOf l))
+  order-more next s h e f = q ∙ rw (from-room s h e, add-one) f
+
+  pub order-ends : roomCount ≤ r → true ≡ b
   unfolding inOrder
-  order-ends h = sym (q ∙ rw (drop-of-length-le m h))
+  order-ends h = sym (q ∙ rw (drop-of-length-le (mapOf l) {i = r} (omega (arith, map-length l))))

@@ -43,7 +43,7 @@ pub fn map_fits(core: u64, numbers: &[u64]) -> bool
     if numbers.len() != MAP_WORDS {
         return pairs_fit(core, numbers);
     }
-    if in_order(core, read_map(numbers)) {
+    if in_order(core, numbers) {
         return true;
     }
     pairs_fit(core, numbers)
@@ -68,14 +68,15 @@ fn pairs_fit(core: u64, numbers: &[u64]) -> bool
 
 // Whether each stretch lies inside the core and starts at or behind the end of those before it; an empty one may start anywhere.
 // What is left of the core behind them tells it: a stretch that starts past the core has a difference that wraps, and so is over
-// it.
-fn in_order(core: u64, m: [Stretch; ROOMS]) -> bool
-    ensures { λ b. ⌜ b ≡ inOrder core 0 m ⌝ }
+// it. The loop goes to the list's length, which the caller knows: so it is short here, and compiled into the caller.
+fn in_order(core: u64, numbers: &[u64]) -> bool
+    requires { ⌜ length (now numbers) ≡ mapWords ⌝ }
+    ensures { λ b. ⌜ b ≡ inOrder core 0 (mapOf (now (numbers .entry))) ⌝ }
 {
     let mut left = core;
     let mut r: usize = 0;
-    while r < ROOMS {
-        let s = m[r];
+    while 2 * r < numbers.len() {
+        let s = stretch_at(numbers, r);
         let x = std::num::wrapping_sub_u64(core, s.start.0);
         r += 1;
         if left < x {

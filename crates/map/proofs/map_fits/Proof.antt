@@ -11,15 +11,11 @@ pairs-fit-requires c κs = search needs
 returns : tie.Need-returns
 returns c = search needs
 
-read-map-requires : tie.Need-read-map-requires
-read-map-requires c κs = search needs
-
 in-order-requires : tie.Need-in-order-requires
 in-order-requires c κs = search needs
 
 returns-2 : tie.Need-returns-2
-returns-2 c = rw (← c .before .before .read-map .ensures)
-    (sym (order-obeys _ _ (sym (c .before .in-order .ensures) ∙ c .if2 .taken)))
+returns-2 c = sym (order-obeys _ _ (sym (c .before .in-order .ensures) ∙ c .if2 .taken))
 
 pairs-fit-requires-2 : tie.Need-pairs-fit-requires-2
 pairs-fit-requires-2 c κs = search needs
@@ -33,7 +29,6 @@ map-fits-spec =
     (tie.spec
     pairs-fit-requires
     returns
-    read-map-requires
     in-order-requires
     returns-2
     pairs-fit-requires-2
