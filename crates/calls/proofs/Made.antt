@@ -5,14 +5,14 @@ use mathlib.Core.Bool.{true}
 use mathlib.Core.List.{List}
 use native.Mathlib.Omega.{arith}
 use native.Mathlib.Numerals.{add-one}
-use lib.ListN.{length, set, length-set, getD-replicate}
+use lib.ListN.{length, set, replicate, length-set, getD-replicate}
 use lib.Seq.{ext-getD, getD-set-same, getD-set-other}
 use lib.Dec.{eqb}
 use borrow.Author.Tests.{eqb-true}
 use Rattle.word.specs.Limits.{placeCount}
 use Rattle.word.specs.Lists.{splice}
 use Rattle.word.proofs.Cases.{by-eq, by-lt, both, when}
-use Rattle.word.proofs.Lists.{length-splice, range-splice-same, getD-splice-out}
+use Rattle.word.proofs.Lists.{length-splice, range-splice-same, getD-splice-out, splice-whole}
 use Rattle.word.proofs.Stretch.{splice-first}
 use Rattle.map.specs.Map.{mapOf, mapObeys}
 use Rattle.rooms.specs.Rooms.{allFree}
@@ -69,6 +69,10 @@ module _ (d : List ℕ) (long : length d ≡ deskWords) where
       ext-getD 0 _ _ (length-holders (freed 12 d))
       (λ q g. let k : q < placeCount = omega (arith, length-holders (freed 12 d)) in
       getD-holders (freed 12 d) q k ∙ none-held 12 (omega arith) q k ∙ sym (getD-replicate 12 q 0 0 k))
+
+-- ---- a copy of the map's numbers over sixteen zeros is the numbers
+pub map-copied : (m copy : List ℕ) → length m ≡ 16 → copy ≡ splice (replicate 16 0) 0 m → copy ≡ m
+map-copied m copy long e = e ∙ splice-whole (replicate 16 0) m long
 
 -- ---- the core length first and the map behind it is one stretch written
 module _ (d : List ℕ) (n : ℕ) (m : List ℕ) (long : length d ≡ deskWords) (map : length m ≡ 16) where

@@ -3,7 +3,8 @@ ghost use mathlib.Core.Path.{_≡_};
 ghost use mathlib.Core.List.{[]};
 ghost use lib.ListN.{length};
 ghost use Rattle.word.specs.Limits.{placeCount, mapWords};
-ghost use Rattle.layout.specs.Layout.{deskWords};
+ghost use Rattle.word.specs.Lists.{splice};
+ghost use Rattle.layout.specs.Layout.{deskWords, mapAt};
 ghost use Rattle.calls.specs.Make.{freed, freshDesk, makeOf};
 ghost use Rattle.calls.specs.Outcome.{Meets};
 use crate::Answer;
@@ -46,8 +47,19 @@ fn write_fresh(desk: &mut [u64], core: u64, numbers: &[u64])
     ensures { λ _. ⌜ now (desk .exit) ≡ freshDesk (now (desk .entry)) core (now (numbers .entry)) ⌝ }
 {
     desk[CORE_AT] = core;
-    word::slices::copy_in(desk, MAP_AT, numbers);
+    write_map(desk, numbers);
     clear_places(desk);
+}
+
+// The map's numbers. They are taken into a list of their own first: it is known to lie apart from the desk, and so the compiler
+// copies two at a time.
+fn write_map(desk: &mut [u64], numbers: &[u64])
+    requires { ⌜ (length (now desk) ≡ deskWords) × (length (now numbers) ≡ mapWords) ⌝ }
+    ensures { λ _. ⌜ now (desk .exit) ≡ splice (now (desk .entry)) mapAt (now (numbers .entry)) ⌝ }
+{
+    let mut m = [0u64; MAP_WORDS];
+    word::slices::copy_in(&mut m, 0, numbers);
+    word::slices::copy_in(desk, MAP_AT, &m);
 }
 
 // Every place set free.

@@ -12,13 +12,13 @@ use Rattle.calls.proofs.make.write_fresh.Tie as tie
 slice-write-desk : tie.Need-slice-write-desk
 slice-write-desk c = search needs
 
-copy-in-requires : tie.Need-copy-in-requires
-copy-in-requires c κs = simp length-set (omega arith)
+write-map-requires : tie.Need-write-map-requires
+write-map-requires c κs = (simp length-set (omega arith), omega arith)
 
 clear-places-requires : tie.Need-clear-places-requires
 clear-places-requires c κs =
     let s = c .before .before .before .before .before .before .before in
-    ap length (c .before .before .before .copy-in .ensures)
+    ap length (c .before .before .before .write-map .ensures)
     ∙ fixed-length (now (s .args .desk)) (s .args .core) (now (s .args .numbers)) (s .pre .0) (s .pre .1)
 
 same-length : tie.Need-same-length
@@ -26,7 +26,7 @@ same-length c =
     let s = c .before .before .before .before .before .before .before .before .before .before in
     ap length (c .before .before .clear-places .ensures)
     ∙ length-freed 12 _
-    ∙ ap length (c .before .before .before .before .before .before .copy-in .ensures)
+    ∙ ap length (c .before .before .before .before .before .before .write-map .ensures)
     ∙ fixed-length (now (s .args .desk)) (s .args .core) (now (s .args .numbers)) (s .pre .0) (s .pre .1)
     ∙ sym (s .pre .0)
 
@@ -34,9 +34,9 @@ returns : tie.Need-returns
 returns c =
     let s = c .before .before .before .before .before .before .before .before .before .before in
     c .before .before .clear-places .ensures
-    ∙ ap (freed 12) (c .before .before .before .before .before .before .copy-in .ensures)
+    ∙ ap (freed 12) (c .before .before .before .before .before .before .write-map .ensures)
     ∙ fresh-as (now (s .args .desk)) (s .args .core) (now (s .args .numbers)) (s .pre .0) (s .pre .1)
 
 pub write-fresh-spec : {M : Type 1} → statement M
 write-fresh-spec =
-    tie.close (tie.spec slice-write-desk copy-in-requires clear-places-requires same-length returns)
+    tie.close (tie.spec slice-write-desk write-map-requires clear-places-requires same-length returns)
