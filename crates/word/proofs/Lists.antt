@@ -5,11 +5,11 @@ use mathlib.Core.Bool.{Bool, true, false}
 use mathlib.Core.List.{List, _++_, append-assoc, append-nil, [], _∷_}
 use native.Mathlib.Omega.{arith}
 use native.Mathlib.Numerals.{add-one}
-use native.Mathlib.Nat.{zero-add, add-sub-of-le, add-sub-cancel-left}
+use native.Mathlib.Nat.{zero-add, add-zero, add-sub-of-le, add-sub-cancel-left}
 use lib.ListN.{length, length-take, set, getD, take, drop, length-drop, take-append-drop, drop-of-length-le, length-append}
 use lib.ListN.{List·getD-append}
 use lib.Seq.{paste, paste-zero, paste-suc, length-paste, drop-paste, drop-cons, drop-length, take-length, take-at, drop-at}
-use lib.Seq.{take-append-le, drop-append-le, length-take-le, drop-drop, getD-take, getD-drop, getD-at, take-all, ext-getD}
+use lib.Seq.{take-add, take-paste, take-append-le, drop-append-le, length-take-le, drop-drop, getD-take, getD-drop, getD-at, take-all, ext-getD}
 use lib.Seq.{set-split, append-snoc}
 use Rattle.word.proofs.Cases.{by-lt}
 use Rattle.word.specs.Lists.{every, everyTwo, tab, range, splice}
@@ -237,3 +237,31 @@ copied-next l s i e v h k w q = rw zero-add at (copied-more l 0 s i e v (omega a
 pub copied-all : (l : List ℕ) (a : ℕ) (s : List ℕ) (i : ℕ) (e : List ℕ) → length s ≡ i → e ≡ copied l a s i → e ≡ splice l a s
 unfolding copied splice
 copied-all l a s i e h q = rw (q, ← h)
+
+-- a stretch of s number by number, to the same places of l
+module _ (l s : List ℕ) (a n : ℕ) (into : a + n ≤ length l) (from : a + n ≤ length s) where
+  pub copied-at : (k : ℕ) (e : List ℕ) → k < n → e ≡ copied l a (range s a n) k
+      → set e (a + k) (getD s (a + k) 0) ≡ copied l a (range s a n) (k + 1)
+  copied-at k e h q =
+      let r = length-range s a n from in
+      copied-more l a (range s a n) k e _ (omega arith) (omega arith) (sym (getD-range s a n k h)) q
+
+  pub copied-first : 0 < n → set l a (getD s a 0) ≡ copied l a (range s a n) 1
+  copied-first h = rw (add-zero a) at (copied-at 0 l h (copied-none l a (range s a n)))
+
+  -- what was alike up to the stretch is alike past it
+  pub alike-more : take a l ≡ take a s → take (a + n) (splice l a (range s a n)) ≡ take (a + n) s
+  unfolding splice range
+  alike-more q =
+      let r : length (range s a n) ≡ n = length-range s a n from in
+      rw r (take-paste l a (range s a n) n (omega arith) (omega arith) ∙ rw (take-add a n s, q, take-all n (range s a n) (omega arith)))
+
+pub alike-all : (l s : List ℕ) (a : ℕ) → a ≤ length s → length l ≡ length s → take a l ≡ take a s
+    → splice l a (range s a (length s - a)) ≡ s
+alike-all l s a h e q =
+    let n = length s - a in
+    let r : length (range s a n) ≡ n = length-range s a n (omega arith) in
+    let w : length (splice l a (range s a n)) ≡ length l = length-splice l a (range s a n) (omega arith) in
+    sym (take-all (a + n) (splice l a (range s a n)) (omega arith))
+    ∙ alike-more l s a n (omega arith) (omega arith) q
+    ∙ take-all (a + n) s (omega arith)
