@@ -5,13 +5,11 @@ use mathlib.Core.Path.{_≡_, refl, sym, ap, _∙_}
 use mathlib.Core.Bool.{Bool, true, false, _||_}
 use mathlib.Core.List.{List}
 use native.Mathlib.Omega.{arith}
-use lib.ListN.{length, getD, replicate}
+use lib.ListN.{length, getD}
 use lib.Dec.{leb}
 use borrow.Author.Tests.{le-leb, lt-leb, leb-false, eq-eqb, ne-eqb}
-use Rattle.word.specs.Limits.{wordsInBlock}
 use Rattle.program.specs.Sections.{lastWord}
-use Rattle.word.specs.Lists.{every, splice}
-use Rattle.word.proofs.Lists.{splice-whole}
+use Rattle.word.specs.Lists.{every}
 use Rattle.word.proofs.Cases.{by-test}
 use Rattle.program.specs.declared.Bank.{Bank}
 use Rattle.program.specs.declared.TableSection.{TableSection}
@@ -204,7 +202,3 @@ module _ (x : Load) (block : List ℕ) where
 
       pub turn-length : Waits x (Program c due) block core → length after ≡ length core
       turn-length w = rw (m .left) (item-length c due i core (stands x (Program c due) block core w))
-
--- ---- a copy of the lent block over 256 zeros is the block
-pub copy-same : (block copy : List ℕ) → length block ≡ wordsInBlock → copy ≡ splice (replicate 256 0) 0 block → copy ≡ block
-copy-same block copy long e = e ∙ splice-whole (replicate 256 0) block long

@@ -10,7 +10,6 @@ use crate::Awaited;
 use crate::Item;
 use crate::Onward;
 use crate::heads;
-use block::BLOCK_WORDS;
 use field::Assigned;
 use group::GroupStep;
 use group::Section;
@@ -32,27 +31,8 @@ enum Reading {
     Group(Section, Onward),
 }
 
-// A program block for a load with these counts of its label, where due is due, into the core. The lent block is copied first (01,
-// "blocks of 256 words built with repeat arrays").
+// A program block for a load with these counts of its label, where due is due, into the core: item after item, from word 1 on.
 pub fn program_step(
-    g: Given,
-    lists: &[u64],
-    c: LabelCounts,
-    due: Due,
-    block: &[u64],
-    core: &mut [u64],
-) -> Step
-    requires { ⌜ KeptWaits g (now lists) (Stage.Program c due) (now block) (now core) ⌝ }
-    ensures { λ r. ⌜ StepMeets (programStep (loadOf g (now (lists .entry))) c due (now (block .entry)) (now (core .entry)))
-        r (now (core .exit)) ⌝ }
-{
-    let mut b = [0u64; BLOCK_WORDS];
-    word::slices::copy_in(&mut b, 0, block);
-    walk_items(g, lists, c, due, &b, core)
-}
-
-// Item after item, from word 1 on.
-fn walk_items(
     g: Given,
     lists: &[u64],
     c: LabelCounts,

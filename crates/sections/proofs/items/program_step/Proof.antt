@@ -1,38 +1,110 @@
--- `items::program_step`: the copy of the block is the block.
-use Rattle.sections.proofs.Turns.{copy-same}
+-- `items::program_step`: at every turn the items from place i on, onto the core as it is, give what the block gives.
+use Prim.Native.Nat.{_≤_, _-_}
+use mathlib.Core.Path.{_≡_, refl, _∙_}
+use native.Mathlib.Omega.{arith}
+use lib.ListN.{length}
 use borrow.Author.Needs.{needs}
+use Rattle.stage.specs.declared.Stage.the-variants.{Program}
+use Rattle.lists.specs.Load.{loadOf}
+use Rattle.sections.specs.Waits.{Waits}
+use Rattle.sections.specs.Program.{programFrom, programStep}
+use Rattle.sections.proofs.Turns.{turn-zero, turn-end, turn-on, turn-stop, turn-waits, turn-length}
 use Rattle.sections.proofs.items.program_step.Statement.{statement}
 use Rattle.sections.proofs.items.program_step.Tie as tie
 
-slice-aggregate-copy-in : tie.Need-slice-aggregate-copy-in
-slice-aggregate-copy-in c = search needs
+abbrev Inv-loop : tie.InvT-loop
+Inv-loop g lists block core₀ counts₀ next₀ i₀ core counts next i =
+    (i ≤ 255) × (length core ≡ length core₀) × (Waits (loadOf g lists) (Program counts next) block core)
+    × (programStep (loadOf g lists) counts₀ next₀ block core₀ ≡ programFrom (255 - i) (loadOf g lists) counts next block i core)
 
-copy-in-requires : tie.Need-copy-in-requires
-copy-in-requires c κs = search needs
+abbrev μ-loop : tie.MeasureT-loop
+μ-loop g lists block core₀ counts₀ next₀ i₀ core counts next i = 255 - i
 
-slice-aggregate-walk-items : tie.Need-slice-aggregate-walk-items
-slice-aggregate-walk-items c = search needs
+loop-holds : tie.Need-loop-holds Inv-loop μ-loop
+unfolding programStep
+loop-holds c = (omega arith, refl, c .before .before .before .pre .waits, refl)
 
-walk-items-requires : tie.Need-walk-items-requires
-walk-items-requires c κs = rw
-    (copy-same _ _ (c .before .before .before .before .before .before .before .before .pre .waits .long)
-    (c .before .before .before .copy-in .ensures)) (c .before .before .before .before .before .before .before .before .pre)
+mul-if1 : tie.Need-mul-if1 Inv-loop μ-loop
+mul-if1 c = omega arith
 
-same-length : tie.Need-same-length
-same-length c = search needs
+shared-slice-read-if1 : tie.Need-shared-slice-read-if1 Inv-loop μ-loop
+shared-slice-read-if1 c = let l = c .before .before .loop in omega (arith, l .inv .2 .long)
 
-returns : tie.Need-returns
-returns c = rw (copy-same _ _
-    (c .before .before .before .before .before .before .before .before .before .before .before .pre .waits .long)
-    (c .before .before .before .before .before .before .copy-in .ensures)) at (c .before .before .walk-items .ensures)
+same-length : tie.Need-same-length Inv-loop μ-loop
+same-length c = c .before .before .before .loop .inv .1
+
+returns : tie.Need-returns Inv-loop μ-loop
+returns c = let l = c .before .before .before .loop in
+    turn-zero _ _ (l .counts) (l .next) (l .i) (l .core) _ (c .before .before .loop-test .taken) (c .if1 .taken) (l .inv .3)
+
+item-step-requires : tie.Need-item-step-requires Inv-loop μ-loop
+item-step-requires c κs = let l = c .before .before .before .before .loop in
+    let z = c .before .before .before .before .before .before .before .before in
+    (record { lists = z .pre .lists; waits = l .inv .2 }, omega arith)
+
+enum-known-d : tie.Need-enum-known-d Inv-loop μ-loop
+enum-known-d c = search needs
+
+loop-less : tie.Need-loop-less Inv-loop μ-loop
+loop-less c = let s = c .before .before .before .before .before in
+    let b = s .before .before in
+    let l = b .before .before .before .loop in
+    let o = turn-on _ _ (l .counts) (l .next) (l .i) (l .core) _ (b .before .before .loop-test .taken) (b .if1 .left)
+    (l .inv .3) _ _ (s .item-step .ensures) _ _ _ (c .before .d .given .1) in
+    omega (arith, o .0, o .1)
+
+loop-again : tie.Need-loop-again Inv-loop μ-loop
+loop-again c = let s = c .before .before .before .before .before in
+    let b = s .before .before in
+    let l = b .before .before .before .loop in
+    let o = turn-on _ _ (l .counts) (l .next) (l .i) (l .core) _ (b .before .before .loop-test .taken) (b .if1 .left)
+    (l .inv .3) _ _ (s .item-step .ensures) _ _ _ (c .before .d .given .1) in
+    let w = turn-waits _ _ (l .counts) (l .next) (l .i) (l .core) _ (b .before .before .loop-test .taken) (b .if1 .left)
+    (l .inv .3) _ _ (s .item-step .ensures) _ _ _ (c .before .d .given .1) (l .inv .2) in
+    let n = turn-length _ _ (l .counts) (l .next) (l .i) (l .core) _ (b .before .before .loop-test .taken) (b .if1 .left)
+    (l .inv .3) _ _ (s .item-step .ensures) (l .inv .2) in
+    (o .1, n ∙ l .inv .1, w, o .2)
+
+enum-known-r : tie.Need-enum-known-r Inv-loop μ-loop
+enum-known-r c = search needs
+
+same-length-2 : tie.Need-same-length-2 Inv-loop μ-loop
+same-length-2 c = let s = c .before .before .before .before .before in
+    let b = s .before .before in
+    let l = b .before .before .before .loop in
+    turn-length _ _ (l .counts) (l .next) (l .i) (l .core) _ (b .before .before .loop-test .taken) (b .if1 .left) (l .inv .3) _ _
+    (s .item-step .ensures) (l .inv .2) ∙ l .inv .1
+
+returns-2 : tie.Need-returns-2 Inv-loop μ-loop
+returns-2 c = let s = c .before .before .before .before .before in
+    let b = s .before .before in
+    let l = b .before .before .before .loop in
+    turn-stop _ _ (l .counts) (l .next) (l .i) (l .core) _ (b .before .before .loop-test .taken) (b .if1 .left) (l .inv .3) _ _
+    (s .item-step .ensures) _ (c .before .r .given .1)
+
+same-length-3 : tie.Need-same-length-3 Inv-loop μ-loop
+same-length-3 c = c .before .loop .inv .1
+
+returns-3 : tie.Need-returns-3 Inv-loop μ-loop
+returns-3 c = let l = c .before .loop in turn-end _ _ (l .counts) (l .next) (l .i) (l .core) _ (c .loop-test .left) (l .inv .3)
 
 pub program-step-spec : {M : Type 1} → statement M
 program-step-spec =
     tie.close
     (tie.spec
-    slice-aggregate-copy-in
-    copy-in-requires
-    slice-aggregate-walk-items
-    walk-items-requires
+    Inv-loop
+    μ-loop
+    loop-holds
+    mul-if1
+    shared-slice-read-if1
     same-length
-    returns)
+    returns
+    item-step-requires
+    enum-known-d
+    loop-less
+    loop-again
+    enum-known-r
+    same-length-2
+    returns-2
+    same-length-3
+    returns-3)
