@@ -2,4 +2,3 @@ pub mod Ranges
 pub mod Leads
 pub mod Turns
 pub mod Blocks
-pub mod Reading

@@ -1,4 +1,3 @@
 pub mod Waits
 pub mod Heads
 pub mod Program
-pub mod HowItems

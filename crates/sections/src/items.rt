@@ -2,9 +2,8 @@
 ghost use mathlib.Core.Path.{_≡_};
 ghost use Prim.Native.Nat.{_≤_};
 ghost use Rattle.program.specs.Sections.{lastWord};
-ghost use Rattle.lists.specs.Load.{loadOf, Readable};
+ghost use Rattle.lists.specs.Load.{loadOf};
 ghost use Rattle.sections.specs.Waits.{KeptWaits};
-ghost use Rattle.sections.specs.HowItems.{Numbered, readingOf};
 ghost use Rattle.sections.specs.Program.{afterLast, afterGroup, itemStep, programStep, ItemMeets, StepMeets};
 use crate::Awaited;
 use crate::Item;
@@ -23,13 +22,6 @@ use word::Reference;
 
 // Where no identifier can stand any more.
 const PAST_ITEMS: usize = LAST_WORD + 1;
-
-// How the word at a place is read: as a section's head, or as the identifier of a group, with its section.
-enum Reading {
-    Segment,
-    Section(Onward),
-    Group(Section, Onward),
-}
 
 // A program block for a load with these counts of its label, where due is due, into the core: item after item, from word 1 on.
 pub fn program_step(
@@ -66,8 +58,9 @@ pub fn program_step(
     Step::More(Stage::Program(counts, next))
 }
 
-// What stands at place i, where w is awaited. Groups of either section are read here, at one place, so that the compiler makes
-// their code once and for this place.
+// What stands at place i, where w is awaited: a section's head, or a group of the segment section or of a table section. Each of
+// the two calls the group step: with two callers the compiler makes it a function of its own, whose loop then has the registers to
+// itself.
 fn item_step(g: Given, lists: &[u64], w: Awaited, block: &[u64], i: usize, core: &mut [u64]) -> Item
     requires { ⌜ (KeptWaits g (now lists) (Stage.Program (w .counts) (w .due)) (now block) (now core)) × (i ≤ lastWord) ⌝ }
     ensures { λ r. ⌜ ItemMeets (itemStep (loadOf g (now (lists .entry))) (w .counts) (w .due) (now (block .entry)) i
@@ -75,38 +68,32 @@ fn item_step(g: Given, lists: &[u64], w: Awaited, block: &[u64], i: usize, core:
 {
     let c = w.counts;
     let due = w.due;
-    match reading_of(g, lists, due) {
-        Reading::Segment => heads::segment_head(g, lists, c, block, i),
-        Reading::Section(o) => heads::section_head(g, lists, c, o, block, i),
-        Reading::Group(section, o) => {
-            let channels = c.channels;
-            let set = Assigned { given: g, channels };
-            let r = group::group_step(set, section, lists, block, i, core);
-            after_group(c, due, o, r)
-        }
-    }
-}
-
-// How the word is read where due is due.
-fn reading_of(g: Given, lists: &[u64], due: Due) -> Reading
-    requires { ⌜ (Readable g (now lists)) × (Numbered due) ⌝ }
-    ensures { λ r. ⌜ r ≡ readingOf g (now (lists .entry)) due ⌝ }
-{
+    let channels = c.channels;
+    let set = Assigned { given: g, channels };
     match due {
-        Due::Segment => Reading::Segment,
+        Due::Segment => heads::segment_head(g, lists, c, block, i),
         Due::SegmentGroup(segment) => {
             let ibank = segment.ibank;
             let least = Reference(0);
-            Reading::Group(Section::Segment(segment), Onward { least, ibank })
+            let r = group::group_step(set, Section::Segment(segment), lists, block, i, core);
+            after_group(c, due, Onward { least, ibank }, r)
         }
-        Due::Section(least, ibank) => Reading::Section(Onward { least, ibank }),
+        Due::Section(least, ibank) => heads::section_head(
+            g,
+            lists,
+            c,
+            Onward { least, ibank },
+            block,
+            i,
+        ),
         Due::SectionGroup(t, ibank) => {
             let number = t.number;
             let count = t.count;
             let table = lists::load::core_table(g, lists, number);
             let above = number.0 + 1;
             let least = Reference(above);
-            Reading::Group(Section::Table(table, count), Onward { least, ibank })
+            let r = group::group_step(set, Section::Table(table, count), lists, block, i, core);
+            after_group(c, due, Onward { least, ibank }, r)
         }
     }
 }
