@@ -7,7 +7,7 @@ use Prim.Native.Nat.{ℕ, _+_, _-_, _<_, _≤_, _^_}
 use native.Mathlib.Omega.{arith}
 use lib.ListN.{length, getD}
 use lib.Dec.{ltb, leb, eqb}
-use borrow.Author.Tests.{ltb-true, ne-eqb}
+use borrow.Author.Tests.{ltb-true, eqb-true, ne-eqb}
 use Rattle.word.specs.declared.Area.{Area}
 use Rattle.word.specs.declared.Half.{Half}
 use Rattle.word.specs.declared.Half.the-variants.{Left, Right}
@@ -16,7 +16,7 @@ use Rattle.word.specs.declared.Relative.{Relative}
 use Rattle.word.specs.Fault.{fault}
 use Rattle.word.specs.Word.{part, put, bit, isSet, lowest, fieldOf, aField}
 use Rattle.word.proofs.Word.{across, across-stored, part-below, part-put, bit-put, stored-word, a-stored-word}
-use Rattle.word.proofs.Cases.{both, when, by-eq}
+use Rattle.word.proofs.Cases.{both, when, by-eq, and-left}
 use Rattle.lists.specs.declared.Table.{Table}
 use Rattle.lists.specs.declared.Given.{Given}
 use Rattle.lists.specs.Load.{coreTable, coreTables, Readable}
@@ -28,6 +28,9 @@ use Rattle.field.specs.declared.Changed.the-variants.{Word, Refused}
 use Rattle.field.specs.Field.{Assignments, valued, plusOrMinus, movedField, table, addressOrLength, referred, pair, minusZero}
 use Rattle.field.specs.Field.{short, long, constant, switch, unit, reference, relative, becomes, changedLowest, changedWidth}
 use Rattle.field.specs.Field.{putBack, fieldStep, Fits}
+use Rattle.field.specs.declared.Stepped.{Stepped}
+use Rattle.field.specs.declared.Stepped.the-variants.{Refused as SteppedRefused}
+use Rattle.field.specs.HowField.{isLong, stepped}
 
 -- ---- a table of the kept lists
 address-or-length-below : (sized : Bool) (t : Table) → (t .at .0 < 2 ^ 24) × (t .len < 2 ^ 20) → addressOrLength sized t < 2 ^ 24
@@ -98,34 +101,80 @@ becomes-fits a h t w x = by-eq t 4
     (both (Fits 16) (eqb t 7) (unit-fits (a .ios) (a .channels) (reference (fieldOf h w))) tt)))))
 
 -- ---- an arm of the match over the type, the same for either half: what its calls give is the step of its type
-module _ (a : Assignments) (h : Half) (w x : ℕ) {t f : ℕ} {b : Becomes} {r : Changed}
-    (read : f ≡ fieldOf h w) (back : r ≡ putBack (lowest h) 16 w b) where
-  pub moved-arm : t ≡ 0 → b ≡ movedField (a .area) (relative f) → r ≡ fieldStep a h t w x
+module _ (a : Assignments) (h : Half) (w x : ℕ) {t f : ℕ} {b : Becomes} (read : f ≡ fieldOf h w) where
+  pub moved-arm : t ≡ 0 → b ≡ movedField (a .area) (relative f) → putBack (lowest h) 16 w b ≡ fieldStep a h t w x
   unfolding fieldStep becomes
-  moved-arm e q = back ∙ rw (q, read, e)
+  moved-arm e q = rw (q, read, e)
 
-  pub pair-arm : t ≡ 1 → b ≡ pair (a .tables) f → r ≡ fieldStep a h t w x
+  pub pair-arm : t ≡ 1 → b ≡ pair (a .tables) f → putBack (lowest h) 16 w b ≡ fieldStep a h t w x
   unfolding fieldStep becomes
-  pair-arm e q = back ∙ rw (q, read, e)
+  pair-arm e q = rw (q, read, e)
 
-  pub long-arm : t ≡ 2 → isSet 15 f ≡ true → b ≡ long (a .tables) f x → r ≡ fieldStep a h t w x
+  pub long-arm : t ≡ 2 → isSet 15 f ≡ true → b ≡ long (a .tables) f x → putBack (lowest h) 16 w b ≡ fieldStep a h t w x
   unfolding fieldStep becomes constant
-  long-arm e i q = back ∙ rw (q, e, ← read, i)
+  long-arm e i q = rw (q, e, ← read, i)
 
-  pub short-arm : t ≡ 2 → isSet 15 f ≡ false → b ≡ short (a .tables) f → r ≡ fieldStep a h t w x
+  pub short-arm : t ≡ 2 → isSet 15 f ≡ false → b ≡ short (a .tables) f → putBack (lowest h) 16 w b ≡ fieldStep a h t w x
   unfolding fieldStep becomes constant
-  short-arm e i q = back ∙ rw (q, e, ← read, i)
+  short-arm e i q = rw (q, e, ← read, i)
 
-  pub unit-arm : t ≡ 7 → b ≡ unit (a .ios) (a .channels) (reference f) → r ≡ fieldStep a h t w x
+  pub unit-arm : t ≡ 7 → b ≡ unit (a .ios) (a .channels) (reference f) → putBack (lowest h) 16 w b ≡ fieldStep a h t w x
   unfolding fieldStep becomes
-  unit-arm e q = back ∙ rw (q, read, e)
+  unit-arm e q = rw (q, read, e)
 
--- the last arm of the right half refuses type 100, too
-pub right-rest : (a : Assignments) (t w x : ℕ) → t ≢ 0 → t ≢ 1 → t ≢ 2 → t ≢ 7 → Refused (fault 19) ≡ fieldStep a Right t w x
+-- type 100: of a left half, whose bits 25-22 it changes
+pub switch-arm : (a : Assignments) (w x : ℕ) {t k : ℕ} {b : Becomes} → k ≡ aField w → t ≡ 4
+    → b ≡ switch (a .ios) (a .channels) Left (reference k) → putBack 22 4 w b ≡ fieldStep a Left t w x
+unfolding fieldStep becomes
+switch-arm a w x read e q = rw (q, read, e)
+
+pub switch-right : (a : Assignments) (w x : ℕ) {t : ℕ} → t ≡ 4 → Refused (fault 19) ≡ fieldStep a Right t w x
 unfolding fieldStep becomes switch putBack
-right-rest a t w x p q r s = by-eq t 4
-    (λ e. rw e)
-    (λ n. rw (ne-eqb t 0 p, ne-eqb t 1 q, ne-eqb t 2 r, ne-eqb t 4 n, ne-eqb t 7 s))
+switch-right a w x e = rw e
+
+-- "Others are 19."
+pub others : (a : Assignments) (h : Half) (t w x : ℕ) → t ≢ 0 → t ≢ 1 → t ≢ 2 → t ≢ 4 → t ≢ 7
+    → Refused (fault 19) ≡ fieldStep a h t w x
+unfolding fieldStep becomes putBack
+others a h t w x p q r m s = rw (ne-eqb t 0 p, ne-eqb t 1 q, ne-eqb t 2 r, ne-eqb t 4 m, ne-eqb t 7 s)
+
+-- three bits that are none of 0 to 6 are 7
+some : (t : ℕ) → t ≢ 0 → 1 ≤ t
+some t n = omega arith
+
+past : (k t : ℕ) → k ≤ t → t ≢ k → k + 1 ≤ t
+past k t h n = omega arith
+
+top : (t : ℕ) → 7 ≤ t → t < 8 → t ≡ 7
+top t h l = omega arith
+
+pub last-type : (t : ℕ) → t ≢ 0 → t ≢ 1 → t ≢ 2 → t ≢ 3 → t ≢ 4 → t ≢ 5 → t ≢ 6 → t < 8 → t ≡ 7
+last-type t n0 n1 n2 n3 n4 n5 n6 =
+    top t (past 6 t (past 5 t (past 4 t (past 3 t (past 2 t (past 1 t (some t n0) n1) n2) n3) n4) n5) n6)
+
+-- ---- where only the word is wanted, by type k: a long type 010 tells itself, and a refusal loses its number
+pub long-by : {f g : ℕ} {b : Bool} → f ≡ g → isSet 15 f ≡ b → isLong 2 g ≡ b
+long-by read i = rw (← read) i
+
+module _ (a : Assignments) (h : Half) (t w x : ℕ) where
+  pub word-arm : (k : ℕ) {long : Bool} {c : Changed} {r : Stepped} → t ≡ k → isLong k (fieldOf h w) ≡ long → r ≡ stepped long c
+      → c ≡ fieldStep a h t w x
+      → r ≡ stepped (isLong t (fieldOf h w)) (fieldStep a h t w x)
+  word-arm k e i back q = back ∙ rw (← q, e, i)
+
+  pub refused-arm : (k : ℕ) → t ≡ k → Refused (fault 19) ≡ fieldStep a h k w x
+      → SteppedRefused ≡ stepped (isLong t (fieldOf h w)) (fieldStep a h t w x)
+  refused-arm k e q = rw (e, ← q)
+
+  -- the nine more bits are read by a long type 010 alone
+  pub step-short : isLong t (fieldOf h w) ≡ false → fieldStep a h t w x ≡ fieldStep a h t w 0
+  unfolding fieldStep becomes constant
+  step-short i = by-eq t 2
+      (λ e. let n : isSet 15 (fieldOf h w) ≡ false = rw e at i in rw (e, n))
+      (λ n. rw (ne-eqb t 2 n))
+
+pub step-two : (t f : ℕ) → isLong t f ≡ true → t ≡ 2
+step-two t f i = eqb-true t 2 (and-left (eqb t 2) (isSet 15 f) i)
 
 -- ---- what becomes of the word: u is w with, in its n bits from bit k up, the value that b gives
 pub record Stored (k n w : ℕ) (b : Becomes) (u : ℕ) : Type 0 where

@@ -1,12 +1,14 @@
 // One field of a program word: what it becomes by its modification type, or why it is refused.
 ghost use mathlib.Core.Path.{_≡_};
+ghost use mathlib.Core.Bool.{true, false};
 ghost use Prim.Native.Nat.{_+_, _<_, _≤_, _^_};
 ghost use Rattle.word.specs.Limits.{coreMost};
 ghost use Rattle.word.specs.declared.Half.the-variants.{Left, Right};
-ghost use Rattle.word.specs.Word.{lowest};
+ghost use Rattle.word.specs.Word.{lowest, fieldOf};
 ghost use Rattle.lists.specs.Load.{coreTables, ioNumbers, Readable};
 ghost use Rattle.field.specs.Field.{valued, plusOrMinus, movedField, table, addressOrLength, referred, pair, minusZero};
 ghost use Rattle.field.specs.Field.{short, long, switch, unit, Fits, putBack, assignedBy, fieldStep};
+ghost use Rattle.field.specs.HowField.{isLong, stepped};
 use lists::Given;
 use word::Area;
 use word::Fault;
@@ -31,6 +33,14 @@ pub enum Changed {
     Refused(Fault),
 }
 
+// What a word becomes where only the word is wanted: it; it by a long type 010, which has nine indicator bits more; or that the
+// field is refused, whose number `field_step` tells.
+pub enum Stepped {
+    Word(u64),
+    Long(u64),
+    Refused,
+}
+
 // What the fields of a load's words are changed by, beside its lists: what open was given, and how many of its I/O references are
 // of types 0 and 2.
 pub struct Assigned {
@@ -38,53 +48,87 @@ pub struct Assigned {
     pub channels: u64,
 }
 
-// The word w with its left half, or its right half, changed by modification type t (01, "A match over the three-bit modification
-// type decides field position, form and refusal for each half"); x is the nine more indicator bits of a long type 010. There are
-// two so that the compiler makes each half's code for that half alone.
-pub fn left_step(s: Assigned, lists: &[u64], t: u64, w: u64, x: u64) -> Changed
+// The word w with its half h changed by modification type t (01, "A match over the three-bit modification type decides field
+// position, form and refusal for each half"); x is the nine more indicator bits of a long type 010. Only a left half has type 100.
+pub fn field_step(s: Assigned, lists: &[u64], h: Half, t: u64, w: u64, x: u64) -> Changed
     requires { ⌜ (Readable (s .given) (now lists)) × (w < 2 ^ 36) ⌝ }
-    ensures { λ r. ⌜ r ≡ fieldStep (assignedBy s (now (lists .entry))) Left t w x ⌝ }
+    ensures { λ r. ⌜ r ≡ fieldStep (assignedBy s (now (lists .entry))) h t w x ⌝ }
+{
+    let g = s.given;
+    let area = g.area;
+    let f = word::field(w, h);
+    match t {
+        0 => put_back(h, w, moved_field(area, Relative(f))),
+        1 => put_back(h, w, pair_of(g, lists, f)),
+        2 => {
+            if word::is_set(f, 15) {
+                return put_back(h, w, long_of(g, lists, f, x));
+            }
+            put_back(h, w, short_of(g, lists, f))
+        }
+        4 => match h {
+            Half::Left => put_a(
+                w,
+                switch_of(g, lists, s.channels, Reference(word::a_field(w))),
+            ),
+            Half::Right => Changed::Refused(Fault { number: 19 }),
+        },
+        7 => put_back(h, w, unit_of(g, lists, s.channels, Reference(f))),
+        _ => Changed::Refused(Fault { number: 19 }),
+    }
+}
+
+// The same for a left half, where only the word is wanted. Every type that three bits tell is spelled out, so that the compiler
+// needs no test before its jump; and each half has its function, so that the compiler makes its code for that half alone.
+pub fn left_step(s: Assigned, lists: &[u64], t: u64, w: u64, x: u64) -> Stepped
+    requires { ⌜ (Readable (s .given) (now lists)) × (w < 2 ^ 36) × (t < 8) ⌝ }
+    ensures { λ r. ⌜ r ≡ stepped (isLong t (fieldOf Left w)) (fieldStep (assignedBy s (now (lists .entry))) Left t w x) ⌝ }
 {
     let g = s.given;
     let area = g.area;
     let f = word::field(w, Half::Left);
     match t {
-        0 => put_back(Half::Left, w, moved_field(area, Relative(f))),
-        1 => put_back(Half::Left, w, pair_of(g, lists, f)),
+        0 => put_word(Half::Left, w, moved_field(area, Relative(f))),
+        1 => put_word(Half::Left, w, pair_of(g, lists, f)),
         2 => {
             if word::is_set(f, 15) {
-                return put_back(Half::Left, w, long_of(g, lists, f, x));
+                return put_long(Half::Left, w, long_of(g, lists, f, x));
             }
-            put_back(Half::Left, w, short_of(g, lists, f))
+            put_word(Half::Left, w, short_of(g, lists, f))
         }
-        4 => put_a(
+        3 => Stepped::Refused,
+        4 => put_switch(
             w,
             switch_of(g, lists, s.channels, Reference(word::a_field(w))),
         ),
-        7 => put_back(Half::Left, w, unit_of(g, lists, s.channels, Reference(f))),
-        _ => Changed::Refused(Fault { number: 19 }),
+        5 => Stepped::Refused,
+        6 => Stepped::Refused,
+        _ => put_word(Half::Left, w, unit_of(g, lists, s.channels, Reference(f))),
     }
 }
 
-// The same for the right half, which has no type 100.
-pub fn right_step(s: Assigned, lists: &[u64], t: u64, w: u64, x: u64) -> Changed
-    requires { ⌜ (Readable (s .given) (now lists)) × (w < 2 ^ 36) ⌝ }
-    ensures { λ r. ⌜ r ≡ fieldStep (assignedBy s (now (lists .entry))) Right t w x ⌝ }
+// The same for a right half.
+pub fn right_step(s: Assigned, lists: &[u64], t: u64, w: u64, x: u64) -> Stepped
+    requires { ⌜ (Readable (s .given) (now lists)) × (w < 2 ^ 36) × (t < 8) ⌝ }
+    ensures { λ r. ⌜ r ≡ stepped (isLong t (fieldOf Right w)) (fieldStep (assignedBy s (now (lists .entry))) Right t w x) ⌝ }
 {
     let g = s.given;
     let area = g.area;
     let f = word::field(w, Half::Right);
     match t {
-        0 => put_back(Half::Right, w, moved_field(area, Relative(f))),
-        1 => put_back(Half::Right, w, pair_of(g, lists, f)),
+        0 => put_word(Half::Right, w, moved_field(area, Relative(f))),
+        1 => put_word(Half::Right, w, pair_of(g, lists, f)),
         2 => {
             if word::is_set(f, 15) {
-                return put_back(Half::Right, w, long_of(g, lists, f, x));
+                return put_long(Half::Right, w, long_of(g, lists, f, x));
             }
-            put_back(Half::Right, w, short_of(g, lists, f))
+            put_word(Half::Right, w, short_of(g, lists, f))
         }
-        7 => put_back(Half::Right, w, unit_of(g, lists, s.channels, Reference(f))),
-        _ => Changed::Refused(Fault { number: 19 }),
+        3 => Stepped::Refused,
+        4 => Stepped::Refused,
+        5 => Stepped::Refused,
+        6 => Stepped::Refused,
+        _ => put_word(Half::Right, w, unit_of(g, lists, s.channels, Reference(f))),
     }
 }
 
@@ -242,5 +286,36 @@ fn put_a(w: u64, b: Becomes) -> Changed
     match b {
         Becomes::Value(v) => Changed::Word(word::store_a(w, v)),
         Becomes::Bad(fault) => Changed::Refused(fault),
+    }
+}
+
+// The same where only the word is wanted: by a type that is not a long 010, by a long one, and of bits 25-22.
+fn put_word(h: Half, w: u64, b: Becomes) -> Stepped
+    requires { ⌜ (w < 2 ^ 36) × (Fits 16 b) ⌝ }
+    ensures { λ r. ⌜ r ≡ stepped false (putBack (lowest h) 16 w b) ⌝ }
+{
+    match b {
+        Becomes::Value(v) => Stepped::Word(word::store_field(w, h, v)),
+        Becomes::Bad(_) => Stepped::Refused,
+    }
+}
+
+fn put_long(h: Half, w: u64, b: Becomes) -> Stepped
+    requires { ⌜ (w < 2 ^ 36) × (Fits 16 b) ⌝ }
+    ensures { λ r. ⌜ r ≡ stepped true (putBack (lowest h) 16 w b) ⌝ }
+{
+    match b {
+        Becomes::Value(v) => Stepped::Long(word::store_field(w, h, v)),
+        Becomes::Bad(_) => Stepped::Refused,
+    }
+}
+
+fn put_switch(w: u64, b: Becomes) -> Stepped
+    requires { ⌜ (w < 2 ^ 36) × (Fits 4 b) ⌝ }
+    ensures { λ r. ⌜ r ≡ stepped false (putBack 22 4 w b) ⌝ }
+{
+    match b {
+        Becomes::Value(v) => Stepped::Word(word::store_a(w, v)),
+        Becomes::Bad(_) => Stepped::Refused,
     }
 }

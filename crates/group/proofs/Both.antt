@@ -1,32 +1,33 @@
 -- A word's two halves: what the code gives, half after half, is what `wordStep` says; and the commonest change at once.
-use mathlib.Core.Path.{_≡_, refl, ap, _∙_}
-use mathlib.Core.Bool.{true, false, cond}
+use mathlib.Core.Path.{_≡_, refl, sym, ap, _∙_}
+use mathlib.Core.Bool.{Bool, true, false, cond}
 use mathlib.Core.List.{List}
-use Prim.Native.Nat.{ℕ, _+_, _*_, _/_, _%_, _<_, _^_}
+use Prim.Native.Nat.{ℕ, _-_, _*_, _/_, _%_, _≤_, _<_, _^_}
 use native.Mathlib.Omega.{arith}
 use lib.Dec.{ltb}
+use lib.ListN.{length}
 use borrow.Author.Tests.{lt-ltb, le-ltb, eqb-true}
+use Rattle.word.specs.declared.Fault.{Fault}
 use Rattle.word.specs.declared.Half.{Half}
 use Rattle.word.specs.declared.Half.the-variants.{Left, Right}
-use Rattle.word.specs.Fault.{fault}
 use Rattle.word.specs.Sorts.{absoluteOf}
-use Rattle.word.specs.Word.{fieldOf, fieldStored}
-use Rattle.word.proofs.Cases.{by-lt}
+use Rattle.word.specs.Word.{bits, fieldOf, fieldStored}
+use Rattle.word.proofs.Cases.{by-lt, by-test}
 use Rattle.field.specs.declared.Changed.{Changed}
 use Rattle.field.specs.declared.Changed.the-variants.{Word, Refused}
+use Rattle.field.specs.declared.Stepped.{Stepped}
 use Rattle.field.specs.Field.{Assignments, relative, valued, movedField, becomes, putBack, fieldStep}
-use Rattle.field.proofs.Field.{step-word, step-across}
+use Rattle.field.specs.HowField.{isLong, stepped}
+use Rattle.field.proofs.Field.{step-word, step-across, step-short, step-two}
 use Rattle.indicator.specs.declared.Indicator.{Indicator}
 use Rattle.indicator.specs.declared.Indicator.the-variants.{Same, Change, Long}
-use Rattle.indicator.specs.Indicator.{InBlock, bitsBefore}
 use Rattle.indicator.specs.declared.Cursor.{Cursor}
-use Rattle.indicator.specs.HowCursor.{Sees, lookOf, pastOf, pastField, pastWord}
-use Rattle.indicator.proofs.Reading.{look-is, field-sees, field-past}
-use Rattle.group.specs.declared.halves.WordChange.{WordChange}
+use Rattle.indicator.specs.Indicator.{afterField}
+use Rattle.indicator.specs.HowCursor.{groupBits, Sees, lookOf, pastBits, pastOf, pastField, pastWord}
+use Rattle.indicator.proofs.Reading.{look-is, field-sees}
 use Rattle.group.specs.declared.halves.WordChange.the-variants.{Next, Stop}
 use Rattle.group.specs.Group.{halfStep, thenHalf, wordStep}
-use Rattle.group.specs.HowHalves.{sameIn, typeIn, moreIn, onward, halfOf, thenRight, bothOf, isMoved, movedWord}
-use Rattle.group.specs.HowWords.{pastTwo}
+use Rattle.group.specs.HowHalves.{onward, halfOf, thenRight, bothOf, wordOf, passedBits, isMoved, movedWord}
 
 -- of the bits 01000 the first tells no change, the others type 000
 look-same : (x f : ℕ) → x / 576460752303423488 ≡ 8 → lookOf x f ≡ Same
@@ -51,17 +52,6 @@ look-second x f e = rw (lt-ltb (x * 2 % 18446744073709551616) 922337203685477580
 
 module _ (a : Assignments) where
   -- ---- one half
-  half-same : (h : Half) (m : Indicator) (w : ℕ) → sameIn m ≡ true → halfStep a h m w ≡ Word w
-  unfolding halfStep
-  half-same h Same w e = refl
-  half-same h (Change t) w e = cc
-  half-same h (Long x) w e = cc
-
-  half-other : (h : Half) (m : Indicator) (w : ℕ) → sameIn m ≡ false → halfStep a h m w ≡ fieldStep a h (typeIn m) w (moreIn m)
-  unfolding halfStep
-  half-other h Same w e = cc
-  half-other h (Change t) w e = refl
-  half-other h (Long x) w e = refl
 
   -- a word stays a word
   pub half-word : (h : Half) (m : Indicator) (w u : ℕ) → w < 2 ^ 36 → halfStep a h m w ≡ Word u → u < 2 ^ 36
@@ -77,17 +67,31 @@ module _ (a : Assignments) where
   half-across (Change t) w u e = step-across a Left t w 0 u e
   half-across (Long x) w u e = step-across a Left 2 w x u e
 
-  -- the code's two ways: no change, or a field step; m is the indicator that comes next
-  module _ (h : Half) (w f : ℕ) (c : Cursor) (m : Indicator) (e : f ≡ fieldOf h w) (k : m ≡ lookOf (c .ahead) f) where
-    pub half-stays : (d : Cursor) → sameIn m ≡ true → d ≡ pastOf c m → Next w d ≡ halfOf a h w c
-    unfolding halfOf pastField
-    half-stays d q p = rw (← e, ← k, half-same h m w q, p)
+  -- the code's two ways: no change, or a field step by the type and the nine bits more that come next
+  module _ (h : Half) (w : ℕ) (c : Cursor) where
+    pub half-same : c .ahead < 2 ^ 63 → halfOf a h w c ≡ Next w (pastBits c 1)
+    unfolding halfOf halfStep lookOf pastField pastOf
+    half-same l = rw (lt-ltb (c .ahead) (2 ^ 63) l)
 
-    pub half-changes : (t x : ℕ) (r : Changed) (s : WordChange) → sameIn m ≡ false → t ≡ typeIn m → x ≡ moreIn m
-        → r ≡ fieldStep a h t w x
-        → s ≡ onward r (λ v. Next v (pastOf c m)) → s ≡ halfOf a h w c
-    unfolding halfOf pastField
-    half-changes t x r s q i j p o = rw (← e, ← k, half-other h m w q, ← i, ← j, ← p) o
+    step-passed : (long : Bool) (r : Changed)
+        → passedBits (pastBits c 4) (stepped long r) ≡ onward r (λ v. Next v (cond long (pastBits c 13) (pastBits c 4)))
+    step-passed true (Word v) =
+        let i : c .left - 4 - 9 ≡ c .left - 13 = omega arith in
+        let j : c .ahead * 16 % 18446744073709551616 * 512 % 18446744073709551616
+        ≡ c .ahead * 8192 % 18446744073709551616 = omega arith in
+        rw (i, j)
+    step-passed false (Word v) = refl
+    step-passed true (Refused f) = refl
+    step-passed false (Refused f) = refl
+
+    pub half-steps : (t x : ℕ) (r : Stepped) → 2 ^ 63 ≤ c .ahead → t ≡ bits 62 60 (c .ahead) → x ≡ bits 59 51 (c .ahead)
+        → r ≡ stepped (isLong t (fieldOf h w)) (fieldStep a h t w x) → passedBits (pastBits c 4) r ≡ halfOf a h w c
+    unfolding halfOf halfStep lookOf pastField pastOf
+    half-steps t x r g i j e =
+        rw (e, step-passed (isLong t (fieldOf h w)) (fieldStep a h t w x), le-ltb (c .ahead) (2 ^ 63) g, ← i, ← j)
+        (by-test (isLong t (fieldOf h w))
+        (λ q. rw (q, step-two t (fieldOf h w) q))
+        (λ q. rw (q, step-short a h t w x q)))
 
   -- ---- both halves
   half-next : (h : Half) (w : ℕ) (c : Cursor) (v : ℕ) (d : Cursor) → halfOf a h w c ≡ Next v d
@@ -107,30 +111,44 @@ module _ (a : Assignments) where
   pub half-reach : (h : Half) (w : ℕ) (c : Cursor) (v : ℕ) (d : Cursor) → halfOf a h w c ≡ Next v d → d ≡ pastField c (fieldOf h w)
   half-reach h w c v d q = half-next h w c v d q .1
 
-  pub both-word : (block : List ℕ) (end n : ℕ) → InBlock block end n → (c : Cursor) (w : ℕ) → Sees block end n c 26
-      → bothOf a w c ≡ onward (wordStep a (bitsBefore block end n) (c .at) w) (λ v. Next v (pastWord c w))
-  unfolding bothOf halfOf wordStep pastWord
-  both-word block end n inside c w s =
-      rw (
-        ← field-past block end n inside c 13 f s,
-        look-is block end n inside c 13 f s,
-        look-is block end n inside d 0
-            (fieldOf Right w) (field-sees block end n c 13 f s),
-      )
-      (given (halfStep a Left (lookOf (c .ahead) f) w) refl)
-    where
-      f : ℕ
-      f = fieldOf Left w
+  -- one half and then the other, where the refusal is wanted
+  module _ (w : ℕ) (c : Cursor) (m : Indicator) (e : m ≡ lookOf (c .ahead) (fieldOf Left w)) where
+    pub word-goes : (v : ℕ) (d : Cursor) (k : Indicator) (r : Changed) → halfStep a Left m w ≡ Word v → d ≡ pastOf c m
+        → k ≡ lookOf (d .ahead) (fieldOf Right w) → r ≡ halfStep a Right k v → r ≡ wordOf a w c
+    unfolding wordOf pastField
+    word-goes v d k r q i j o = rw (← e, q, ← i, ← j) o
 
-      d : Cursor
-      d = pastField c f
+    pub word-stops : (f : Fault) → halfStep a Left m w ≡ Refused f → Refused f ≡ wordOf a w c
+    unfolding wordOf
+    word-stops f q = rw (← e, q)
 
-      given : (r : Changed) → halfStep a Left (lookOf (c .ahead) f) w ≡ r
-          → thenRight a (onward r (λ v. Next v d))
-          ≡ onward (thenHalf r (halfStep a Right (lookOf (d .ahead) (fieldOf Right w))))
-          (λ v. Next v (pastField d (fieldOf Right w)))
-      given (Word v) e = rw (half-across (lookOf (c .ahead) f) w v e)
-      given (Refused x) e = refl
+  -- where the cursor sees a group's bits at place `at`, these are its halves' indicators
+  module _ (words : List ℕ) (n : ℕ) (inside : n ≤ length words) (c : Cursor) (at w : ℕ) (s : Sees words n c at 26) where
+    abbrev left-field : ℕ
+    left-field = fieldOf Left w
+
+    abbrev past-left : Cursor
+    past-left = pastField c (fieldOf Left w)
+
+    pub word-of : wordOf a w c ≡ wordStep a (groupBits words n) at w
+    unfolding wordOf wordStep
+    word-of =
+        rw (
+          look-is words n inside c at 13 left-field s,
+          look-is words n inside past-left (afterField (groupBits words n) at left-field) 0 (fieldOf Right w)
+              (field-sees words n inside c at 13 left-field s),
+        )
+
+    pub both-word : bothOf a w c ≡ onward (wordStep a (groupBits words n) at w) (λ v. Next v (pastWord c w))
+    unfolding bothOf halfOf wordOf pastWord
+    both-word = rw (sym word-of) (given (halfStep a Left (lookOf (c .ahead) left-field) w) refl)
+      where
+        given : (r : Changed) → halfStep a Left (lookOf (c .ahead) left-field) w ≡ r
+            → thenRight a (onward r (λ v. Next v past-left))
+            ≡ onward (thenHalf r (halfStep a Right (lookOf (past-left .ahead) (fieldOf Right w))))
+            (λ v. Next v (pastField past-left (fieldOf Right w)))
+        given (Word v) e = rw (half-across (lookOf (c .ahead) left-field) w v e)
+        given (Refused x) e = refl
 
   -- ---- the bits 01000
   moved-field : (w : ℕ)
@@ -139,7 +157,7 @@ module _ (a : Assignments) where
   moved-field w = refl
 
   moved-right : (w v : ℕ) (d : Cursor)
-      → onward (putBack 0 16 w (valued v)) (λ u. Next u d) ≡ cond (ltb v 65536) (Next (fieldStored Right w v) d) (Stop (fault 21))
+      → onward (putBack 0 16 w (valued v)) (λ u. Next u d) ≡ cond (ltb v 65536) (Next (fieldStored Right w v) d) Stop
   unfolding putBack valued
   moved-right w v d = by-lt v 65536 (λ l. rw (lt-ltb v 65536 l)) (λ l. rw (le-ltb v 65536 l))
 
@@ -147,20 +165,18 @@ module _ (a : Assignments) where
   unfolding bothOf halfOf halfStep movedWord pastField pastOf
   moved-both w c q =
       let e = eqb-true (c .ahead / 576460752303423488) 8 q in
-      let i : c .at + 1 + 4 ≡ c .at + 5 = omega arith in
-      let j : c .ahead * 2 % 18446744073709551616 * 16 % 18446744073709551616 ≡ c .ahead * 32 % 18446744073709551616 = omega arith in
+      let i : c .left - 1 - 4 ≡ c .left - 5 = omega arith in
+      let j : c .ahead * 2 % 18446744073709551616 * 16 % 18446744073709551616
+      ≡ c .ahead * 32 % 18446744073709551616 = omega arith in
       rw (look-same (c .ahead) (fieldOf Left w) e, look-moved (c .ahead) (fieldOf Right w) e, i, j)
-      (ap (λ (r : Changed). onward r
-      (λ v. Next v (record { at = c .at + 5; ahead = c .ahead * 32 % 18446744073709551616; words = c .words; edge = c .edge })))
-      (moved-field w)
-      ∙ moved-right w (absoluteOf (a .area) (relative (fieldOf Right w)) .0)
-      (record { at = c .at + 5; ahead = c .ahead * 32 % 18446744073709551616; words = c .words; edge = c .edge }))
+      (ap (λ (r : Changed). onward r (λ v. Next v (pastBits c 5))) (moved-field w)
+      ∙ moved-right w (absoluteOf (a .area) (relative (fieldOf Right w)) .0) (pastBits c 5))
 
   -- ---- the bits 00
-  pub plain-both : (w : ℕ) (c : Cursor) → c .ahead < 4611686018427387904 → bothOf a w c ≡ Next w (pastTwo c)
+  pub plain-both : (w : ℕ) (c : Cursor) → c .ahead < 4611686018427387904 → bothOf a w c ≡ Next w (pastBits c 2)
   unfolding bothOf halfOf halfStep pastField pastOf
   plain-both w c l =
-      let i : c .at + 1 + 1 ≡ c .at + 2 = omega arith in
+      let i : c .left - 1 - 1 ≡ c .left - 2 = omega arith in
       let k : c .ahead * 2 % 18446744073709551616 ≡ c .ahead * 2 = omega arith in
       let j : c .ahead * 2 * 2 ≡ c .ahead * 4 = omega arith in
       rw (look-first (c .ahead) (fieldOf Left w) l, look-second (c .ahead) (fieldOf Right w) l, i, k, j)

@@ -7,5 +7,6 @@ pub mod Loop
 pub mod LoopTurn
 pub mod Places
 pub mod Steps
+pub mod FirstFault
 pub mod Stored
 pub mod Words

@@ -2,24 +2,25 @@
 use mathlib.Core.Path.{_≡_, refl, sym, ap, _∙_}
 use mathlib.Core.Bool.{Bool, true, false}
 use mathlib.Core.List.{List, [], _∷_, _++_}
-use Prim.Native.Nat.{ℕ, _+_, _-_, _*_, _≤_}
-use native.Mathlib.Nat.{add-sub-cancel-left}
+use Prim.Native.Nat.{ℕ, _+_, _-_, _*_, _≤_, _<_}
 use native.Mathlib.Omega.{arith}
-use lib.ListN.{length, take, drop, replicate, length-replicate}
+use lib.ListN.{length, getD, take, drop, replicate, length-replicate}
+use lib.Seq.{ext-getD}
 use borrow.Author.Tests.{leb-true}
 use Rattle.word.specs.Limits.{wordsInBlock}
 use Rattle.program.specs.Sections.{lastWord}
 use Rattle.lists.specs.declared.Given.{Given}
 use Rattle.word.specs.declared.Fault.{Fault}
 use Rattle.word.specs.Fault.{fault}
-use Rattle.word.specs.Lists.{range, splice, cleared}
+use Rattle.word.specs.Lists.{every, range, splice, cleared}
 use Rattle.word.specs.Word.{isWord}
 use Rattle.word.proofs.Cases.{by-test}
-use Rattle.word.proofs.Lists.{length-range, range-lent, splice-whole, splice-lent}
+use Rattle.word.proofs.Lists.{length-range, getD-range, range-lent, splice-whole, splice-lent}
 use Rattle.word.proofs.Stretch.{every-range}
 use Rattle.program.specs.declared.Group.{Group}
 use Rattle.field.specs.Field.{Assignments}
-use Rattle.indicator.specs.Indicator.{afterWord, afterAll, justEnough}
+use Rattle.indicator.specs.Indicator.{indicatorBits, bitsBefore, afterWord, afterAll, justEnough}
+use Rattle.indicator.specs.HowCursor.{groupBits}
 use Rattle.indicator.proofs.Places.{after-word-most}
 use Rattle.group.specs.declared.changes.GroupChange.{GroupChange}
 use Rattle.group.specs.declared.changes.GroupChange.the-variants.{Bits, Stop as stop-group}
@@ -30,7 +31,8 @@ use Rattle.group.specs.Group.{Words, changedWords, programWords, indicat
 use Rattle.group.specs.Group.{indicatorsFit, groupFits, GroupMeets, addressOf, refusedGroup, storedGroup, groupOutcome}
 use Rattle.group.specs.Group.Words.{Become, Refuse}
 use Rattle.group.specs.HowGroup.{Fills, zeroFill, changedFill, countedFill, fillOf, FillReady, Fitting}
-use Rattle.group.specs.HowWords.{bitsOr, wordsOrZeros, Changes, ChangeReady}
+use Rattle.group.specs.HowWords.{programIn, bitsOr, Became, Changes, ChangeReady}
+use Rattle.group.specs.HowFaults.{faultOr, firstFault, groupFault, FaultReady}
 use Rattle.group.proofs.Words.{Many, changed-many}
 
 after-all-most : (bits : List ℕ) (p : ℕ) (ws : List ℕ) → afterAll bits p ws ≤ p + 26 * length ws
@@ -43,25 +45,69 @@ pub cleared-whole : (out : List ℕ) → cleared out 0 (length out) ≡ replicat
 unfolding cleared
 cleared-whole out = splice-whole out (replicate (length out) 0) (length-replicate (length out) 0)
 
+-- a stretch of a stretch
+range-in : (l : List ℕ) (a m p q : ℕ) → p + q ≤ m → a + m ≤ length l → range (range l a m) p q ≡ range l (a + p) q
+range-in l a m p q h k =
+    let r = length-range l a m k in
+    let s = length-range (range l a m) p q (omega arith) in
+    let t = length-range l (a + p) q (omega arith) in
+    ext-getD 0 _ _ (s ∙ sym t)
+    (λ i g.
+    let d : a + (p + i) ≡ a + p + i = omega arith in
+    let u : i < q = omega arith in
+    getD-range (range l a m) p q i u ∙ getD-range l a m (p + i) (omega arith) ∙ ap (λ (j : ℕ). getD l j 0) d
+    ∙ sym (getD-range l (a + p) q i u))
+
 -- ---- a group that is whole in its block and holds its program words
 module _ (x : Given) (l block : List ℕ) (i : ℕ) (g : Group) (out : List ℕ) (ready : FillReady x l block i g out)
     (fit : Fitting i g) where
+  -- the group's words as the code lends them: its program words and its indicator words
+  abbrev pub lent : List ℕ
+  lent = take (i + 1 + g .words - (i + 1)) (drop (i + 1) block)
+
+  lent-is : lent ≡ range block (i + 1) (g .words)
+  lent-is = range-lent block (i + 1) (g .words)
+
+  lent-long : length lent ≡ g .words
+  lent-long = rw lent-is (length-range block (i + 1) (g .words) (omega (arith, ready .long, fit .whole)))
+
+  lent-program : programIn lent (g .program) ≡ programWords block i g
+  lent-program =
+      let e : i + 1 + 0 ≡ i + 1 = omega arith in
+      rw lent-is (rw e at (range-in block (i + 1) (g .words) 0 (g .program) (omega (arith, fit .holds))
+      (omega (arith, ready .long, fit .whole))))
+
+  lent-bits : groupBits lent (g .program) ≡ indicatorBitsIn block i g
+  unfolding bitsBefore
+  lent-bits =
+      let n = g .words - g .program in
+      let e : i + 1 + (g .words - n) ≡ i + 1 + g .words - n = omega (arith, fit .holds) in
+      rw (lent-long, lent-is)
+      (ap indicatorBits (rw e at (range-in block (i + 1) (g .words) (g .words - n) n (omega (arith, fit .holds))
+      (omega (arith, ready .long, fit .whole)))))
+
   many : length (programWords block i g) ≡ g .program
   many = length-range block (i + 1) (g .program) (omega (arith, ready .long, fit .whole, fit .holds))
 
-  -- the program words as the code lends them
-  pub lent-ready : ChangeReady x l (take (i + 1 + g .program - (i + 1)) (drop (i + 1) block)) block
-      (record { end = i + 1 + g .words; count = g .words - g .program }) out
-  lent-ready =
-      rw (range-lent block (i + 1) (g .program))
-      (record {
-        lists = ready .lists;
-        words = every-range isWord block (i + 1) (g .program) (ready .words);
-        few = omega (arith, many, fit .whole, fit .holds);
-        long = ready .long;
-        indicators = record { first = omega (arith, fit .holds); last = omega (arith, fit .whole, ready .long) };
-        room = ready .room ∙ sym many;
-      })
+  lent-all : every isWord lent ≡ true
+  lent-all = rw lent-is (every-range isWord block (i + 1) (g .words) (ready .words))
+
+  pub lent-ready : ChangeReady x l lent (g .program) out
+  lent-ready = record {
+    lists = ready .lists;
+    all = lent-all;
+    few = omega (arith, lent-long, fit .whole);
+    program = omega (arith, lent-long, fit .holds);
+    room = ready .room;
+  }
+
+  pub fault-ready : FaultReady x l lent (g .program)
+  fault-ready = record {
+    lists = ready .lists;
+    all = lent-all;
+    few = omega (arith, lent-long, fit .whole);
+    program = omega (arith, lent-long, fit .holds);
+  }
 
   module _ (a : Assignments) where
     abbrev gives : Words
@@ -70,25 +116,19 @@ module _ (x : Given) (l block : List ℕ) (i : ℕ) (g : Group) (out : List ℕ)
     abbrev ends : ℕ
     ends = afterAll (indicatorBitsIn block i g) 0 (programWords block i g)
 
-    filled-bits : (r : Words) (b : ℕ) → Bits b ≡ bitsOr r ends → (out′ : List ℕ)
-        → out′ ≡ wordsOrZeros (length (programWords block i g)) r
+    filled-bits : (r : Words) (b : ℕ) → Bits b ≡ bitsOr r ends → (out′ : List ℕ) → Became out′ r
         → (b ≡ ends) × Fills (changedFill i g r) (Done (i + 1 + g .words) (g .last)) out′
     filled-bits (Become vs) b q out′ e = (cc, record { told = refl; left = e })
     filled-bits (Refuse f) b q out′ e = let z : _≡_ {A = ℕ} 0 1 = cc in absurd (omega arith)
 
-    filled-stop : (r : Words) (f : Fault) → stop-group f ≡ bitsOr r ends → (out′ : List ℕ)
-        → out′ ≡ wordsOrZeros (length (programWords block i g)) r
-        → (out′ ≡ replicate (g .program) 0) × Fills (changedFill i g r) (Refused f) out′
-    filled-stop (Become vs) f q out′ e = let z : _≡_ {A = ℕ} 0 1 = cc in absurd (omega arith)
-    filled-stop (Refuse x) f q out′ e =
-        let y : f ≡ x = cc in
-        let l = e ∙ ap (λ (n : ℕ). replicate n 0) many in
-        (l, record { told = ap Refused y; left = l })
+    filled-stop : (r : Words) → stop-group ≡ bitsOr r ends → changedFill i g r ≡ zeroFill (g .program) (faultOr r)
+    filled-stop (Become vs) q = let z : _≡_ {A = ℕ} 0 1 = cc in absurd (omega arith)
+    filled-stop (Refuse x) q = refl
 
     module _ (r : GroupChange) (out′ : List ℕ)
-        (run : Changes a (indicatorBitsIn block i g) (take (i + 1 + g .program - (i + 1)) (drop (i + 1) block)) r out′) where
+        (run : Changes a (groupBits lent (g .program)) (programIn lent (g .program)) r out′) where
       changed : Changes a (indicatorBitsIn block i g) (programWords block i g) r out′
-      changed = rw (range-lent block (i + 1) (g .program)) at run
+      changed = rw (lent-bits, lent-program) at run
 
       bits-told : (b : ℕ) → r ≡ Bits b → (b ≡ ends) × Fills (changedFill i g gives) (Done (i + 1 + g .words) (g .last)) out′
       bits-told b e = filled-bits gives b (sym e ∙ changed .told) out′ (changed .left)
@@ -103,14 +143,8 @@ module _ (x : Given) (l block : List ℕ) (i : ℕ) (g : Group) (out : List ℕ)
       counted-done b e q j t = let s = bits-told b e in rw (← s .0, sym j ∙ t) (s .1)
 
       -- as many words as were given
-      long-out : length out′ ≡ g .program
-      long-out = ap length (changed .left)
-          ∙ words-many gives (changed-many a (indicatorBitsIn block i g) 0 (programWords block i g)) ∙ many
-        where
-          words-many : (w : Words) → Many (length (programWords block i g)) w
-              → length (wordsOrZeros (length (programWords block i g)) w) ≡ length (programWords block i g)
-          words-many (Become vs) m = m
-          words-many (Refuse f) m = length-replicate (length (programWords block i g)) 0
+      pub long-out : length out′ ≡ g .program
+      long-out = changed .long ∙ many
 
       pub counted-wrong : (b : ℕ) → r ≡ Bits b → (q : Bool) → q ≡ justEnough b (g .words - g .program) → q ≡ false
           → (x : GroupStep) (out″ : List ℕ) → Fills (zeroFill (length out′) (fault 18)) x out″
@@ -118,21 +152,15 @@ module _ (x : Given) (l block : List ℕ) (i : ℕ) (g : Group) (out : List ℕ)
       unfolding countedFill indicatorsFit
       counted-wrong b e q j t x out″ z = let s = bits-told b e in rw (← s .0, sym j ∙ t) (rw long-out at z)
 
-      -- the count anew; the code takes the words' place away from their end
-      module _ (f : Fault) (e : r ≡ stop-group f) (q : Bool)
-          (j : q ≡ justEnough (afterAll (indicatorBitsIn block i g) 0 (range block (i + 1) (i + 1 + g .program - (i + 1))))
-          (g .words - g .program)) where
-        count : justEnough ends (g .words - g .program) ≡ q
-        count = sym (rw (add-sub-cancel-left (i + 1) (g .program)) at j)
-
-        pub counted-stop : q ≡ true → Fills (countedFill a block i g) (Refused f) out′
-        unfolding countedFill indicatorsFit
-        counted-stop t = rw (count ∙ t) (filled-stop gives f (sym e ∙ changed .told) out′ (changed .left) .1)
-
-        pub counted-short : q ≡ false → Fills (countedFill a block i g) (Refused (fault 18)) out′
-        unfolding countedFill indicatorsFit
-        counted-short t =
-            rw (count ∙ t) (record { told = refl; left = filled-stop gives f (sym e ∙ changed .told) out′ (changed .left) .0 })
+      -- a field is refused: the count, and then the first refusal
+      pub counted-stop : r ≡ stop-group → (f : Fault) → f ≡ groupFault a lent (g .program) → (x : GroupStep) (out″ : List ℕ)
+          → Fills (zeroFill (length out′) f) x out″ → Fills (countedFill a block i g) x out″
+      unfolding countedFill indicatorsFit groupFault firstFault
+      counted-stop e f q x out″ z =
+          let y = rw (lent-bits, lent-program, lent-long) at q in
+          by-test (justEnough ends (g .words - g .program))
+          (λ t. rw (t, filled-stop gives (sym e ∙ changed .told), ← rw t at y) (rw long-out at z))
+          (λ t. rw (t, ← rw t at y) (rw long-out at z))
 
 -- ---- a group's words in the core: what is left when they come back as the part that was lent
 lent-back : (l : List ℕ) (a n : ℕ) (vs : List ℕ) → a + n ≤ length l → length vs ≡ n

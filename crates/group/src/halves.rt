@@ -1,20 +1,20 @@
 // A program word's left half, then its right one, each by its indicator.
 ghost use mathlib.Core.Path.{_≡_};
-ghost use Prim.Native.Nat.{_+_, _<_, _^_};
+ghost use Prim.Native.Nat.{_≤_};
+ghost use Rattle.word.specs.declared.Half.the-variants.{Left, Right};
 ghost use Rattle.field.specs.Field.{assignedBy};
-ghost use Rattle.indicator.specs.HowCursor.{pastOf};
-ghost use Rattle.group.specs.HowHalves.{sameIn, typeIn, moreIn, onward, halfOf, bothOf, HalfReady};
+ghost use Rattle.group.specs.HowHalves.{passedBits, halfOf, bothOf, HalfReady};
 use field::Assigned;
-use field::Changed;
+use field::Stepped;
 use indicator::Cursor;
-use indicator::Indicator;
-use word::Fault;
-use word::Half;
 
-// What a word becomes and the cursor past its indicators; or the fault of one of its fields.
+// The next bit, which tells a change.
+const CHANGE: u64 = 1 << 63;
+
+// What a word becomes and the cursor past its indicators; or that one of its fields is refused.
 pub enum WordChange {
     Next(u64, Cursor),
-    Stop(Fault),
+    Stop,
 }
 
 // A word's left half, then its right one.
@@ -24,71 +24,45 @@ pub fn change_word(s: Assigned, lists: &[u64], c: Cursor, w: u64) -> WordChange
 {
     match left_half(s, lists, c, w) {
         WordChange::Next(v, d) => right_half(s, lists, d, v),
-        WordChange::Stop(f) => WordChange::Stop(f),
+        WordChange::Stop => WordChange::Stop,
     }
 }
 
 // Either half has a function of its own, so that its code is made for its bits alone.
 fn left_half(s: Assigned, lists: &[u64], c: Cursor, w: u64) -> WordChange
     requires { ⌜ HalfReady (s .given) (now lists) w c 13 ⌝ }
-    ensures { λ r. ⌜ r ≡ halfOf (assignedBy s (now (lists .entry))) Half.Left w c ⌝ }
+    ensures { λ r. ⌜ r ≡ halfOf (assignedBy s (now (lists .entry))) Left w c ⌝ }
 {
-    let m = indicator::look(c.ahead, word::field(w, Half::Left));
-    if same_in(m) {
-        return WordChange::Next(w, indicator::pass(c, m));
+    if c.ahead < CHANGE {
+        return WordChange::Next(w, indicator::pass_bits(c, 1));
     }
-    passed(c, m, field::left_step(s, lists, type_in(m), w, more_in(m)))
+    let t = word::bits(c.ahead, 62, 60);
+    let x = word::bits(c.ahead, 59, 51);
+    let d = indicator::pass_bits(c, 4);
+    passed(d, field::left_step(s, lists, t, w, x))
 }
 
 fn right_half(s: Assigned, lists: &[u64], c: Cursor, w: u64) -> WordChange
     requires { ⌜ HalfReady (s .given) (now lists) w c 13 ⌝ }
-    ensures { λ r. ⌜ r ≡ halfOf (assignedBy s (now (lists .entry))) Half.Right w c ⌝ }
+    ensures { λ r. ⌜ r ≡ halfOf (assignedBy s (now (lists .entry))) Right w c ⌝ }
 {
-    let m = indicator::look(c.ahead, word::field(w, Half::Right));
-    if same_in(m) {
-        return WordChange::Next(w, indicator::pass(c, m));
+    if c.ahead < CHANGE {
+        return WordChange::Next(w, indicator::pass_bits(c, 1));
     }
-    passed(c, m, field::right_step(s, lists, type_in(m), w, more_in(m)))
+    let t = word::bits(c.ahead, 62, 60);
+    let x = word::bits(c.ahead, 59, 51);
+    let d = indicator::pass_bits(c, 4);
+    passed(d, field::right_step(s, lists, t, w, x))
 }
 
-// What became of a half, and the cursor past its indicator.
-fn passed(c: Cursor, m: Indicator, r: Changed) -> WordChange
-    requires { ⌜ c .at + 13 < 2 ^ 64 ⌝ }
-    ensures { λ x. ⌜ x ≡ onward r (λ v. WordChange.Next v (pastOf c m)) ⌝ }
+// What became of a half, and the cursor past its indicator, whose first four bits are passed.
+fn passed(c: Cursor, r: Stepped) -> WordChange
+    requires { ⌜ 9 ≤ c .left ⌝ }
+    ensures { λ m. ⌜ m ≡ passedBits c r ⌝ }
 {
     match r {
-        Changed::Word(v) => WordChange::Next(v, indicator::pass(c, m)),
-        Changed::Refused(f) => WordChange::Stop(f),
-    }
-}
-
-// Whether an indicator tells no change; its type; its nine bits more.
-fn same_in(m: Indicator) -> bool
-    ensures { λ r. ⌜ r ≡ sameIn m ⌝ }
-{
-    match m {
-        Indicator::Same => true,
-        Indicator::Change(_) => false,
-        Indicator::Long(_) => false,
-    }
-}
-
-fn type_in(m: Indicator) -> u64
-    ensures { λ r. ⌜ r ≡ typeIn m ⌝ }
-{
-    match m {
-        Indicator::Same => 0,
-        Indicator::Change(t) => t,
-        Indicator::Long(_) => 2,
-    }
-}
-
-fn more_in(m: Indicator) -> u64
-    ensures { λ r. ⌜ r ≡ moreIn m ⌝ }
-{
-    match m {
-        Indicator::Same => 0,
-        Indicator::Change(_) => 0,
-        Indicator::Long(x) => x,
+        Stepped::Word(v) => WordChange::Next(v, c),
+        Stepped::Long(v) => WordChange::Next(v, indicator::pass_bits(c, 9)),
+        Stepped::Refused => WordChange::Stop,
     }
 }

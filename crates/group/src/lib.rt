@@ -1,18 +1,16 @@
-// One group of a program block: its program words are copied into the lent core, and stored anew where they change, each one's left
-// and right half in order, while the indicators are counted. 18 comes before a refusal of a field: where a field is refused, the
-// count decides which.
+// One group of a program block: its program words are read from the lent block and stored into the lent core, each one's left and
+// right half changed in order, while the indicators are counted. 18 comes before a refusal of a field: where a field is refused,
+// the count decides which.
 mod changes;
 mod halves;
+mod refusals;
 
 ghost use mathlib.Core.Path.{_≡_};
-ghost use Prim.Native.Nat.{_+_, _*_, _<_, _^_};
 ghost use lib.ListN.{length};
 ghost use Rattle.field.specs.Field.{assignedBy};
-ghost use Rattle.indicator.specs.Indicator.{justEnough};
 ghost use Rattle.group.specs.Group.{liesIn, wordsLie, addressOf, groupStep, GroupMeets, Ready};
 ghost use Rattle.group.specs.HowGroup.{AddressReady, FillReady, Fitting, zeroFill, countedFill, fillOf, Fills};
 use crate::changes::GroupChange;
-use crate::changes::IndicatorWords;
 use field::Assigned;
 use lists::Table;
 use program::Bank;
@@ -144,23 +142,17 @@ fn count_group(
     ensures { λ r. ⌜ Fills (countedFill (assignedBy s (now (lists .entry))) (now (block .entry)) i g) r (now (out .exit)) ⌝ }
 {
     let first = i + 1;
-    let past = first + g.program as usize;
     let end = first + g.words as usize;
-    let n = (g.words - g.program) as usize;
-    let marks = IndicatorWords { end, count: n };
-    match changes::change_group(s, lists, &block[first..past], block, marks, out) {
+    let n = g.program as usize;
+    let marks = (g.words - g.program) as usize;
+    match changes::change_group(s, lists, &block[first..end], n, out) {
         GroupChange::Bits(bits) => {
-            if just_enough(bits, n) {
+            if indicator::just_enough(bits, marks) {
                 return GroupStep::Done(end, g.last);
             }
             refuse(out, Fault { number: 18 })
         }
-        GroupChange::Stop(f) => {
-            if indicator::count_fits(block, first, past, end, n) {
-                return GroupStep::Refused(f);
-            }
-            GroupStep::Refused(Fault { number: 18 })
-        }
+        GroupChange::Stop => refuse(out, refusals::group_fault(s, lists, &block[first..end], n)),
     }
 }
 
@@ -171,15 +163,4 @@ fn refuse(out: &mut [u64], f: Fault) -> GroupStep
     let n = out.len();
     word::slices::clear(out, 0, n);
     GroupStep::Refused(f)
-}
-
-// Whether n indicator words are just as many as the bits need.
-fn just_enough(bits: usize, n: usize) -> bool
-    requires { ⌜ (bits + 36 < 2 ^ 64) × (36 * n < 2 ^ 64) ⌝ }
-    ensures { λ r. ⌜ r ≡ justEnough bits n ⌝ }
-{
-    if bits <= 36 * n {
-        return 36 * n < bits + 36;
-    }
-    false
 }

@@ -1,23 +1,24 @@
-// An indicator: what is to be done with a half of a program word; and the indicators of a group read fast: the next 64 bits are
-// held in one number, and where all of them are 0 many words without change are passed at once.
+// An indicator: what is to be done with a half of a program word; and the indicators of a group read fast, straight from the
+// group's words: the next 64 bits are held in one number, and where all of them are 0 many words without change are passed at once.
+// A group's words are its program words, the first n, and its indicator words after them.
 ghost use mathlib.Core.Path.{_≡_};
-ghost use Prim.Native.Nat.{_+_, _-_, _*_, _<_, _^_};
+ghost use Prim.Native.Nat.{_+_, _-_, _*_, _≤_, _<_, _^_};
+ghost use lib.ListN.{length};
 ghost use Rattle.word.specs.Lists.{range};
-ghost use Rattle.indicator.specs.Indicator.{bitsBefore, widthOf, afterAll, justEnough};
-ghost use Rattle.indicator.specs.HowCursor.{edgeOf, startCursor, lookOf, pastOf, pastField, pastWord, refilled};
-ghost use Rattle.indicator.specs.HowCursor.{plainWords, pastPlain, turnOf, RefillReady, MoveOnReady, CountReady};
+ghost use Rattle.indicator.specs.Indicator.{widthOf, afterAll, justEnough};
+ghost use Rattle.indicator.specs.HowCursor.{beyond, groupBits, startCursor, placeOf, lookOf, pastBits, pastOf, pastField};
+ghost use Rattle.indicator.specs.HowCursor.{pastWord, refilled, plainWords, pastPlain, RefillReady, PlaceReady, CountReady};
 use word::Half;
 use word::WORD_BITS;
-use word::WORD_LIMIT;
 
 // The next bit, first of the 64 at hand.
 const NEXT_BIT: u64 = 1 << 63;
 
-// A place past every group's bits.
-const NEVER: usize = 1 << 32;
-
 // How many bits at hand leave room for a word behind them: 64 less 36.
-const BEFORE_WORD: usize = 28;
+const FEW: usize = 28;
+
+// More bits than any group reads.
+const ENDLESS: usize = 1 << 16;
 
 // No change; a change of a three-bit type; type 010 with its nine bits more.
 pub enum Indicator {
@@ -26,47 +27,39 @@ pub enum Indicator {
     Long(u64),
 }
 
-// The place of the next bit; the 64 bits from there on, the first one leftmost, as far as the indicator words taken so far have
-// them; how many words these are; and the edge from which on a word more is to be taken, or a place past every group's bits where
-// no word is left, so that one comparison tells it.
+// The next 64 bits, the first one leftmost, as far as the indicator words taken so far have them, and 0s behind those; how many
+// bits are left of these words, where the 0s behind the last word count as bits without end, so that one comparison tells whether a
+// word is to be taken; and the place that the words taken start at.
 pub struct Cursor {
-    pub at: usize,
     pub ahead: u64,
-    pub words: usize,
-    pub edge: usize,
+    pub left: usize,
+    pub next: usize,
 }
 
-// A cursor, and the place of the next program word.
-struct Turn {
-    cursor: Cursor,
-    i: usize,
-}
-
-// Before the first bit of n words.
-pub fn start(n: usize) -> Cursor
-    requires { ⌜ 36 * n < 2 ^ 64 ⌝ }
-    ensures { λ r. ⌜ r ≡ startCursor n ⌝ }
+// Before the first bit of the words from place n up to place end.
+pub fn start(end: usize, n: usize) -> Cursor
+    ensures { λ r. ⌜ r ≡ startCursor end n ⌝ }
 {
     Cursor {
-        at: 0,
         ahead: 0,
-        words: 0,
-        edge: edge_of(n, 0),
+        left: beyond_last(n, end),
+        next: end,
     }
 }
 
-// The edge where m of n words are taken; where none is, a word is to be taken at once.
-fn edge_of(n: usize, m: usize) -> usize
-    requires { ⌜ 36 * n < 2 ^ 64 ⌝ }
-    ensures { λ r. ⌜ r ≡ edgeOf n m ⌝ }
+// The bits behind the words from place next on: none, unless these are all.
+fn beyond_last(n: usize, next: usize) -> usize
+    ensures { λ r. ⌜ r ≡ beyond n next ⌝ }
 {
-    if n <= m {
-        return NEVER;
-    }
-    if m == 0 {
-        return 0;
-    }
-    WORD_BITS * m - BEFORE_WORD
+    if next <= n { ENDLESS } else { 0 }
+}
+
+// The place of the next bit.
+pub fn place(c: Cursor, end: usize, n: usize) -> usize
+    requires { ⌜ PlaceReady c end n ⌝ }
+    ensures { λ r. ⌜ r ≡ placeOf end n c ⌝ }
+{
+    WORD_BITS * (end - c.next) + beyond_last(n, c.next) - c.left
 }
 
 // The indicator that comes next, of a field that holds f.
@@ -98,23 +91,29 @@ pub fn width(m: Indicator) -> usize
     }
 }
 
+// Past k bits.
+pub fn pass_bits(c: Cursor, k: usize) -> Cursor
+    requires { ⌜ (k ≤ c .left) × (k < 64) ⌝ }
+    ensures { λ r. ⌜ r ≡ pastBits c k ⌝ }
+{
+    Cursor {
+        ahead: c.ahead << k,
+        left: c.left - k,
+        next: c.next,
+    }
+}
+
 // Past an indicator.
 pub fn pass(c: Cursor, m: Indicator) -> Cursor
-    requires { ⌜ c .at + 13 < 2 ^ 64 ⌝ }
+    requires { ⌜ 13 ≤ c .left ⌝ }
     ensures { λ r. ⌜ r ≡ pastOf c m ⌝ }
 {
-    let k = width(m);
-    Cursor {
-        at: c.at + k,
-        ahead: c.ahead << k,
-        words: c.words,
-        edge: c.edge,
-    }
+    pass_bits(c, width(m))
 }
 
 // Past the indicator of a field that holds f.
 fn pass_field(c: Cursor, f: u64) -> Cursor
-    requires { ⌜ c .at + 13 < 2 ^ 64 ⌝ }
+    requires { ⌜ 13 ≤ c .left ⌝ }
     ensures { λ r. ⌜ r ≡ pastField c f ⌝ }
 {
     pass(c, look(c.ahead, f))
@@ -122,7 +121,7 @@ fn pass_field(c: Cursor, f: u64) -> Cursor
 
 // Past a program word's two indicators.
 pub fn pass_word(c: Cursor, w: u64) -> Cursor
-    requires { ⌜ c .at + 26 < 2 ^ 64 ⌝ }
+    requires { ⌜ 26 ≤ c .left ⌝ }
     ensures { λ r. ⌜ r ≡ pastWord c w ⌝ }
 {
     let next = pass_field(c, word::field(w, Half::Left));
@@ -130,91 +129,65 @@ pub fn pass_word(c: Cursor, w: u64) -> Cursor
 }
 
 // One indicator word more where fewer than 29 bits are at hand; a program word's two indicators need 26 at most.
-pub fn refill(block: &[u64], end: usize, n: usize, c: Cursor) -> Cursor
-    requires { ⌜ RefillReady (now block) end n c ⌝ }
-    ensures { λ r. ⌜ r ≡ refilled (now (block .entry)) end n c ⌝ }
+pub fn refill(words: &[u64], n: usize, c: Cursor) -> Cursor
+    requires { ⌜ RefillReady (now words) n c ⌝ }
+    ensures { λ r. ⌜ r ≡ refilled (now (words .entry)) n c ⌝ }
 {
-    let at = c.at;
-    let words = c.words;
-    if at < c.edge {
+    if FEW < c.left {
         return c;
     }
-    let w = block[end - 1 - words] % WORD_LIMIT;
+    let next = c.next - 1;
+    let w = words[next];
     Cursor {
-        at,
-        ahead: c.ahead + (w << (at + BEFORE_WORD - WORD_BITS * words)),
-        words: words + 1,
-        edge: edge_of(n, words + 1),
+        ahead: c.ahead + (w << (FEW - c.left)),
+        left: c.left + WORD_BITS + beyond_last(n, next),
+        next,
     }
 }
 
-// How many of the program words that are left have no change, as far as the bits at hand tell.
-pub fn unchanged(c: Cursor, left: usize) -> usize
-    requires { ⌜ 36 * c .words < 2 ^ 64 ⌝ }
-    ensures { λ r. ⌜ r ≡ plainWords c left ⌝ }
+// How many of this many program words have no change, where all the bits at hand are 0: two bits each.
+pub fn unchanged(c: Cursor, most: usize) -> usize
+    ensures { λ r. ⌜ r ≡ plainWords c most ⌝ }
 {
-    if c.ahead != 0 {
-        return 0;
-    }
-    let got = WORD_BITS * c.words;
-    if got < c.at {
-        return 0;
-    }
-    let k = (got - c.at) / 2;
-    if k < left { k } else { left }
+    let k = c.left / 2;
+    if k < most { k } else { most }
 }
 
 // Past this many words without change.
 pub fn pass_plain(c: Cursor, k: usize) -> Cursor
-    requires { ⌜ c .at + 2 * k < 2 ^ 64 ⌝ }
+    requires { ⌜ 2 * k ≤ c .left ⌝ }
     ensures { λ r. ⌜ r ≡ pastPlain c k ⌝ }
 {
     Cursor {
-        at: c.at + 2 * k,
         ahead: 0,
-        words: c.words,
-        edge: c.edge,
+        left: c.left - 2 * k,
+        next: c.next,
     }
 }
 
-// From the program word at place i on: words without change at once, or one word.
-fn move_on(block: &[u64], last: usize, c: Cursor, i: usize) -> Turn
-    requires { ⌜ MoveOnReady (now block) last c i ⌝ }
-    ensures { λ r. ⌜ r ≡ turnOf (now (block .entry)) last c i ⌝ }
+// Whether n indicator words are just as many as the bits need.
+pub fn just_enough(bits: usize, n: usize) -> bool
+    requires { ⌜ (bits + 36 < 2 ^ 64) × (36 * n < 2 ^ 64) ⌝ }
+    ensures { λ r. ⌜ r ≡ justEnough bits n ⌝ }
 {
-    let k = unchanged(c, last - i);
-    if k != 0 {
-        let next = pass_plain(c, k);
-        return Turn {
-            cursor: next,
-            i: i + k,
-        };
+    if bits <= WORD_BITS * n {
+        return WORD_BITS * n < bits + WORD_BITS;
     }
-    let w = block[i];
-    let next = pass_word(c, w);
-    Turn {
-        cursor: next,
-        i: i + 1,
-    }
+    false
 }
 
-// Whether the indicators of the words from place first up to place last need just the n words before place end.
-pub fn count_fits(block: &[u64], first: usize, last: usize, end: usize, n: usize) -> bool
-    requires { ⌜ CountReady (now block) last end n ⌝ }
-    ensures { λ r. ⌜ r ≡ justEnough (afterAll (bitsBefore (now (block .entry)) end n) 0
-        (range (now (block .entry)) first (last - first))) n ⌝ }
+// Whether the indicators of the n program words of a group need just the words after these.
+pub fn count_fits(words: &[u64], n: usize) -> bool
+    requires { ⌜ CountReady (now words) n ⌝ }
+    ensures { λ r. ⌜ r ≡ justEnough (afterAll (groupBits (now (words .entry)) n) 0 (range (now (words .entry)) 0 n))
+        (length (now (words .entry)) - n) ⌝ }
 {
-    let mut c = start(n);
-    let mut i = first;
-    while i < last {
-        let full = refill(block, end, n, c);
-        let t = move_on(block, last, full, i);
-        c = t.cursor;
-        i = t.i;
+    let end = words.len();
+    let mut c = start(end, n);
+    let mut k: usize = 0;
+    while k < n {
+        c = pass_word(refill(words, n, c), words[k]);
+        k += 1;
     }
-    if c.at <= WORD_BITS * n {
-        WORD_BITS * n < c.at + WORD_BITS
-    } else {
-        false
-    }
+    just_enough(place(c, end, n), end - n)
 }

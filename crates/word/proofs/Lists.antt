@@ -9,7 +9,8 @@ use native.Mathlib.Nat.{zero-add, add-zero, add-sub-of-le, add-sub-cancel-left}
 use lib.ListN.{length, length-take, set, getD, take, drop, length-drop, take-append-drop, drop-of-length-le, length-append}
 use lib.ListN.{List·getD-append}
 use lib.Seq.{paste, paste-zero, paste-suc, length-paste, drop-paste, drop-cons, drop-length, take-length, take-at, drop-at}
-use lib.Seq.{take-add, take-paste, take-append-le, drop-append-le, length-take-le, drop-drop, getD-take, getD-drop, getD-at, take-all, ext-getD}
+use lib.Seq.{take-add, take-paste, take-append-le, drop-append-le, length-take-le, drop-drop, getD-take, getD-drop, getD-at}
+use lib.Seq.{take-all, ext-getD}
 use lib.Seq.{set-split, append-snoc}
 use Rattle.word.proofs.Cases.{by-lt}
 use Rattle.word.specs.Lists.{every, everyTwo, tab, range, splice}
@@ -254,7 +255,8 @@ module _ (l s : List ℕ) (a n : ℕ) (into : a + n ≤ length l) (from : a + n 
   unfolding splice range
   alike-more q =
       let r : length (range s a n) ≡ n = length-range s a n from in
-      rw r (take-paste l a (range s a n) n (omega arith) (omega arith) ∙ rw (take-add a n s, q, take-all n (range s a n) (omega arith)))
+      rw r
+      (take-paste l a (range s a n) n (omega arith) (omega arith) ∙ rw (take-add a n s, q, take-all n (range s a n) (omega arith)))
 
 pub alike-all : (l s : List ℕ) (a : ℕ) → a ≤ length s → length l ≡ length s → take a l ≡ take a s
     → splice l a (range s a (length s - a)) ≡ s

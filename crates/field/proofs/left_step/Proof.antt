@@ -1,10 +1,9 @@
 -- `field::left_step` meets its contract: each arm of the match by what its calls give (Field's arms), and what they give fits.
+use mathlib.Core.Path.{refl, sym, _∙_}
 use Rattle.word.specs.declared.Half.the-variants.{Left}
-use Rattle.field.specs.Field.{becomes, putBack, fieldStep, assignedBy}
+use Rattle.field.specs.Field.{assignedBy, becomes, putBack, fieldStep}
 use Rattle.field.proofs.Field.{moved-fits, pair-fits, long-fits, short-fits, switch-fits, unit-fits, moved-arm, pair-arm}
-use Rattle.field.proofs.Field.{long-arm, short-arm, unit-arm}
-use mathlib.Core.Path.{sym, _∙_}
-use Rattle.word.proofs.Tests.{tests}
+use Rattle.field.proofs.Field.{long-arm, short-arm, unit-arm, switch-arm, long-by, word-arm, refused-arm, last-type}
 use borrow.Author.Needs.{needs}
 use Rattle.field.proofs.left_step.Statement.{statement}
 use Rattle.field.proofs.left_step.Tie as tie
@@ -15,14 +14,14 @@ field-requires c κs = search needs
 moved-field-requires : tie.Need-moved-field-requires
 moved-field-requires c κs = search needs
 
-put-back-requires : tie.Need-put-back-requires
-put-back-requires c κs = (search needs, rw (c .moved-field .ensures) (moved-fits _ _))
+put-word-requires : tie.Need-put-word-requires
+put-word-requires c κs = (search needs, rw (c .moved-field .ensures) (moved-fits _ _))
 
 pair-of-requires : tie.Need-pair-of-requires
 pair-of-requires c κs = search needs
 
-put-back-requires-2 : tie.Need-put-back-requires-2
-put-back-requires-2 c κs = (search needs, rw (c .pair-of .ensures) (pair-fits _ _))
+put-word-requires-2 : tie.Need-put-word-requires-2
+put-word-requires-2 c κs = (search needs, rw (c .pair-of .ensures) (pair-fits _ _))
 
 is-set-requires : tie.Need-is-set-requires
 is-set-requires c κs = search needs
@@ -30,20 +29,22 @@ is-set-requires c κs = search needs
 long-of-requires : tie.Need-long-of-requires
 long-of-requires c κs = search needs
 
-put-back-requires-3 : tie.Need-put-back-requires-3
-put-back-requires-3 c κs = (search needs, rw (c .long-of .ensures) (long-fits _ _ _))
+put-long-requires : tie.Need-put-long-requires
+put-long-requires c κs = (search needs, rw (c .long-of .ensures) (long-fits _ _ _))
 
 returns : tie.Need-returns
 unfolding assignedBy
 returns c = let m = c .before .before .before .before in
-    long-arm _ Left _ _ (m .before .field .ensures) (c .put-back3 .ensures) (m .match .keys3)
-    (sym (c .before .before .before .is-set .ensures) ∙ c .before .before .if1 .taken) (c .before .long-of .ensures)
+    let read = m .before .field .ensures in
+    let bit = sym (c .before .before .before .is-set .ensures) ∙ c .before .before .if1 .taken in
+    word-arm _ Left _ _ _ 2 (m .match .keys3) (long-by read bit) (c .put-long .ensures)
+    (long-arm _ Left _ _ read (m .match .keys3) bit (c .before .long-of .ensures))
 
 short-of-requires : tie.Need-short-of-requires
 short-of-requires c κs = search needs
 
-put-back-requires-4 : tie.Need-put-back-requires-4
-put-back-requires-4 c κs = (search needs, rw (c .short-of .ensures) (short-fits _ _))
+put-word-requires-3 : tie.Need-put-word-requires-3
+put-word-requires-3 c κs = (search needs, rw (c .short-of .ensures) (short-fits _ _))
 
 a-field-requires : tie.Need-a-field-requires
 a-field-requires c κs = search needs
@@ -51,44 +52,61 @@ a-field-requires c κs = search needs
 switch-of-requires : tie.Need-switch-of-requires
 switch-of-requires c κs = search needs
 
-put-a-requires : tie.Need-put-a-requires
-put-a-requires c κs = (search needs, rw (c .switch-of .ensures) (switch-fits _ _ _ _))
+put-switch-requires : tie.Need-put-switch-requires
+put-switch-requires c κs = (search needs, rw (c .switch-of .ensures) (switch-fits _ _ _ _))
 
 unit-of-requires : tie.Need-unit-of-requires
 unit-of-requires c κs = search needs
 
-put-back-requires-5 : tie.Need-put-back-requires-5
-put-back-requires-5 c κs = (search needs, rw (c .unit-of .ensures) (unit-fits _ _ _))
+put-word-requires-4 : tie.Need-put-word-requires-4
+put-word-requires-4 c κs = (search needs, rw (c .unit-of .ensures) (unit-fits _ _ _))
 
 returns-2 : tie.Need-returns-2
 unfolding assignedBy
 returns-2 c = let m = c .before .before in
-    moved-arm _ Left _ _ (m .before .field .ensures) (c .put-back .ensures) (m .match .keys1) (c .before .moved-field .ensures)
+    word-arm _ Left _ _ _ 0 (m .match .keys1) refl (c .put-word .ensures)
+    (moved-arm _ Left _ _ (m .before .field .ensures) (m .match .keys1) (c .before .moved-field .ensures))
 
 returns-3 : tie.Need-returns-3
 unfolding assignedBy
 returns-3 c = let m = c .before .before in
-    pair-arm _ Left _ _ (m .before .field .ensures) (c .put-back2 .ensures) (m .match .keys2) (c .before .pair-of .ensures)
+    word-arm _ Left _ _ _ 1 (m .match .keys2) refl (c .put-word2 .ensures)
+    (pair-arm _ Left _ _ (m .before .field .ensures) (m .match .keys2) (c .before .pair-of .ensures))
 
 returns-4 : tie.Need-returns-4
 unfolding assignedBy
 returns-4 c = let m = c .before .before .before .before in
-    short-arm _ Left _ _ (m .before .field .ensures) (c .put-back4 .ensures) (m .match .keys3)
-    (sym (c .before .before .before .is-set .ensures) ∙ c .before .before .if1 .left) (c .before .short-of .ensures)
+    let read = m .before .field .ensures in
+    let bit = sym (c .before .before .before .is-set .ensures) ∙ c .before .before .if1 .left in
+    word-arm _ Left _ _ _ 2 (m .match .keys3) (long-by read bit) (c .put-word3 .ensures)
+    (short-arm _ Left _ _ read (m .match .keys3) bit (c .before .short-of .ensures))
 
 returns-5 : tie.Need-returns-5
-unfolding fieldStep becomes assignedBy
-returns-5 c = simp (c .before .before .before .match .keys4)
-    (rw (c .before .before .a-field .ensures) at (rw (c .before .switch-of .ensures) at (c .put-a .ensures)))
+unfolding fieldStep becomes putBack
+returns-5 c = refused-arm _ Left _ _ _ 3 (c .match .keys4) refl
 
 returns-6 : tie.Need-returns-6
 unfolding assignedBy
-returns-6 c = let m = c .before .before in
-    unit-arm _ Left _ _ (m .before .field .ensures) (c .put-back5 .ensures) (m .match .keys5) (c .before .unit-of .ensures)
+returns-6 c = let m = c .before .before .before in
+    word-arm _ Left _ _ _ 4 (m .match .keys5) refl (c .put-switch .ensures)
+    (switch-arm _ _ _ (c .before .before .a-field .ensures) (m .match .keys5) (c .before .switch-of .ensures))
 
 returns-7 : tie.Need-returns-7
-unfolding fieldStep becomes assignedBy putBack
-returns-7 c = search tests
+unfolding fieldStep becomes putBack
+returns-7 c = refused-arm _ Left _ _ _ 5 (c .match .keys6) refl
+
+returns-8 : tie.Need-returns-8
+unfolding fieldStep becomes putBack
+returns-8 c = refused-arm _ Left _ _ _ 6 (c .match .keys7) refl
+
+returns-9 : tie.Need-returns-9
+unfolding assignedBy
+returns-9 c = let m = c .before .before in
+    let n = m .match .rest in
+    let seven = last-type _ (n .0 .0 .0 .0 .0 .0 .1) (n .0 .0 .0 .0 .0 .1) (n .0 .0 .0 .0 .1) (n .0 .0 .0 .1) (n .0 .0 .1) (n .0 .1)
+    (n .1) (m .before .before .before .before .before .pre .2) in
+    word-arm _ Left _ _ _ 7 seven refl (c .put-word4 .ensures)
+    (unit-arm _ Left _ _ (m .before .field .ensures) seven (c .before .unit-of .ensures))
 
 pub left-step-spec : {M : Type 1} → statement M
 left-step-spec =
@@ -96,23 +114,25 @@ left-step-spec =
     (tie.spec
     field-requires
     moved-field-requires
-    put-back-requires
+    put-word-requires
     pair-of-requires
-    put-back-requires-2
+    put-word-requires-2
     is-set-requires
     long-of-requires
-    put-back-requires-3
+    put-long-requires
     returns
     short-of-requires
-    put-back-requires-4
+    put-word-requires-3
     a-field-requires
     switch-of-requires
-    put-a-requires
+    put-switch-requires
     unit-of-requires
-    put-back-requires-5
+    put-word-requires-4
     returns-2
     returns-3
     returns-4
     returns-5
     returns-6
-    returns-7)
+    returns-7
+    returns-8
+    returns-9)

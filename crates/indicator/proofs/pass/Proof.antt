@@ -9,15 +9,12 @@ use Rattle.indicator.proofs.pass.Tie as tie
 width-requires : tie.Need-width-requires
 width-requires c κs = search needs
 
-add-t4 : tie.Need-add-t4
-add-t4 c = omega (arith, width-most (c .before .before .args .m))
-
-shl-t6 : tie.Need-shl-t6
-shl-t6 c = omega (arith, width-most (c .before .before .before .args .m))
+pass-bits-requires : tie.Need-pass-bits-requires
+pass-bits-requires c κs = omega (arith, c .width .ensures, width-most (c .before .args .m))
 
 returns : tie.Need-returns
 unfolding pastOf
-returns c = rw (c .before .before .width .ensures)
+returns c = rw (← c .before .width .ensures) (c .pass-bits .ensures)
 
 pub pass-spec : {M : Type 1} → statement M
-pass-spec = tie.close (tie.spec width-requires add-t4 shl-t6 returns)
+pass-spec = tie.close (tie.spec width-requires pass-bits-requires returns)

@@ -1,79 +1,80 @@
 -- `changes::change_words`: what is left to do after some words is what there was to do.
 use Prim.Native.Nat.{_-_}
 use native.Mathlib.Omega.{arith}
-use lib.ListN.{length}
 use Rattle.field.specs.Field.{assignedBy}
-use Rattle.group.proofs.Loop.{Reached, reached-start, reached-end}
-use Rattle.group.proofs.LoopTurn.{turn-near, turn-ready, turn-goes, turn-stops}
+use Rattle.group.specs.HowLoop.{Reached}
+use Rattle.group.specs.HowWords.{programIn}
+use Rattle.group.proofs.Loop.{reached-end}
+use Rattle.group.proofs.LoopTurn.{many, first-here, turn-refills, turn-place, turn-ready, turn-stops}
 use borrow.Author.Needs.{needs}
 use Rattle.group.proofs.changes.change_words.Statement.{statement}
 use Rattle.group.proofs.changes.change_words.Tie as tie
 
 abbrev Inv-loop : tie.InvT-loop
-Inv-loop s lists given block marks out₀ c₀ k₀ out c k =
-    Reached (assignedBy s lists) block (marks .end) (marks .count) given out c k
+Inv-loop s lists words n out₀ end c₀ k₀ out c k = Reached (assignedBy s lists) words n (programIn words n) out c k
 
 abbrev μ-loop : tie.MeasureT-loop
-μ-loop s lists given block marks out₀ c₀ k₀ out c k = length given - k
+μ-loop s lists words n out₀ end c₀ k₀ out c k = n - k
 
 start-requires : tie.Need-start-requires Inv-loop μ-loop
-start-requires c κs = let p = c .before .before .before .before .pre .0 in
-    omega (arith, p .indicators .first, p .indicators .last, p .long)
+start-requires c κs = search needs
 
 loop-holds : tie.Need-loop-holds Inv-loop μ-loop
-loop-holds c = rw (c .start .ensures) (reached-start _ _ _ _ _ _ (c .before .before .before .before .before .pre .1))
+loop-holds c = rw (c .start .ensures) (first-here _ _ _ _ _ (c .before .before .before .before .pre) _)
 
 refill-requires : tie.Need-refill-requires Inv-loop μ-loop
-refill-requires c κs = let p = c .before .before .before .before .before .before .before .pre .0 in
-    let w = c .before .loop .inv in
-    let r = turn-near _ _ _ _ _ _ p _ _ _ _ w (c .loop-test .taken) in
-    record {
-      words = p .indicators;
-      sees = w .sees;
-      near = omega (arith, r);
-      few = omega
-          (arith, p .indicators .first, p .indicators .last, p .long);
-    }
+refill-requires c κs = turn-refills _ _ _ _ _ (c .before .before .before .before .before .before .pre) _ _ _ _
+    (c .before .loop .inv)
 
 change-next-requires : tie.Need-change-next-requires Inv-loop μ-loop
-change-next-requires c κs = turn-ready _ _ _ _ _ _
-    (c .before .before .before .before .before .before .before .before .before .pre .0) _ _ _ _
-    (c .before .before .before .loop .inv) (c .before .before .loop-test .taken) _ (c .before .refill .ensures)
+change-next-requires c κs = let up = c .before .before .before .before .before .before .before in
+    turn-ready _ _ _ _ _ (up .before .pre) _ _ _ _ (c .before .before .before .loop .inv) (c .before .before .loop-test .taken) _
+    (c .before .refill .ensures)
 
 enum-known-d : tie.Need-enum-known-d Inv-loop μ-loop
 enum-known-d c = search needs
 
 loop-less : tie.Need-loop-less Inv-loop μ-loop
-loop-less c = let e = c .before .d .given in
-    let r = turn-goes _ _ _ _ _ _
-    (c .before .before .before .before .before .before .before .before .before .before .before .before .before .before .before .pre .0) _ _ _ _ (c .before .before .before .before .before .before .before .before .before .loop .inv) (c .before .before .before .before .before .before .before .before .loop-test .taken) _ (c .before .before .before .before .before .before .before .refill .ensures) _ _ (c .before .before .before .before .before .change-next .ensures) (e .0 .0) (e .0 .1 .0) (e .1) in
-    omega (arith, r .0, r .1 .most)
+loop-less c = let up = c .before .before .before .before .before .before .before in
+    let top = up .before .before .before .before .before .before .before in
+    let e = c .before .d .given in
+    let r = c .before .before .before .before .before .change-next .ensures .goes (e .0 .0) (e .0 .1 .0) (e .1) in
+    omega (arith, r .0, r .1 .most, many _ _ _ _ _ (top .pre))
 
 loop-again : tie.Need-loop-again Inv-loop μ-loop
 loop-again c = let e = c .before .d .given in
-    turn-goes _ _ _ _ _ _
-    (c .before .before .before .before .before .before .before .before .before .before .before .before .before .before .before .pre .0) _ _ _ _ (c .before .before .before .before .before .before .before .before .before .loop .inv) (c .before .before .before .before .before .before .before .before .loop-test .taken) _ (c .before .before .before .before .before .before .before .refill .ensures) _ _ (c .before .before .before .before .before .change-next .ensures) (e .0 .0) (e .0 .1 .0) (e .1) .1
+    c .before .before .before .before .before .change-next .ensures .goes (e .0 .0) (e .0 .1 .0) (e .1) .1
 
-enum-known-f : tie.Need-enum-known-f Inv-loop μ-loop
-enum-known-f c = search needs
-
-clear-requires : tie.Need-clear-requires Inv-loop μ-loop
-clear-requires c κs = search needs
+enum-told : tie.Need-enum-told Inv-loop μ-loop
+enum-told c = search needs
 
 same-length : tie.Need-same-length Inv-loop μ-loop
-same-length c = omega
-    (arith, c .before .before .before .before .before .before .before .before .before .before .before .before .before .loop .inv .long, c .before .before .before .before .before .before .before .before .before .before .before .before .before .before .before .before .before .before .before .pre .0 .room)
+same-length c = let up = c .before .before .before .before .before .before .before in
+    omega (
+      arith,
+      c .before .before .before .before .change-next .ensures .long,
+      up .before .before .before .before .before .before .pre .room,
+    )
 
 returns : tie.Need-returns Inv-loop μ-loop
-returns c = let e = c .before .before .before .before .before .f .given in
-    turn-stops _ _ _ _ _ _
-    (c .before .before .before .before .before .before .before .before .before .before .before .before .before .before .before .before .before .before .before .pre .0) _ _ _ _ (c .before .before .before .before .before .before .before .before .before .before .before .before .before .loop .inv) (c .before .before .before .before .before .before .before .before .before .before .before .before .loop-test .taken) _ (c .before .before .before .before .before .before .before .before .before .before .before .refill .ensures) _ _ (c .before .before .before .before .before .before .before .before .before .change-next .ensures) (e .0 .0) (e .1) _ (c .before .before .clear .ensures)
+returns c = let up = c .before .before .before .before .before .before .before in
+    turn-stops _ _ _ _ _ _ (up .before .before .before .before .before .before .pre .program)
+    (c .before .before .before .before .change-next .ensures) (c .enum-told .given .1)
+
+place-requires : tie.Need-place-requires Inv-loop μ-loop
+place-requires c κs = turn-place _ _ _ _ _ (c .before .before .before .before .before .before .pre) _ _ _ _ (c .before .loop .inv)
 
 same-length-2 : tie.Need-same-length-2 Inv-loop μ-loop
-same-length-2 c = omega (arith, c .before .loop .inv .long)
+same-length-2 c = let up = c .before .before .before .before .before .before .before in
+    omega (arith, c .before .before .loop .inv .long, many _ _ _ _ _ (up .pre), up .pre .room)
 
 returns-2 : tie.Need-returns-2 Inv-loop μ-loop
-returns-2 c = reached-end _ _ _ _ _ _ _ _ (c .before .loop .inv) (c .loop-test .left)
+returns-2 c = let up = c .before .before .before .before .before .before .before in
+    rw (c .place .ensures) (reached-end _ _ _ _ _ _ _ (c .before .before .loop .inv) (omega (
+      arith,
+      many _ _ _ _ _ (up .pre),
+      c .before .loop-test .left,
+    )))
 
 pub change-words-spec : {M : Type 1} → statement M
 change-words-spec =
@@ -88,9 +89,9 @@ change-words-spec =
     enum-known-d
     loop-less
     loop-again
-    enum-known-f
-    clear-requires
+    enum-told
     same-length
     returns
+    place-requires
     same-length-2
     returns-2)

@@ -17,15 +17,15 @@ move-right-requires c κs = let e = rw (c .before .before .before .field .ensure
     let t = rw e at (c .if1 .taken) in
     (search needs, omega (arith, t))
 
-add-t10 : tie.Need-add-t10
-add-t10 c = search needs
+pass-bits-requires : tie.Need-pass-bits-requires
+pass-bits-requires c κs = search needs
 
 returns : tie.Need-returns
 unfolding movedWord
-returns c = let e = rw (c .before .before .before .before .before .before .field .ensures) at
-    (c .before .before .before .before .before .placed .ensures) in
-    let t = rw e at (c .before .before .before .if1 .taken) in
-    rw (lt-ltb _ _ t, c .before .before .move-right .ensures)
+returns c = let e = rw (c .before .before .before .before .before .field .ensures) at
+    (c .before .before .before .before .placed .ensures) in
+    let t = rw e at (c .before .before .if1 .taken) in
+    rw (lt-ltb _ _ t, c .before .move-right .ensures, c .pass-bits .ensures)
 
 returns-2 : tie.Need-returns-2
 unfolding movedWord
@@ -36,4 +36,10 @@ returns-2 c = let e = rw (c .before .before .before .field .ensures) at (c .befo
 pub moved-word-spec : {M : Type 1} → statement M
 moved-word-spec =
     tie.close
-    (tie.spec field-requires placed-requires move-right-requires add-t10 returns returns-2)
+    (tie.spec
+    field-requires
+    placed-requires
+    move-right-requires
+    pass-bits-requires
+    returns
+    returns-2)

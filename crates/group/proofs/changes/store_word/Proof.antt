@@ -1,4 +1,4 @@
--- `changes::store_word`: what became of the word is stored, or the fault given on.
+-- `changes::store_word`: what became of the word is stored, or the refusal given on.
 use mathlib.Core.Path.{refl}
 use Rattle.group.specs.HowWords.{storedStep}
 use borrow.Author.Needs.{needs}
@@ -14,11 +14,11 @@ mul-out c = search needs
 slice-write-out : tie.Need-slice-write-out
 slice-write-out c = search needs
 
-add-t8 : tie.Need-add-t8
-add-t8 c = search needs
+add-t7 : tie.Need-add-t7
+add-t7 c = search needs
 
-enum-known-r-2 : tie.Need-enum-known-r-2
-enum-known-r-2 c = search needs
+enum-told : tie.Need-enum-told
+enum-told c = search needs
 
 same-length : tie.Need-same-length
 same-length c = search needs
@@ -29,7 +29,7 @@ returns c = rw (c .before .r .given .1) (record { told = refl; left = refl })
 
 returns-2 : tie.Need-returns-2
 unfolding storedStep
-returns-2 c = rw (c .before .r2 .given .1) (record { told = refl; left = refl })
+returns-2 c = rw (c .enum-told .given .1) (record { told = refl; left = refl })
 
 pub store-word-spec : {M : Type 1} → statement M
 store-word-spec =
@@ -38,8 +38,8 @@ store-word-spec =
     enum-known-r
     mul-out
     slice-write-out
-    add-t8
-    enum-known-r-2
+    add-t7
+    enum-told
     same-length
     returns
     returns-2)

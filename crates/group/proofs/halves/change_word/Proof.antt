@@ -5,7 +5,7 @@ use denote.Ref.{now}
 use Rattle.word.specs.declared.Half.the-variants.{Left}
 use Rattle.word.specs.Word.{fieldOf}
 use Rattle.field.specs.Field.{assignedBy}
-use Rattle.indicator.proofs.Reading.{past-at-most}
+use Rattle.indicator.proofs.Reading.{past-left}
 use Rattle.group.specs.HowHalves.{bothOf}
 use Rattle.group.proofs.Both.{half-fits, half-reach}
 use borrow.Author.Needs.{needs}
@@ -26,11 +26,11 @@ right-half-requires c κs = let z = c .before .before .before .before .before in
     record {
       lists = z .pre .lists;
       word = half-fits k Left (a .w) (a .c) _ _ (z .pre .word) e;
-      near = rw (half-reach k Left (a .w) (a .c) _ _ e) (omega (arith, past-at-most (a .c) (fieldOf Left (a .w)), z .pre .near));
+      near = rw (half-reach k Left (a .w) (a .c) _ _ e) (omega (arith, past-left (a .c) (fieldOf Left (a .w)), z .pre .near));
     }
 
-enum-known-f : tie.Need-enum-known-f
-enum-known-f c = search needs
+enum-told : tie.Need-enum-told
+enum-told c = search needs
 
 returns : tie.Need-returns
 unfolding bothOf
@@ -39,9 +39,9 @@ returns c = rw (sym (c .before .before .before .before .left-half .ensures), c .
 
 returns-2 : tie.Need-returns-2
 unfolding bothOf
-returns-2 c = rw (sym (c .before .before .before .left-half .ensures), c .before .f .given .1)
+returns-2 c = rw (sym (c .before .before .left-half .ensures), c .enum-told .given .1)
 
 pub change-word-spec : {M : Type 1} → statement M
 change-word-spec =
     tie.close
-    (tie.spec left-half-requires enum-known-v right-half-requires enum-known-f returns returns-2)
+    (tie.spec left-half-requires enum-known-v right-half-requires enum-told returns returns-2)

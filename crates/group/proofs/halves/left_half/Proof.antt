@@ -1,63 +1,54 @@
--- `halves::left_half`: an indicator without change leaves the word; any other is one field step.
-use mathlib.Core.Path.{sym, _∙_}
+-- `halves::left_half`: a bit 0 leaves the word; else it is one field step, by the type that comes next.
+use mathlib.Core.Path.{_∙_}
+use native.Mathlib.Omega.{arith}
 use denote.Ref.{now}
 use Rattle.word.specs.declared.Half.the-variants.{Left}
 use Rattle.field.specs.Field.{assignedBy}
-use Rattle.group.proofs.Both.{half-stays, half-changes}
+use Rattle.group.proofs.Both.{half-same, half-steps}
 use borrow.Author.Needs.{needs}
 use Rattle.group.proofs.halves.left_half.Statement.{statement}
 use Rattle.group.proofs.halves.left_half.Tie as tie
 
-field-requires : tie.Need-field-requires
-field-requires c κs = search needs
-
-look-requires : tie.Need-look-requires
-look-requires c κs = search needs
-
-same-in-requires : tie.Need-same-in-requires
-same-in-requires c κs = search needs
-
-pass-requires : tie.Need-pass-requires
-pass-requires c κs = search needs
+pass-bits-requires : tie.Need-pass-bits-requires
+pass-bits-requires c κs = search needs
 
 returns : tie.Need-returns
-returns c = let a = c .before .before .before .before .before .before .args in
-    half-stays (assignedBy (a .s) (now (a .lists))) Left (a .w) _ (a .c) _ (c .before .before .before .before .field .ensures)
-    (c .before .before .before .look .ensures) _ (sym (c .before .before .same-in .ensures) ∙ c .before .if1 .taken)
-    (c .pass .ensures)
+returns c = let a = c .before .before .before .before .args in
+    rw (c .pass-bits .ensures, half-same (assignedBy (a .s) (now (a .lists))) Left (a .w) (a .c) (c .before .if1 .taken))
 
-type-in-requires : tie.Need-type-in-requires
-type-in-requires c κs = search needs
+bits-requires : tie.Need-bits-requires
+bits-requires c κs = search needs
 
-more-in-requires : tie.Need-more-in-requires
-more-in-requires c κs = search needs
+bits-requires-2 : tie.Need-bits-requires-2
+bits-requires-2 c κs = search needs
+
+pass-bits-requires-2 : tie.Need-pass-bits-requires-2
+pass-bits-requires-2 c κs = search needs
 
 left-step-requires : tie.Need-left-step-requires
 left-step-requires c κs = search needs
 
 passed-requires : tie.Need-passed-requires
-passed-requires c κs = search needs
+passed-requires c κs = let up = c .before .before .before .before .before .before .before in
+    rw (c .before .pass-bits2 .ensures) (omega (arith, up .pre .near))
 
 returns-2 : tie.Need-returns-2
-returns-2 c = let a = c .before .before .before .before .before .before .before .before .before .args in
-    half-changes (assignedBy (a .s) (now (a .lists))) Left (a .w) _ (a .c) _
-    (c .before .before .before .before .before .before .before .field .ensures)
-    (c .before .before .before .before .before .before .look .ensures) _ _ _ _
-    (sym (c .before .before .before .before .before .same-in .ensures) ∙ c .before .before .before .before .if1 .left)
-    (c .before .before .before .type-in .ensures) (c .before .before .more-in .ensures) (c .before .left-step .ensures)
-    (c .passed .ensures)
+returns-2 c = let up = c .before .before .before .before .before .before .before in
+    let a = up .before .args in
+    c .passed .ensures
+    ∙ rw (c .before .before .pass-bits2 .ensures) (half-steps (assignedBy (a .s) (now (a .lists))) Left (a .w) (a .c) _ _ _
+    (c .before .before .before .before .before .if1 .left) (c .before .before .before .before .bits .ensures)
+    (c .before .before .before .bits2 .ensures) (c .before .left-step .ensures))
 
 pub left-half-spec : {M : Type 1} → statement M
 left-half-spec =
     tie.close
     (tie.spec
-    field-requires
-    look-requires
-    same-in-requires
-    pass-requires
+    pass-bits-requires
     returns
-    type-in-requires
-    more-in-requires
+    bits-requires
+    bits-requires-2
+    pass-bits-requires-2
     left-step-requires
     passed-requires
     returns-2)

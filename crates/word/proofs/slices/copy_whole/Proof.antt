@@ -34,8 +34,11 @@ loop-again : tie.Need-loop-again Inv-loop μ-loop
 loop-again c =
     let k = c .before .before in
     let l = k .before .before .before .loop in
-    let a = k .before .before .before .before .before .before .args in
-    (omega arith, omega arith, rw (k .copy-eight .ensures) (alike-more (l .dst) (now (a .src)) (l .i) 8 (omega arith) (omega arith) (l .inv .2)))
+    let a = k .before .before .before .before .before .before .args in (
+      omega arith,
+      omega arith,
+      rw (k .copy-eight .ensures) (alike-more (l .dst) (now (a .src)) (l .i) 8 (omega arith) (omega arith) (l .inv .2)),
+    )
 
 mul-copy-in : tie.Need-mul-copy-in Inv-loop μ-loop
 mul-copy-in c = omega arith

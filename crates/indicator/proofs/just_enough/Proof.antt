@@ -1,8 +1,8 @@
 -- `just_enough`: the tests of the code are those of the definition.
 use borrow.Author.Tests.{le-leb, lt-leb}
 use borrow.Author.Needs.{needs}
-use Rattle.group.proofs.just_enough.Statement.{statement}
-use Rattle.group.proofs.just_enough.Tie as tie
+use Rattle.indicator.proofs.just_enough.Statement.{statement}
+use Rattle.indicator.proofs.just_enough.Tie as tie
 
 mul-if1 : tie.Need-mul-if1
 mul-if1 c = search needs
