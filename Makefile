@@ -15,7 +15,7 @@ help:
 	@echo 'make install   both, and clamp.pc for pkg-config, below PREFIX ($(PREFIX)), or DESTDIR/PREFIX'
 	@echo 'make load <FILE         the load printer on a file of octal lines'
 	@echo 'make deck      the load printer on the hand deck'
-	@echo 'make test      the tests outside Rattle: the library by programs in C, the header, the install, the load printer'
+	@echo 'make test      the tests outside Rattle: the library by programs in C, its stack, the header, the install, the load printer'
 	@echo 'make fuzz SECONDS=60    the library and the second loader compared for this many seconds, with a seed from the clock'
 	@echo 'make check     the gate: every crate proved from nothing, every wrong loader refused, and the tests'
 	@echo 'make clean     removes build/ and target/: everything is then proved again'

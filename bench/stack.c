@@ -1,6 +1,6 @@
 /* How much stack each call takes. The call runs on a stack that was filled with a pattern; what is no longer pattern was used.
    Prints for each call its name, a tab, and the most of many, in bytes below the caller's own frame (with the return address). Run
-   by bench/run. */
+   by bench/run and by tests/stack. */
 #include <string.h>
 #include <ucontext.h>
 
@@ -60,9 +60,13 @@ static void note(unsigned which, void (*call)(void), uint64_t code) {
     most[which] = d;
 }
 
-/* The load at place 0, to its end, with each block refused once before (12) and every shape of program block; a broken load too. */
-static void feed_file(void) {
+static void seal(unsigned at) { block[at] = reader_checksum(block, at); }
+
+/* Up to the groups of the segment section. The file has one table section besides. */
+static void feed_head(void) {
   write_label_block(block, full);
+  block[SECTIONS_WORD] = put(block[SECTIONS_WORD], 15, 0, 1);
+  seal(LABEL_CHECKSUM_WORD);
   note(FEED, feed, CLAMP_MORE);
   for (unsigned i = entries_blocks(full); i > 0; i--) {
     write_entries_block(block);
@@ -70,6 +74,26 @@ static void feed_file(void) {
   }
   write_segment_block(block);
   note(FEED, feed, CLAMP_MORE);
+}
+
+/* The section of table 0: its word, and one group, its last, of which every half is changed. A group of a block with many is short
+   enough for the table. */
+static void write_table_block(void) {
+  enum { MANY_GROUPS = 32, GROUP_WORD = FIRST_WORD + 1 };
+  unsigned words, past;
+  write_group_block(block, DENSE, full, MANY_GROUPS);
+  words = 1 + (unsigned)part(block[FIRST_WORD], 33, 26);
+  past = GROUP_WORD + words;
+  memmove(block + GROUP_WORD, block + FIRST_WORD, words * sizeof *block);
+  memset(block + past, 0, (CHECKSUM_WORD - past) * sizeof *block);
+  block[FIRST_WORD] = put(0, 35, 34, KIND_TABLE_SECTION) | put(0, 33, 18, TABLE_WORDS);
+  block[GROUP_WORD] |= bit_at(17) | bit_at(16);
+  seal(CHECKSUM_WORD);
+}
+
+/* The load at place 0, to its end: every shape of program block, each refused once besides (12), and a table section. */
+static void feed_file(void) {
+  feed_head();
   for (enum shape shape = PLAIN; shape < SHAPES; shape++) {
     write_group_block(block, shape, full, 1);
     note(FEED, feed, CLAMP_MORE);
@@ -78,9 +102,52 @@ static void feed_file(void) {
   }
   write_last_block(block);
   note(FEED, feed, CLAMP_MORE);
+  write_table_block();
+  note(FEED, feed, CLAMP_MORE);
   write_termination_block(block);
   note(FEED, feed, CLAMP_DONE);
   note(FEED, feed, CLAMP_REFUSED_ENDED);
+}
+
+/* A field that is refused: bits of one of the first program words of a dense group, and what they become. */
+static const struct fault {
+  unsigned word, high, low;
+  uint64_t value, code;
+} faults[] = {
+    {1, 33, 33, 1, CLAMP_REFUSED_FORM},                /* left, type 001 with bit 15 set */
+    {2, 15, 0, ENTRIES_MOST, CLAMP_REFUSED_REFERENCE}, /* right, type 111, past the last unit */
+    {0, 15, 0, VALUE_MOST, CLAMP_REFUSED_VALUE},       /* right, type 000, and no area but the first is at 0 */
+};
+
+/* The group in which it stands: of the segment section; of the same with an indicator word too many, which is refused first; of a
+   table section. */
+enum group { SEGMENT, MISCOUNTED, TABLE, GROUPS };
+
+static void feed_fault(struct fault fault, enum group group) {
+  unsigned at = FIRST_WORD + (group == TABLE) + 1 + fault.word;
+  feed_head();
+  if (group == TABLE) {
+    write_last_block(block);
+    note(FEED, feed, CLAMP_MORE);
+    write_table_block();
+  } else {
+    write_group_block(block, DENSE, full, 1);
+  }
+  block[at] = put(block[at], fault.high, fault.low, fault.value);
+  if (group == MISCOUNTED)
+    block[FIRST_WORD] = put(block[FIRST_WORD], 25, 18, part(block[FIRST_WORD], 25, 18) - 1);
+  seal(CHECKSUM_WORD);
+  note(FEED, feed, group == MISCOUNTED ? CLAMP_REFUSED_GROUP : fault.code);
+}
+
+/* Where a field is refused the words of its group are gone through again. Each breaks its load: those from this place on. */
+static void feed_faults(uint64_t first) {
+  enum { FAULTS = sizeof faults / sizeof faults[0] };
+  for (unsigned k = 0; k < GROUPS * FAULTS; k++) {
+    place = first + k;
+    room = room_of(place);
+    feed_fault(faults[k % FAULTS], (enum group)(k / FAULTS));
+  }
 }
 
 int main(void) {
@@ -96,10 +163,11 @@ int main(void) {
   note(OPEN, open, CLAMP_REFUSED_HOLDS_TWO);
   room = place = 0;
   feed_file();
+  feed_faults(2);
   room = place = 1;
   write_label_block(block, full);
   block[TYPE_FLAG_WORD] = 0;
-  block[LABEL_CHECKSUM_WORD] = reader_checksum(block, LABEL_CHECKSUM_WORD);
+  seal(LABEL_CHECKSUM_WORD);
   note(FEED, feed, CLAMP_REFUSED_TYPE_FLAG);
   note(RELEASE, release, CLAMP_RELEASED);
   note(RELEASE, release, CLAMP_REFUSED_PLACE);
