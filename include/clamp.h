@@ -74,11 +74,12 @@
    loads, and bring both back together: a load that goes on over another core ends in another image, and no call can tell. A desk
    is for the library that made it: save CLAMP_VERSION_STRING beside it.
 
-   Stack. Measured, the most of many calls: 2,736 bytes in open, 2,784 in feed, 448 in release, 160 in make (docs/PERFORMANCE.md). The
-   first call that copies memory may take some 3 KB more, where the dynamic linker then looks for memcpy. No call is recursive.
+   Stack. Measured, the most of many calls: 2,624 bytes in open, 848 in feed, 336 in release, 64 in make (docs/PERFORMANCE.md). The
+   tests fail where open takes over 3,072 or another call over 1,024. The first call that copies or clears memory may take some 3 KB
+   more, where the dynamic linker then looks for memcpy or memset. No call is recursive.
 
    Cost. Every call tests the whole desk: some 400 instructions with one load of few tables, 8,700 with twelve loads of 128 tables
-   each. To that a program block adds from 1,300 (no field changed) to 25,000 (every field), and open has the area to clear and the
+   each. To that a program block adds from 1,300 (no field changed) to 22,000 (every field), and open has the area to clear and the
    tables to sort. No call waits, calls the operating system or calls back.
 
    A call that does not return (longjmp out of a signal handler, a thread that is ended) may leave any desk and core: make the desk
