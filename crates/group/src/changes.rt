@@ -17,22 +17,19 @@ use crate::halves::WordChange;
 use field::Assigned;
 use field::VALUE_LIMIT;
 use indicator::Cursor;
+use indicator::FEW;
+use indicator::NEXT_BIT;
 use word::Area;
 use word::Half;
 use word::Relative;
 
-// Of the 64 bits ahead: what is below where the next is 0, a left half without change; the next five, where 01000 is no change and
-// then type 000, the commonest change; and what is below where the next two are 0, a word without change.
-const LEFT_SAME: u64 = 1 << 63;
-
+// Of the 64 bits ahead: the next five, where 01000 is no change and then type 000, the commonest change; and what is below where the
+// next two are 0, a word without change.
 const FIVE_BITS: u64 = 1 << 59;
 
 const MOVED: u64 = 8;
 
 const NO_CHANGE: u64 = 1 << 62;
-
-// As many bits at hand, or fewer, and a word more of the indicators may be wanted.
-const FEW: usize = 28;
 
 // Where the loop stands: the cursor before the indicators of the next program word, and that word's number.
 pub struct Progress {
@@ -123,7 +120,7 @@ fn change_next(
 {
     let c = p.cursor;
     let k = p.word;
-    if c.ahead < LEFT_SAME {
+    if c.ahead < NEXT_BIT {
         if c.ahead / FIVE_BITS == MOVED {
             return move_words(s, lists, words, n, p, out);
         }

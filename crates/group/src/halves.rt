@@ -7,9 +7,7 @@ ghost use Rattle.group.specs.HowHalves.{passedBits, halfOf, bothOf, Half
 use field::Assigned;
 use field::Stepped;
 use indicator::Cursor;
-
-// The next bit, which tells a change.
-const CHANGE: u64 = 1 << 63;
+use indicator::NEXT_BIT;
 
 // What a word becomes and the cursor past its indicators; or that one of its fields is refused.
 pub enum WordChange {
@@ -33,7 +31,7 @@ fn left_half(s: Assigned, lists: &[u64], c: Cursor, w: u64) -> WordChange
     requires { ⌜ HalfReady (s .given) (now lists) w c 13 ⌝ }
     ensures { λ r. ⌜ r ≡ halfOf (assignedBy s (now (lists .entry))) Left w c ⌝ }
 {
-    if c.ahead < CHANGE {
+    if c.ahead < NEXT_BIT {
         return WordChange::Next(w, indicator::pass_bits(c, 1));
     }
     let t = word::bits(c.ahead, 62, 60);
@@ -46,7 +44,7 @@ fn right_half(s: Assigned, lists: &[u64], c: Cursor, w: u64) -> WordChange
     requires { ⌜ HalfReady (s .given) (now lists) w c 13 ⌝ }
     ensures { λ r. ⌜ r ≡ halfOf (assignedBy s (now (lists .entry))) Right w c ⌝ }
 {
-    if c.ahead < CHANGE {
+    if c.ahead < NEXT_BIT {
         return WordChange::Next(w, indicator::pass_bits(c, 1));
     }
     let t = word::bits(c.ahead, 62, 60);

@@ -11,11 +11,11 @@ ghost use Rattle.indicator.specs.HowCursor.{pastWord, refilled, plainWor
 use word::Half;
 use word::WORD_BITS;
 
-// The next bit, first of the 64 at hand.
-const NEXT_BIT: u64 = 1 << 63;
+// The next bit, first of the 64 at hand: 0 for no change.
+pub const NEXT_BIT: u64 = 1 << 63;
 
 // How many bits at hand leave room for a word behind them: 64 less 36.
-const FEW: usize = 28;
+pub const FEW: usize = 28;
 
 // More bits than any group reads.
 const ENDLESS: usize = 1 << 16;
