@@ -1,2 +1,4 @@
 pub mod Digits
+pub mod Spelt
 pub mod Text
+pub mod Written

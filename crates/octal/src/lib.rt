@@ -1,8 +1,10 @@
-// The text of a block, as programs read it: 256 lines of 12 octal digits.
+// The text of a block, as programs read and write it: 256 lines of 12 octal digits.
 ghost use mathlib.Core.Path.{_≡_};
-ghost use Prim.Native.Nat.{_+_, _≤_};
+ghost use Prim.Native.Nat.{_+_, _≤_, _<_};
 ghost use lib.ListN.{length};
+ghost use Rattle.word.specs.Lists.{splice};
 ghost use Rattle.octal.specs.Lines.{lineAt, isGood, wordOf, isBlock, blockOf, isWhole, ended, textBytes, lineCount};
+ghost use Rattle.octal.specs.Text.{digit, lineOf, textOf};
 
 // The digits of a line, its bytes with the newline, the lines of a block, and the bytes of a block's text.
 const DIGITS: usize = 12;
@@ -81,6 +83,39 @@ pub fn read_lines(text: &[u8], block: &mut [u64]) -> bool
         i += 1;
     }
     good
+}
+
+// The text of the block, into a text of its length.
+pub fn write_lines(block: &[u64], text: &mut [u8])
+    requires { ⌜ (length (now block) ≡ lineCount) × (length (now text) ≡ textBytes) ⌝ }
+    ensures { λ _. ⌜ now (text .exit) ≡ textOf (now (block .entry)) ⌝ }
+{
+    let mut i: usize = 0;
+    while i < LINES {
+        write_line(text, i * LINE, block[i]);
+        i += 1;
+    }
+}
+
+// The line of w, in the text from place a on.
+fn write_line(text: &mut [u8], a: usize, w: u64)
+    requires { ⌜ a + 13 ≤ length (now text) ⌝ }
+    ensures { λ _. ⌜ now (text .exit) ≡ splice (now (text .entry)) a (lineOf w) ⌝ }
+{
+    let mut i: usize = 0;
+    while i < DIGITS {
+        text[a + i] = digit_at(w, i);
+        i += 1;
+    }
+    text[a + DIGITS] = NEWLINE;
+}
+
+// The digit of w that has i digits before it: three bits of it, in ASCII.
+fn digit_at(w: u64, i: usize) -> u8
+    requires { ⌜ i < 12 ⌝ }
+    ensures { λ r. ⌜ r ≡ digit w i ⌝ }
+{
+    DIGIT_0 + ((w >> (33 - 3 * i)) % 8) as u8
 }
 
 fn is_good(l: Line) -> bool
