@@ -1,12 +1,12 @@
 // The load printer: feeds room 0 the blocks on standard input, 256 lines of 12 octal digits each, and prints what is answered to
 // each (01, "The hand deck").
-ghost use mathlib.Core.Path.{_≡_};
-ghost use lib.ListN.{length};
-ghost use Rattle.word.specs.Limits.{wordsInBlock};
 use calls::Answer;
+use console::Input;
+use console::read_block;
+use console::say;
+use console::say_line;
+use console::say_number;
 use layout::DESK_WORDS;
-use libc::STDIN_FILENO;
-use libc::STDOUT_FILENO;
 use word::Absolute;
 use word::Area;
 use word::limits::MAP_WORDS;
@@ -18,50 +18,14 @@ const AREA: u64 = 512;
 
 const AREA_WORDS: u64 = 64;
 
-// What comes next on standard input.
-pub enum Input {
-    End,
-    Block,
-    Bad,
-}
-
-fn say(text: &[u8]) {
-    io::write_all(STDOUT_FILENO, text);
-}
-
-fn say_number(text: &[u8], n: u64) {
-    say(text);
-    io::print_decimal(STDOUT_FILENO, n);
-    say(b"\n");
-}
-
 // The block's index and what feed answers; the other answers are of the other calls.
 fn say_answer(index: u64, a: Answer) {
-    io::print_decimal(STDOUT_FILENO, index);
+    say_number(index);
     match a {
         Answer::More => say(b" more\n"),
-        Answer::Done(start) => say_number(b" done ", start.0),
-        Answer::Refused(f) => say_number(b" refused ", f.number),
+        Answer::Done(start) => say_line(b" done ", start.0),
+        Answer::Refused(f) => say_line(b" refused ", f.number),
         _ => say(b"\n"),
-    }
-}
-
-// The next block.
-fn read_block(block: &mut [u64]) -> Input
-    requires { ⌜ length (now block) ≡ wordsInBlock ⌝ }
-{
-    let mut text = [0u8; octal::TEXT];
-    let n = io::read_full(STDIN_FILENO, &mut text);
-    if n == 0 {
-        return Input::End;
-    }
-    if !octal::end_text(&mut text, n) {
-        return Input::Bad;
-    }
-    if octal::read_lines(&text, block) {
-        Input::Block
-    } else {
-        Input::Bad
     }
 }
 
@@ -71,7 +35,7 @@ fn feed_next(desk: &mut [u64], core: &mut [u64], place: u64, index: u64) -> bool
     match read_block(&mut block) {
         Input::End => false,
         Input::Bad => {
-            say(b"input bad\n");
+            console::say_bad();
             false
         }
         Input::Block => {
