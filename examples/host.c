@@ -117,12 +117,15 @@ static struct load another = {
     .tape = {WORKED_BLOCKS, worked, 0, WORKED_BLOCKS},
 };
 
-/* The checksum: the sum of the other words, its upper half added to its lower. It is word 254 of a label and word 255 elsewhere. */
+/* The checksum: the sum of the other words, each carry out of bit 35 added back at bit 0; then its upper half added to its lower. It
+   is word 254 of a label and word 255 elsewhere. */
 static void seal(uint64_t *block, unsigned at) {
   uint64_t sum = 0;
   block[at] = 0;
-  for (unsigned i = 0; i < BLOCK_WORDS; i++)
+  for (unsigned i = 0; i < BLOCK_WORDS; i++) {
     sum += block[i];
+    sum = (sum & 0777777777777) + (sum >> 36);
+  }
   block[at] = (sum >> 18 & 0777777) + (sum & 0777777);
 }
 

@@ -6,7 +6,8 @@
      differ --seconds N SEED     rounds for so many seconds
 
    It ends with a line 'N passed, M failed', N being the calls compared. The first difference ends it, and tells the seed of its
-   round: differ SEED 1 does that round again. An answer or a kind of fault that was never seen is a failure too. */
+   round: differ SEED 1 does that round again. An answer or a kind of fault that was never seen is a failure too, and so is it where
+   blocks were never seen in whose sum no carry arises, or one, or several. */
 
 #include <inttypes.h>
 #include <stdio.h>
@@ -84,6 +85,10 @@ static bool print_table(void) {
       printf("never seen: %s\n", fault_text(fault));
     all = all && faults_seen[fault] > 0;
   }
+  for (unsigned carries = 0; carries < 3; carries++)
+    all = all && carries_seen[carries] > 0;
+  printf("blocks with no carry in the sum: %" PRIu64 ", with one: %" PRIu64 ", with several: %" PRIu64 "\n", carries_seen[0],
+         carries_seen[1], carries_seen[2]);
   printf("desks with one number changed: %" PRIu64 ", refused %" PRIu64 "\n", changed_desks, changed_desks_refused);
   return all;
 }

@@ -1,4 +1,5 @@
-/* reader.c: the calls of reader.h. Sentences in quotes are 01's. Every test stands in the order in which 01 has it made. */
+/* reader.c: the calls of reader.h. Sentences in quotes are 01's, where no request of 02 is named. Every test stands in the order in
+   which 01 has it made. */
 
 #include "reader.h"
 
@@ -584,12 +585,17 @@ static unsigned read_termination(struct load *load, const uint64_t *block) {
 
 /* ---- feed */
 
-/* "Sum the other 255 words, drop overflow above bit 35, and add the upper 18 bits of the result to the lower 18" */
+/* "Sum the other 255 words, drop overflow above bit 35, and add the upper 18 bits of the result to the lower 18". Request #104: "a
+   carry out of bit 35 is added back at bit 0, each time one arises". */
 uint64_t reader_checksum(const uint64_t *block, unsigned at) {
   uint64_t sum = 0;
-  for (unsigned i = 0; i < WORDS_IN_BLOCK; i++)
+  for (unsigned i = 0; i < WORDS_IN_BLOCK; i++) {
+    if (i == at)
+      continue;
     sum += block[i];
-  sum -= block[at];
+    if (bit(sum, 36))
+      sum = part(sum, 35, 0) + 1;
+  }
   return part(sum, 35, 18) + part(sum, 17, 0);
 }
 

@@ -1,4 +1,5 @@
-/* deck.c: the hand deck of 01. Both loaders must answer as 01 says, so that two wrong in the same way do not pass. */
+/* deck.c: the hand deck of 01, with the checksums of request #104. Both loaders must answer as 01 says, so that two wrong in the
+   same way do not pass. */
 
 #include "deck.h"
 
@@ -33,20 +34,23 @@ static void check_identifiers(void) {
   check(fieldata("*TRMRC") == TRMRC, "*TRMRC");
 }
 
-/* "word sum 0 gives checksum 0; one word 2^36-1 gives 524,286; two give 524,285." */
+/* "word sum 0 gives checksum 0; one word 2^36-1 gives 524,286"; two gave 524,285, and by request #104 "now give 524,286". A third
+   word, 1, gives another carry, and 1 is left: were what ran over added back once, after the last word, it would run over again. */
 static void check_checksums(void) {
-  static const uint64_t sums[3] = {0, 524286, 524285};
+  const uint64_t most = bit_at(BITS_IN_WORD) - 1, words[3] = {most, most, 1};
+  static const uint64_t sums[4] = {0, 524286, 524286, 1};
   uint64_t block[WORDS_IN_BLOCK] = {0};
-  for (unsigned words = 0; words < 3; words++) {
-    for (unsigned i = 0; i < words; i++)
-      block[FIRST_WORD + i] = bit_at(BITS_IN_WORD) - 1;
-    check(reader_checksum(block, CHECKSUM_WORD) == sums[words], "checksum of the reader");
+  for (unsigned count = 0; count <= 3; count++) {
+    if (count > 0)
+      block[FIRST_WORD + count - 1] = words[count - 1];
+    check(reader_checksum(block, CHECKSUM_WORD) == sums[count], "checksum of the reader");
     seal(block, false);
-    check(block[CHECKSUM_WORD] == sums[words], "checksum of the generator");
+    check(block[CHECKSUM_WORD] == sums[count], "checksum of the generator");
   }
 }
 
-/* The three blocks of the load printer, as 01 writes them: it prints "0 more", "1 more", "2 done 512". */
+/* The three blocks of the load printer, as 01 writes them, but "the hand deck's program block ends 000001146451" (#104): it prints
+   "0 more", "1 more", "2 done 512". */
 static void check_printed_deck(void) {
   enum { CORE = 4096, AREA = 512, SIZE = 64 };
   static const struct at label[] = {{0, 0060505050505},
@@ -61,7 +65,7 @@ static void check_printed_deck(void) {
                                       {5, 0401001400000},
                                       {6, 0000000000007},
                                       {7, 0200000000000},
-                                      {255, 0000001146450},
+                                      {255, 0000001146451},
                                       {0, 0}};
   static const struct at termination[] = {{0, 0503127222710}, {255, 0000000726037}, {0, 0}};
   struct numbers none = {.count = 0}, blocks[3] = {deck_block(label), deck_block(program), deck_block(termination)};

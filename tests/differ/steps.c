@@ -4,7 +4,7 @@
 
 #include <string.h>
 
-uint64_t faults_seen[FAULT_KINDS];
+uint64_t faults_seen[FAULT_KINDS], carries_seen[3];
 
 /* What is fed to each place, and whether what comes of it is still foretold. */
 static struct file *files[PLACES];
@@ -174,11 +174,20 @@ static void check_image(const struct file *file, uint64_t answer) {
 }
 
 static void feed(unsigned place) {
-  const struct file *file = files[place];
+  struct file *file = files[place];
   struct numbers block = next_block_of(place);
+  bool label = next_block[place] == 0;
   uint64_t answer = both_feed(core_length, reader.places[place].room, place, &block, foretell(place));
-  if (foretold[place] && file->faulty && next_block[place] == file->fault_block)
+  uint64_t carries = carries_in(block.at, label);
+  carries_seen[carries < 2 ? carries : 2]++;
+  if (foretold[place] && file->faulty && next_block[place] == file->fault_block) {
     faults_seen[file->wanted]++;
+    if (file->fault_answer == REFUSED_CHECKSUM) { /* it has changed nothing: the file goes on with this block, sealed by the rule */
+      seal(file->blocks[file->fault_block], label);
+      file->faulty = false;
+      return;
+    }
+  }
   if (foretold[place] && !file->faulty && CLAMP_CODE(answer) == DONE)
     check_image(file, answer);
   next_block[place]++;

@@ -6,6 +6,7 @@
 #include "both.h"
 
 extern uint64_t faults_seen[FAULT_KINDS];             /* how often each kind of fault was fed */
+extern uint64_t carries_seen[3];                      /* blocks fed in whose sum no carry, one and several arise */
 extern uint64_t changed_desks, changed_desks_refused; /* desks with one number changed, and how many of those were refused */
 
 /* Forgets all loads; for a desk that was just made. */

@@ -84,7 +84,10 @@ static void turn_bits(struct chance *chance, uint64_t *block) {
 
 static void block_faults(struct chance *chance, struct file *file) {
   unsigned later = (unsigned)between(chance, 1, file->count - 1), one = (unsigned)below(chance, file->count);
-  if (file->wanted == RECORD) {
+  if (file->wanted == OLD_SEAL) {
+    if (seal_as_before(file->blocks[one], one == 0))
+      mark(file, one);
+  } else if (file->wanted == RECORD) {
     file->blocks[later][IDENTIFIER_WORD] = other_identifier(chance, file->blocks[later][IDENTIFIER_WORD]);
     seal(file->blocks[later], false);
     mark(file, later);

@@ -32,6 +32,7 @@ uint64_t any_bit(struct chance *chance, uint64_t bits);                 /* one o
 enum { NOT_FORETOLD = 0 };
 
 #define FAULTS(X)                                                                             \
+  X(OLD_SEAL, REFUSED_CHECKSUM, "a block sealed by the rule before request #104")             \
   X(RECORD, REFUSED_RECORD, "a block of another record")                                      \
   X(TYPE_FLAG, REFUSED_TYPE_FLAG, "another program type")                                     \
   X(TYPE_FLAG_THEN_LABEL, REFUSED_TYPE_FLAG, "another program type, and a later label fault") \
@@ -145,6 +146,13 @@ void file_drop(struct file *file);
 
 /* Sets a block's checksum word, word 254 of a label and word 255 elsewhere. */
 void seal(uint64_t *block, bool label);
+
+/* Sets it, in a block that is sealed, by the rule before request #104: every carry out of bit 35 was dropped. Gives whether the two
+   rules differ here. */
+bool seal_as_before(uint64_t *block, bool label);
+
+/* How many carries arise out of bit 35 when the block is sealed. */
+uint64_t carries_in(const uint64_t *block, bool label);
 
 /* Six characters as a word: capital letters, digits, space, hyphen and asterisk. */
 uint64_t fieldata(const char *characters);

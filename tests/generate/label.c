@@ -222,5 +222,5 @@ void write_label(struct writer *writer) {
     block[NAME_AGAIN_WORD] ^= any_bit(writer->chance, BITS_IN_WORD);
   if (writer->file->channels > 0 && wants(writer, CHANNEL_OVER_15))
     mark(writer->file, 0);
-  seal(block, true);
+  close_block(writer, SECTIONS_WORD - 1, true);
 }

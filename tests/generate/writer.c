@@ -75,13 +75,40 @@ uint64_t fieldata(const char *characters) {
   return word;
 }
 
-void seal(uint64_t *block, bool label) {
-  unsigned at = label ? LABEL_CHECKSUM_WORD : CHECKSUM_WORD;
+/* ---- checksums */
+
+static const uint64_t word_most = ((uint64_t)1 << BITS_IN_WORD) - 1;
+
+static unsigned checksum_place(bool label) {
+  return label ? LABEL_CHECKSUM_WORD : CHECKSUM_WORD;
+}
+
+/* The other words, added with no carry taken out. */
+static uint64_t total(const uint64_t *block, bool label) {
   uint64_t sum = 0;
-  block[at] = 0;
   for (int i = 0; i < WORDS_IN_BLOCK; i++)
     sum += block[i];
-  block[at] = part(sum, 35, 18) + part(sum, 17, 0);
+  return sum - block[checksum_place(label)];
+}
+
+/* A carry that is added back takes 2^36 - 1 from the sum, and one arises for as long as more than that would be left. */
+uint64_t carries_in(const uint64_t *block, bool label) {
+  uint64_t sum = total(block, label);
+  return sum == 0 ? 0 : (sum - 1) / word_most;
+}
+
+static uint64_t folded(uint64_t sum) {
+  return part(sum, 35, 18) + part(sum, 17, 0);
+}
+
+void seal(uint64_t *block, bool label) {
+  block[checksum_place(label)] = folded(total(block, label) - carries_in(block, label) * word_most);
+}
+
+bool seal_as_before(uint64_t *block, bool label) {
+  uint64_t *word = &block[checksum_place(label)], right = *word;
+  *word = folded(total(block, label));
+  return *word != right;
 }
 
 /* ---- the writer */
@@ -131,15 +158,26 @@ void begin_block(struct writer *writer, uint64_t identifier) {
     fprintf(stderr, "generate: over %d blocks\n", BLOCKS_MOST);
     abort();
   }
+  unsigned zeros = one_in(writer->chance, 2) ? 0 : (unsigned)below(writer->chance, BITS_IN_WORD + 1);
   writer->file->count++;
   for (int i = 0; i < WORDS_IN_BLOCK; i++)
-    block_of(writer)[i] = any_word(writer->chance);
+    block_of(writer)[i] = any_word(writer->chance) >> zeros;
   block_of(writer)[IDENTIFIER_WORD] = identifier;
   writer->at = FIRST_WORD;
 }
 
+void close_block(struct writer *writer, unsigned spare, bool label) {
+  uint64_t *block = block_of(writer), sum = total(block, label) - block[spare];
+  if (one_in(writer->chance, 3))
+    block[spare] = part(0 - sum - below(writer->chance, (sum >> BITS_IN_WORD) + 3), BITS_IN_WORD - 1, 0);
+  seal(block, label);
+}
+
 void end_block(struct writer *writer) {
-  seal(block_of(writer), false);
+  if (writer->at <= LAST_WORD)
+    close_block(writer, LAST_WORD, false);
+  else
+    seal(block_of(writer), false);
 }
 
 void write_word(struct writer *writer, uint64_t word) {

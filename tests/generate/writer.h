@@ -33,8 +33,14 @@ bool fires_sometime(struct writer *writer, enum fault fault);
 
 /* ---- blocks */
 
-void begin_block(struct writer *writer, uint64_t identifier); /* all its other words by chance */
-void end_block(struct writer *writer);
+/* All its other words by chance, often with zeros in front: their sum then has few carries or none. */
+void begin_block(struct writer *writer, uint64_t identifier);
+
+/* Seals it. One time in three word `spare`, which is not read, first brings the plain sum just below a multiple of 2^36: there the
+   carries that are added back are enough to carry once more, or not quite. */
+void close_block(struct writer *writer, unsigned spare, bool label);
+void end_block(struct writer *writer); /* the same of a block other than the label, the words of which from `at` on are not read */
+
 uint64_t *block_of(const struct writer *writer); /* the block that is written */
 void write_word(struct writer *writer, uint64_t word);
 

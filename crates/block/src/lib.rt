@@ -1,11 +1,9 @@
 // A block of a program file: whether it is one (11), whether its checksum word agrees (12), and which record it is of (13).
 ghost use mathlib.Core.Path.{_≡_};
-ghost use Prim.Native.Nat.{_<_};
-ghost use lib.ListN.{length};
-ghost use Rattle.word.specs.Limits.{wordsInBlock};
 ghost use Rattle.block.specs.Records.{checksumPlace, ofRecord};
-ghost use Rattle.block.specs.Checksum.{folded};
-ghost use Rattle.block.specs.Block.{verdict, sealVerdict};
+ghost use Rattle.block.specs.Checksum.{carriedRound, folded};
+ghost use Rattle.block.specs.Block.{verdict};
+ghost use Rattle.block.specs.HowChecksum.{summed, sealOf};
 use word::Fault;
 use word::WORD_LIMIT;
 
@@ -63,45 +61,72 @@ pub fn of_record(block: &[u64], r: Record) -> bool
     }
 }
 
-// The upper 18 bits of a sum and its lower 18, added.
-fn fold(s: u64) -> u64
-    ensures { λ r. ⌜ r ≡ folded s ⌝ }
-{
-    word::bits(s, 35, 18) + word::bits(s, 17, 0)
+// The words of a block added up; or that they are no block, refusal 11.
+pub enum Summed {
+    NoBlock,
+    Sum(u64),
 }
 
-// Refusals 11 and 12 in one pass over 256 words: 12 where the word at place p is not the checksum of the others.
-fn check_words(block: &[u64], p: usize) -> Verdict
-    requires { ⌜ (length (now block) ≡ wordsInBlock) × (p < wordsInBlock) ⌝ }
-    ensures { λ v. ⌜ v ≡ sealVerdict p (now (block .entry)) ⌝ }
+// One pass over the words: their plain sum, and whether each is below 2^36. The sum of 256 such words is far below 2^64; of others
+// it may wrap, and is not used.
+pub fn sum_words(block: &[u64]) -> Summed
+    ensures { λ s. ⌜ s ≡ summed (now (block .entry)) ⌝ }
 {
+    if block.len() != BLOCK_WORDS {
+        return Summed::NoBlock;
+    }
     let mut any: u64 = 0;
     let mut sum: u64 = 0;
     let mut i: usize = 0;
     while i < BLOCK_WORDS {
         let w = block[i];
         any = any | w;
-        sum += w % WORD_LIMIT;
+        sum = std::num::wrapping_add_u64(sum, w);
         i += 1;
     }
     if WORD_LIMIT <= any {
-        return Verdict::Refused(Fault { number: 11 });
-    }
-    let seal = block[p];
-    let s = (sum - seal) % WORD_LIMIT;
-    if fold(s) == seal {
-        Verdict::Pass
+        Summed::NoBlock
     } else {
-        Verdict::Refused(Fault { number: 12 })
+        Summed::Sum(sum)
     }
+}
+
+// What ran over bit 35 of a sum, added back at bit 0.
+fn carry_round(s: u64) -> u64
+    ensures { λ r. ⌜ r ≡ carriedRound s ⌝ }
+{
+    s % WORD_LIMIT + s / WORD_LIMIT
+}
+
+// The upper 18 bits of a sum and its lower 18, added.
+pub fn fold(s: u64) -> u64
+    ensures { λ r. ⌜ r ≡ folded s ⌝ }
+{
+    word::bits(s, 35, 18) + word::bits(s, 17, 0)
+}
+
+// The checksum of words whose plain sum is s: what runs over may run over once more as it is added back.
+pub fn seal_of(s: u64) -> u64
+    ensures { λ r. ⌜ r ≡ sealOf s ⌝ }
+{
+    let once = carry_round(s);
+    let twice = carry_round(once);
+    fold(twice)
 }
 
 // Refusals 11 and 12 of a block of record r.
 pub fn check_block(block: &[u64], r: Record) -> Verdict
     ensures { λ v. ⌜ v ≡ verdict r (now (block .entry)) ⌝ }
 {
-    if block.len() != BLOCK_WORDS {
-        return Verdict::Refused(Fault { number: 11 });
+    match sum_words(block) {
+        Summed::NoBlock => Verdict::Refused(Fault { number: 11 }),
+        Summed::Sum(s) => {
+            let seal = block[checksum_place(r)];
+            if seal_of(s - seal) == seal {
+                Verdict::Pass
+            } else {
+                Verdict::Refused(Fault { number: 12 })
+            }
+        }
     }
-    check_words(block, checksum_place(r))
 }

@@ -21,10 +21,11 @@ use Rattle.word.proofs.Stretch.{length-cleared}
 use Rattle.word.proofs.Word.{part-below}
 use Rattle.block.specs.declared.Record.{Record}
 use Rattle.block.specs.Records.{checksumPlace}
-use Rattle.block.specs.Checksum.{agrees}
+use Rattle.block.specs.Checksum.{checksum}
 use Rattle.block.specs.declared.Verdict.{Verdict}
 use Rattle.block.specs.declared.Verdict.the-variants.{Pass, Refused as refused-block}
-use Rattle.block.specs.Block.{verdict, sealVerdict}
+use Rattle.block.specs.Block.{verdict}
+use Rattle.block.proofs.OnePass.{whole-long, whole-words, seal-cases}
 use Rattle.stage.specs.declared.Stage.{Stage}
 use Rattle.stage.specs.declared.Stage.the-variants.{Complete, Broken}
 use Rattle.stage.specs.Ranges.{stageFits}
@@ -59,13 +60,9 @@ holds-place d r p q = (holds-inside d r p q, λ z. omega (arith, holds-holder d 
 pub verdict-cases : (r : Record) (block : List ℕ) (P : Verdict → Type 0)
     → (length block ≡ wordsInBlock → every isWord block ≡ true → P Pass)
     → P (refused-block (fault 11)) → P (refused-block (fault 12)) → P (verdict r block)
-unfolding verdict sealVerdict
+unfolding verdict
 verdict-cases r block P pass eleven twelve =
-    when P (eqb (length block) 256)
-    (λ l. when P (every isWord block)
-    (λ w. both P (agrees (checksumPlace r) block) (pass (eqb-true (length block) 256 l) w) twelve)
-    (λ w. eleven))
-    (λ l. eleven)
+    seal-cases checksum (checksumPlace r) block P (λ w a. pass (whole-long block w) (whole-words block w)) eleven twelve
 
 -- so one that passes is whole, and of words
 pub verdict-pass : (r : Record) (block : List ℕ) → verdict r block ≡ Pass → (length block ≡ wordsInBlock)

@@ -58,7 +58,7 @@ abbrev deck : List ℕ
 deck =
     (0o502527242710 ∷ 0o000001000000 ∷ 0 ∷ 0 ∷ 0 ∷ 0o401001400000 ∷ 0o000000000007 ∷ 0o200000000000 ∷ [])
     ++ replicate 247 0
-    ++ (0o000001146450 ∷ [])
+    ++ (0o000001146451 ∷ [])
 
 -- what a group gives, and what 01 says
 abbrev cases : List (GroupOutcome × GroupOutcome)

@@ -5,8 +5,8 @@ use lib.ListN.{getD}
 use Rattle.word.specs.Lists.{every, everyTwo, tab}
 use Rattle.block.specs.Fieldata.{spelt, characters}
 use Rattle.block.specs.Records.{program, termination, ofRecord}
-use Rattle.block.specs.Checksum.{sumOf}
-use Rattle.block.specs.Block.{verdict, sealVerdict}
+use Rattle.block.specs.Checksum.{sumOf, checksum}
+use Rattle.block.specs.Block.{wholeBlock, sealVerdict, verdict}
 use Rattle.block.specs.declared.Record.the-variants.{Label, Program, Termination}
 use Rattle.block.specs.declared.Verdict.the-variants.{Pass}
 use Rattle.label.specs.Name.{isName, isRest, letterOrDigit}
@@ -22,15 +22,15 @@ use Rattle.hand_deck.specs.Blocks.{blank, withWords, deckLabel, deckProg
 
 -- each is a block, with its checksum, of its record
 pub label-sealed : verdict Label deckLabel ≡ Pass
-unfolding deckLabel withWords blank verdict sealVerdict every sumOf
+unfolding deckLabel withWords blank verdict sealVerdict wholeBlock every checksum sumOf
 label-sealed = refl
 
 pub program-sealed : verdict Program deckProgram ≡ Pass
-unfolding deckProgram withWords blank verdict sealVerdict every sumOf
+unfolding deckProgram withWords blank verdict sealVerdict wholeBlock every checksum sumOf
 program-sealed = refl
 
 pub termination-sealed : verdict Termination deckTermination ≡ Pass
-unfolding deckTermination withWords blank verdict sealVerdict every sumOf
+unfolding deckTermination withWords blank verdict sealVerdict wholeBlock every checksum sumOf
 termination-sealed = refl
 
 pub program-known : ofRecord Program deckProgram ≡ true

@@ -6,13 +6,13 @@ use Rattle.word.specs.declared.Half.{Half}
 use Rattle.word.specs.declared.Half.the-variants.{Left, Right}
 use Rattle.block.specs.Fieldata.{spelt}
 use Rattle.block.specs.Records.{modification, program, termination}
-use Rattle.block.specs.Checksum.{sumOf}
+use Rattle.block.specs.Checksum.{sumOf, checksum}
 use Rattle.field.specs.Field.{valued, plusOrMinus, movedField, table, referred, minusZero, short, long, constant, becomes, putBack}
 use Rattle.field.specs.Field.{fieldStep}
 use Rattle.hand_deck.specs.Hand.{cases}
 
 pub hand : (h : Half) → map (λ (c : ℕ × ℕ). c .0) (cases h) ≡ map (λ (c : ℕ × ℕ). c .1) (cases h)
-unfolding spelt modification program termination sumOf valued plusOrMinus movedField table referred minusZero short long constant
+unfolding spelt modification program termination sumOf checksum valued plusOrMinus movedField table referred minusZero short long constant
     becomes putBack fieldStep
 hand Left = refl
 hand Right = refl

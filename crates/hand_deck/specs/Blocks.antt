@@ -1,4 +1,5 @@
--- The three blocks of the hand deck, as 01 lists them; unnamed words are zero.
+-- The three blocks of the hand deck, as 01 lists them; unnamed words are zero. Of the program block 01 has the checksum
+-- 000001146450: with the carry added back (#104) "the hand deck's program block ends 000001146451".
 use Prim.Native.Nat.{ℕ}
 use mathlib.Core.List.{List, [], _∷_}
 use lib.ListN.{set, replicate}
@@ -34,7 +35,7 @@ deckProgram = withWords (
     ∷ record { at = 5; word = 0o401001400000 }
     ∷ record { at = 6; word = 0o000000000007 }
     ∷ record { at = 7; word = 0o200000000000 }
-    ∷ record { at = 255; word = 0o000001146450 }
+    ∷ record { at = 255; word = 0o000001146451 }
     ∷ []) blank
 
 unfoldable pub deckTermination : List ℕ

@@ -1,5 +1,5 @@
--- The P cases of 01's hand deck, all in one list: each a pair, the number that the definitions give and the number that 01 says.
--- A field's case is in either half, since 01 does not say which.
+-- The P cases of 01's hand deck, all in one list: each a pair, the number that the definitions give and the number that 01 says,
+-- or request #104 where it changed that. A field's case is in either half, since 01 does not say which.
 use Prim.Native.Nat.{ℕ, _+_, _-_, _*_, _^_}
 use mathlib.Core.List.{List, [], _∷_}
 use Rattle.word.specs.declared.Half.{Half}
@@ -37,10 +37,11 @@ cases h =
     (modification, 0o502224112710)
     ∷ (program, 0o502527242710)
     ∷ (termination, 0o503127222710)
-    -- "word sum 0 gives checksum 0; one word 2^36-1 gives 524,286; two give 524,285"
+    -- "word sum 0 gives checksum 0; one word 2^36-1 gives 524,286; two give 524,285"; #104: "Two words of 2^36-1 now give
+    -- 524,286"
     ∷ (checksum [], 0)
     ∷ (checksum ((2 ^ 36 - 1) ∷ []), 524286)
-    ∷ (checksum ((2 ^ 36 - 1) ∷ (2 ^ 36 - 1) ∷ []), 524285)
+    ∷ (checksum ((2 ^ 36 - 1) ∷ (2 ^ 36 - 1) ∷ []), 524286)
     -- "area at 5000, type 000, field 60,535 gives 65,535; 60,536 gives 21"
     ∷ (changed h 0 60535 0, 65535)
     ∷ (changed h 0 60536 0, refusal 21)

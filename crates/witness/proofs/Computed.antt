@@ -6,8 +6,8 @@ use Rattle.word.specs.Lists.{every, everyTwo, range, tab, splice, cleared}
 use Rattle.word.specs.Runs.{within, apart}
 use Rattle.block.specs.Fieldata.{characters, spelt}
 use Rattle.block.specs.Records.{modification, program, termination}
-use Rattle.block.specs.Checksum.{sumOf}
-use Rattle.block.specs.Block.{verdict, sealVerdict}
+use Rattle.block.specs.Checksum.{sumOf, checksum}
+use Rattle.block.specs.Block.{wholeBlock, sealVerdict, verdict}
 use Rattle.label.specs.Name.{isName, isRest, letterOrDigit}
 use Rattle.label.specs.Tables.{tableWordsIn, tableWords, tablesInOrder, entriesOf, countsOf, withinLimits}
 use Rattle.label.specs.Label.{labelOf, finished, programWordFits}
@@ -54,8 +54,8 @@ use Rattle.demands.proofs.Demands.{demand-2, demand-2-start}
 
 -- a history, with every definition that computing it opens; a proof that unfolds it opens them all
 computed : List Event → List Told
-unfolding every everyTwo range tab splice cleared within apart characters spelt modification program termination sumOf verdict
-    sealVerdict isName isRest letterOrDigit tableWordsIn tableWords tablesInOrder entriesOf countsOf withinLimits labelOf finished
+unfolding every everyTwo range tab splice cleared within apart characters spelt modification program termination sumOf checksum
+    wholeBlock sealVerdict verdict isName isRest letterOrDigit tableWordsIn tableWords tablesInOrder entriesOf countsOf withinLimits labelOf finished
     programWordFits assignmentsFit bankOf segmentOf tableSectionOf groupOf inBank bitsOf flatMap indicatorBits bitsBefore numberAt
     indicatorAt afterField afterWord afterAll listsObey tablesObey tablesOf numbersKept wordsKept ranksKept wordsFrom sorted ranked
     numbersIn tablesIn chain chainFrom valued movedField becomes putBack fieldStep halfStep wordStep changedWords wordsLie addressOf

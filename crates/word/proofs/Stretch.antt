@@ -3,7 +3,7 @@ use mathlib.Core.Path.{_≡_, sym, _∙_}
 use mathlib.Core.Bool.{Bool, true}
 use mathlib.Core.List.{List, [], _∷_, append-assoc}
 use mathlib.Core.Logic.{_⊎_, inl, inr, ⊎-elim, _≢_}
-use Prim.Native.Nat.{ℕ, suc, _+_, _<_, _≤_}
+use Prim.Native.Nat.{ℕ, zero, suc, _+_, _<_, _≤_}
 use native.Mathlib.Omega.{arith}
 use native.Mathlib.Numerals.{add-one}
 use lib.ListN.{length, getD, set, take, length-set, replicate, length-replicate}
@@ -69,6 +69,11 @@ module _ (f : ℕ → Bool) where
   pub every-tail : (x : ℕ) (xs : List ℕ) → every f (x ∷ xs) ≡ true → every f xs ≡ true
   unfolding every
   every-tail x xs q = and-right (f x) (every f xs) q
+
+  pub every-set : (l : List ℕ) (i v : ℕ) → f v ≡ true → every f l ≡ true → every f (set l i v) ≡ true
+  every-set [] i v p q = q
+  every-set (x ∷ xs) zero v p q = every-both v xs p (every-tail x xs q)
+  every-set (x ∷ xs) (suc i) v p q = every-both x (set xs i v) (every-head x xs q) (every-set xs i v p (every-tail x xs q))
 
   pub every-range : (l : List ℕ) (a n : ℕ) → every f l ≡ true → every f (range l a n) ≡ true
   every-range l a n q =

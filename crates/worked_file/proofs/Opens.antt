@@ -5,8 +5,8 @@ use Rattle.word.specs.Lists.{every, everyTwo, range, tab, splice, cleared}
 use Rattle.word.specs.Runs.{within, apart}
 use Rattle.block.specs.Fieldata.{characters, spelt}
 use Rattle.block.specs.Records.{modification, program, termination}
-use Rattle.block.specs.Checksum.{sumOf}
-use Rattle.block.specs.Block.{verdict, sealVerdict}
+use Rattle.block.specs.Checksum.{sumOf, checksum}
+use Rattle.block.specs.Block.{wholeBlock, sealVerdict, verdict}
 use Rattle.label.specs.Name.{isName, isRest, letterOrDigit}
 use Rattle.label.specs.Tables.{tableWordsIn, tableWords, isCarried, tablesInOrder, entriesOf, countsOf, withinLimits}
 use Rattle.label.specs.Label.{labelOf, finished, programWordFits}
@@ -58,7 +58,7 @@ use Rattle.worked_file.specs.Split.{splitImage}
 
 unfoldable pub opens : ℕ
 unfolding flatMap every everyTwo range tab splice cleared within apart characters spelt modification program termination sumOf
-    verdict sealVerdict isName isRest letterOrDigit tableWordsIn tableWords isCarried tablesInOrder entriesOf countsOf
+    checksum wholeBlock sealVerdict verdict isName isRest letterOrDigit tableWordsIn tableWords isCarried tablesInOrder entriesOf countsOf
     withinLimits labelOf finished programWordFits assignmentsFit bankOf segmentOf tableSectionOf groupOf inBank bitsOf
     indicatorBits bitsBefore numberAt indicatorAt afterField afterWord afterAll valued plusOrMinus movedField table referred
     pair minusZero short long constant switch unit becomes putBack fieldStep halfStep wordStep changedWords wordsLie addressOf

@@ -51,7 +51,7 @@ workedLabel = withWords (
     -- word 253: 1 segment, 2 table sections
     ∷ named 253 0o000001000002
     -- word 254: the checksum. Word 255: word 0 again
-    ∷ named 254 0o000001272250
+    ∷ named 254 0o000001272252
     ∷ named 255 0o342427201211
     ∷ []) blank
 
@@ -86,7 +86,7 @@ workedEntries = withWords (
     -- after the last entry: disregarded
     ∷ named 18 0o777777777777
     -- the checksum
-    ∷ named 255 0o000001115326
+    ∷ named 255 0o000001115333
     ∷ []) blank
 
 -- ---- the first program block: the segment section, as far as its group C
@@ -162,7 +162,7 @@ workedProgram = withWords (
     ∷ named 30 0o000000000000
     ∷ named 31 0o777777777777
     -- the checksum
-    ∷ named 255 0o000000461440
+    ∷ named 255 0o000000461453
     ∷ []) blank
 
 -- ---- the second program block: the rest of the segment section, and the two table sections
@@ -206,7 +206,7 @@ workedSections = withWords (
     -- after the last section's last group: disregarded
     ∷ named 18 0o777777777777
     -- the checksum
-    ∷ named 255 0o000001225550
+    ∷ named 255 0o000001225561
     ∷ []) blank
 
 -- ---- the termination block
@@ -217,7 +217,7 @@ workedTermination = withWords (
     -- bits 15-0 the start, 17 (octal 21): the IBANK's last word. The other bits are disregarded, and all set
     ∷ named 1 0o777777600021
     -- the checksum
-    ∷ named 255 0o000000526060
+    ∷ named 255 0o000000526061
     ∷ []) blank
 
 abbrev pub workedFile : List (List ℕ)

@@ -35,7 +35,7 @@ splitLabel = withWords (
     ∷ named 3 0o400001000125
     ∷ named 4 0o600000000125
     ∷ named 253 0o000001000002
-    ∷ named 254 0o000001202351
+    ∷ named 254 0o000001202352
     ∷ named 255 0o064137604171
     ∷ []) blank
 
@@ -45,7 +45,7 @@ splitEntry k = cond (eqb (k % 3) 0) 0o310614050505 (cond (eqb (k % 3) 1) 0o21310
 
 -- *MODRC, 254 entry words, the checksum
 unfoldable pub firstEntries : List ℕ
-firstEntries = 0o502224112710 ∷ tab splitEntry 254 ++ (0o000000775522 ∷ [])
+firstEntries = 0o502224112710 ∷ tab splitEntry 254 ++ (0o000000775613 ∷ [])
 
 -- *MODRC, the last entry word, the checksum
 unfoldable pub lastEntries : List ℕ
@@ -76,7 +76,7 @@ splitProgram = withWords (
     ∷ named 13 0o200002000124
     ∷ named 14 0o401001600001
     ∷ named 15 0o123456701234
-    ∷ named 255 0o000001166103
+    ∷ named 255 0o000001166107
     ∷ []) blank
 
 -- *TRMRC; the start is word 0
