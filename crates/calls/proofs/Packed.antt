@@ -2,9 +2,11 @@
 use Prim.Native.Nat.{_/_, _%_, _^_}
 use mathlib.Core.Path.{_≡_}
 use native.Mathlib.Omega.{arith}
-use Rattle.calls.specs.Answer.{codeOf, valueOf, packed, Small}
+use Rattle.calls.specs.Answer.{codeOf, valueOf, packed, Small, fileCodeOf, fileValueOf, filePacked, FileSmall}
 use Rattle.calls.specs.declared.Answer.{Answer}
 use Rattle.calls.specs.declared.Answer.the-variants.{Refused, Made, Opened, More, Done, Released}
+use Rattle.calls.specs.declared.files.FileAnswer.{FileAnswer}
+use Rattle.calls.specs.declared.files.FileAnswer.the-variants.{Refused as FileRefused, Resealed}
 
 pub packed-apart : (a : Answer) → Small a → (packed a / 2 ^ 32 ≡ codeOf a) × (packed a % 2 ^ 32 ≡ valueOf a)
 packed-apart (Refused f) h = (omega arith, omega arith)
@@ -13,3 +15,7 @@ packed-apart (Opened p) h = (omega arith, omega arith)
 packed-apart More h = (omega arith, omega arith)
 packed-apart (Done start) h = (omega arith, omega arith)
 packed-apart Released h = (omega arith, omega arith)
+
+pub file-packed-apart : (a : FileAnswer) → FileSmall a → (filePacked a / 2 ^ 32 ≡ fileCodeOf a) × (filePacked a % 2 ^ 32 ≡ fileValueOf a)
+file-packed-apart (FileRefused f) h = (omega arith, omega arith)
+file-packed-apart Resealed h = (omega arith, omega arith)

@@ -1,5 +1,6 @@
 // The calls that give and take places: make, open and release, each with its refusals in 01's order; the answers of all calls, and
 // each as one 64-bit number for C; and the refusals that open, feed and release share.
+pub mod files;
 pub mod make;
 pub mod open;
 pub mod release;
@@ -13,7 +14,7 @@ use word::Fault;
 use word::limits::ROOMS;
 
 // 2^32: an answer's code is counted in these, its value is below.
-const CODE: u64 = 1 << 32;
+pub const CODE: u64 = 1 << 32;
 
 // What a call answers: a refusal; made; opened, with the place; more; done, with the absolute start; released.
 pub enum Answer {

@@ -2,10 +2,24 @@
 use Prim.Native.Nat.{ℕ}
 use mathlib.Core.Path.{_≡_}
 use mathlib.Core.List.{List}
-use Rattle.calls.specs.Answer.{packed}
+use Rattle.block.specs.declared.Verdict.{Verdict}
+use Rattle.block.specs.declared.Verdict.the-variants.{Pass, Refused as BlockRefused}
+use Rattle.calls.specs.Answer.{packed, filePacked}
 use Rattle.calls.specs.Outcome.{Outcome}
+use Rattle.calls.specs.declared.files.FileAnswer.{FileAnswer}
+use Rattle.calls.specs.declared.files.FileAnswer.the-variants.{Refused, Resealed}
+use Rattle.old_seal.specs.Reseal.{oldVerdict, resealed}
 
 pub record Returned (o : Outcome) (r : ℕ) (desk core : List ℕ) : Type 0 where
   pub number : r ≡ packed (o .answer)
   pub desk-left : desk ≡ o .desk
   pub core-left : core ≡ o .core
+
+-- of reseal: 11, 12 or *resealed*, and the block afterwards
+abbrev pub resealAnswer : Verdict → FileAnswer
+resealAnswer Pass = Resealed
+resealAnswer (BlockRefused f) = Refused f
+
+pub record ResealReturned (index : ℕ) (block : List ℕ) (r : ℕ) (after : List ℕ) : Type 0 where
+  pub number : r ≡ filePacked (resealAnswer (oldVerdict index block))
+  pub block-left : after ≡ resealed index block

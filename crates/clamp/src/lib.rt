@@ -6,7 +6,9 @@ ghost use Rattle.calls.specs.Make.{makeOf};
 ghost use Rattle.calls.specs.Open.{openOf};
 ghost use Rattle.calls.specs.Release.{releaseOf};
 ghost use Rattle.feed.specs.Feed.{feedOf};
-ghost use Rattle.clamp.specs.Returned.{Returned};
+ghost use Rattle.clamp.specs.Returned.{Returned, ResealReturned};
+use block::Verdict;
+use calls::files::FileAnswer;
 use layout::DESK_WORDS;
 use word::Absolute;
 use word::Area;
@@ -70,4 +72,15 @@ pub extern "C" fn clamp_feed(
         r (now (desk .exit)) (now (core .exit)) ⌝ }
 {
     calls::pack(feed::feed_block(desk, core, room, place, block))
+}
+
+// A block of the checksum rule before #104, sealed anew by the rule in force.
+#[no_mangle]
+pub extern "C" fn clamp_reseal(block: &mut [u64], index: u64) -> u64
+    ensures { λ r. ⌜ ResealReturned index (now (block .entry)) r (now (block .exit)) ⌝ }
+{
+    match old_seal::reseal(block, index) {
+        Verdict::Pass => calls::files::pack_file(FileAnswer::Resealed),
+        Verdict::Refused(f) => calls::files::pack_file(FileAnswer::Refused(f)),
+    }
 }

@@ -1,0 +1,22 @@
+// The answers of the calls that are about a file alone and are lent no desk, and each as one number for C.
+ghost use mathlib.Core.Path.{_≡_};
+ghost use Rattle.calls.specs.Answer.{filePacked, FileSmall};
+use crate::CODE;
+use word::Fault;
+
+// What such a call answers: a refusal; resealed.
+pub enum FileAnswer {
+    Refused(Fault),
+    Resealed,
+}
+
+// The answer as one number: its code times 2^32, and its value.
+pub fn pack_file(a: FileAnswer) -> u64
+    requires { ⌜ FileSmall a ⌝ }
+    ensures { λ r. ⌜ r ≡ filePacked a ⌝ }
+{
+    match a {
+        FileAnswer::Refused(f) => f.number * CODE,
+        FileAnswer::Resealed => 72 * CODE,
+    }
+}

@@ -1,0 +1,2 @@
+pub mod OldRule
+pub mod Promises

@@ -1,0 +1,3 @@
+pub mod OldRule
+pub mod Reseal
+pub mod Promises
