@@ -1,21 +1,22 @@
 # make help lists the targets. What is proved already is not proved again: a target is made when a file of a crate that it needs is
 # newer.
-.PHONY: all help lib printer load deck install test test-c fuzz check clean
+.PHONY: all help lib programs load deck reseal install test test-c fuzz check clean
 .DELETE_ON_ERROR:
 .NOTPARALLEL:
 
 PREFIX = /usr/local
 SECONDS = 60
 
-all: lib printer
+all: lib programs
 
 help:
-	@echo 'make all       the library and the load printer'
+	@echo 'make all       the library and the programs'
 	@echo 'make lib       the library for the emulator (x86-64): build/libclamp.a and build/clamp.h'
 	@echo 'make install   both, and clamp.pc for pkg-config, below PREFIX ($(PREFIX)), or DESTDIR/PREFIX'
 	@echo 'make load <FILE         the load printer on a file of octal lines'
 	@echo 'make deck      the load printer on the hand deck'
-	@echo 'make test      the tests outside Rattle: the library by programs in C, its stack, the header, the install, the load printer'
+	@echo 'make reseal <FILE       a file of octal lines whose blocks have the old checksum, with the checksum in force'
+	@echo 'make test      the tests outside Rattle: the library by programs in C, its stack, the header, the install, the programs'
 	@echo 'make fuzz SECONDS=60    the library and the second loader compared for this many seconds, with a seed from the clock'
 	@echo 'make check     the gate: every crate proved from nothing, every wrong loader refused, and the tests'
 	@echo 'make clean     removes build/ and target/: everything is then proved again'
@@ -39,18 +40,27 @@ build/clamp.h: include/clamp.h
 	@mkdir -p build
 	@cp include/clamp.h build/
 
-printer: build/load_printer
+programs: build/load_printer build/reseal
 
 build/load_printer: $(call sources,load_printer)
-	@tools/prove load_printer
+build/reseal: $(call sources,reseal)
+build/load_printer build/reseal:
+	@tools/prove $(@F)
 	@mkdir -p build
-	@cp target/bin/load_printer build/
+	@cp target/bin/$(@F) build/
 
 # Run as rt runs a program: under the kit's loader and C library and, where the machine is not an x86-64, under the kit's emulator.
 toolchain = $(kit)/on/$(shell uname -m)/toolchain
+define run
+@command -v rt >/dev/null || { echo '$@: the program rt of the Rattle kit is not on the path' >&2; exit 2; }
+@$(wildcard $(toolchain)/bin/qemu-x86_64) $(toolchain)/lib/ld-linux-x86-64.so.2 --library-path $(toolchain)/lib $<
+endef
+
 load: build/load_printer
-	@command -v rt >/dev/null || { echo 'load: the program rt of the Rattle kit is not on the path' >&2; exit 2; }
-	@$(wildcard $(toolchain)/bin/qemu-x86_64) $(toolchain)/lib/ld-linux-x86-64.so.2 --library-path $(toolchain)/lib build/load_printer
+	$(run)
+
+reseal: build/reseal
+	$(run)
 
 deck:
 	@$(MAKE) -s load <crates/load_printer/stdin
