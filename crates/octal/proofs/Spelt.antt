@@ -14,20 +14,20 @@ use Rattle.word.specs.Lists.{every, tab, range}
 use Rattle.word.proofs.Every.{every-place, every-by}
 use Rattle.word.proofs.Lists.{length-tab, getD-tab}
 use Rattle.octal.specs.Lines.{isOctal, isGood, newline, octal, lineAt, line, lineWord, isBlock, blockOf}
-use Rattle.octal.specs.Text.{digit, digits, lineOf, textOf}
+use Rattle.octal.specs.Text.{octalDigit, octalDigits, lineOf, textOf}
 use Rattle.octal.specs.declared.Line.the-variants.{Word, Bad}
 use Rattle.octal.proofs.Written.{length-digits, text-append, length-before}
 
 -- ---- a word's digits are octal, and spell it
-digits-octal : (w : ℕ) → every isOctal (digits w) ≡ true
-unfolding digits
+digits-octal : (w : ℕ) → every isOctal (octalDigits w) ≡ true
+unfolding octalDigits
 digits-octal w =
-    let n = length-tab (digit w) 12 in
-    every-by 0 isOctal (digits w)
+    let n = length-tab (octalDigit w) 12 in
+    every-by 0 isOctal (octalDigits w)
     (λ i h. rw (
-      getD-tab (digit w) 12 i 0 (omega arith),
-      le-leb 48 (digit w i) (omega arith),
-      le-leb (digit w i) 55 (omega arith),
+      getD-tab (octalDigit w) 12 i 0 (omega arith),
+      le-leb 48 (octalDigit w i) (omega arith),
+      le-leb (octalDigit w i) 55 (omega arith),
     ))
 
 octal-snoc : (v d : ℕ) (ds : List ℕ) → octal v (ds ++ (d ∷ [])) ≡ octal v ds * 8 + (d - 48)
@@ -36,35 +36,35 @@ octal-snoc v d [] = refl
 octal-snoc v d (x ∷ ds) = octal-snoc (v * 8 + (x - 48)) d ds
 
 -- the first k digits spell what stands above the bits of the others
-spell : (w k : ℕ) → w < 2 ^ 36 → k ≤ 12 → octal 0 (tab (digit w) k) ≡ w / 2 ^ (36 - 3 * k)
+spell : (w k : ℕ) → w < 2 ^ 36 → k ≤ 12 → octal 0 (tab (octalDigit w) k) ≡ w / 2 ^ (36 - 3 * k)
 unfolding octal tab
 spell w zero h l = omega arith
 spell w (suc k) h l =
     let e : 33 - 3 * k + 3 ≡ 36 - 3 * k = omega arith in
     let f : 36 - 3 * suc k ≡ 33 - 3 * k = omega arith in
     let u : w / 2 ^ (33 - 3 * k) / 2 ^ 3 ≡ w / 2 ^ (36 - 3 * k) = shr-shr w (33 - 3 * k) 3 ∙ ap (λ (m : ℕ). w / 2 ^ m) e in
-    octal-snoc 0 (digit w k) (tab (digit w) k)
+    octal-snoc 0 (octalDigit w k) (tab (octalDigit w) k)
     ∙ rw (spell w k h (omega arith), f, ← u) (omega arith)
 
-digits-spell : (w : ℕ) → w < 2 ^ 36 → octal 0 (digits w) ≡ w
-unfolding digits
+digits-spell : (w : ℕ) → w < 2 ^ 36 → octal 0 (octalDigits w) ≡ w
+unfolding octalDigits
 digits-spell w h = spell w 12 h (omega arith) ∙ omega arith
 
 -- the line of a word, wherever it stands in a text, is read as that word
 module _ (p q : List ℕ) (w : ℕ) where
-  twelve : range (p ++ (lineOf w ++ q)) (length p) 12 ≡ digits w
+  twelve : range (p ++ (lineOf w ++ q)) (length p) 12 ≡ octalDigits w
   unfolding range lineOf
   twelve =
       ap (take 12) (drop-at p (lineOf w ++ q) (length p) refl)
-      ∙ ap (take 12) (append-assoc (digits w) (newline ∷ []) q)
-      ∙ take-at (digits w) (newline ∷ q) 12 (length-digits w)
+      ∙ ap (take 12) (append-assoc (octalDigits w) (newline ∷ []) q)
+      ∙ take-at (octalDigits w) (newline ∷ q) 12 (length-digits w)
 
   behind : getD (p ++ (lineOf w ++ q)) (length p + 12) 0 ≡ newline
   unfolding lineOf
   behind =
       getD-append-add p (lineOf w ++ q) 12 0
-      ∙ ap (λ (l : List ℕ). getD l 12 0) (append-assoc (digits w) (newline ∷ []) q)
-      ∙ getD-at (digits w) newline q 0 12 (length-digits w)
+      ∙ ap (λ (l : List ℕ). getD l 12 0) (append-assoc (octalDigits w) (newline ∷ []) q)
+      ∙ getD-at (octalDigits w) newline q 0 12 (length-digits w)
 
   pub line-spelt : w < 2 ^ 36 → lineAt (p ++ (lineOf w ++ q)) (length p) ≡ Word w
   unfolding lineAt

@@ -9,26 +9,26 @@ use lib.Seq.{take-at, take-suc, take-all, take-length, drop-drop, drop-append-ad
 use Rattle.word.specs.Lists.{splice}
 use Rattle.word.proofs.Lists.{length-tab, getD-tab, copied, copied-more, copied-all}
 use Rattle.octal.specs.Lines.{newline}
-use Rattle.octal.specs.Text.{digit, digits, lineOf, textOf}
+use Rattle.octal.specs.Text.{octalDigit, octalDigits, lineOf, textOf}
 
 -- ---- the line of a word: twelve digits and a newline
-pub length-digits : (w : ℕ) → length (digits w) ≡ 12
-unfolding digits
-length-digits w = length-tab (digit w) 12
+pub length-digits : (w : ℕ) → length (octalDigits w) ≡ 12
+unfolding octalDigits
+length-digits w = length-tab (octalDigit w) 12
 
 pub length-line : (w : ℕ) → length (lineOf w) ≡ 13
 unfolding lineOf
-length-line w = length-append (digits w) (newline ∷ []) ∙ rw (length-digits w)
+length-line w = length-append (octalDigits w) (newline ∷ []) ∙ rw (length-digits w)
 
 -- it is written to t from place a on, of which i bytes are written
 module _ (t : List ℕ) (a w i : ℕ) (e : List ℕ) (fits : a + 13 ≤ length t) (q : e ≡ copied t a (lineOf w) i) where
   -- a digit more
-  pub line-more : (d : ℕ) → i < 12 → d ≡ digit w i → set e (a + i) d ≡ copied t a (lineOf w) (i + 1)
-  unfolding lineOf digits
+  pub line-more : (d : ℕ) → i < 12 → d ≡ octalDigit w i → set e (a + i) d ≡ copied t a (lineOf w) (i + 1)
+  unfolding lineOf octalDigits
   line-more d h x =
       let n = length-digits w in
       copied-more t a (lineOf w) i e d (omega arith) (omega (arith, length-line w))
-      (x ∙ sym (List·getD-append (digits w) (newline ∷ []) 0 i (omega arith) ∙ getD-tab (digit w) 12 i 0 h))
+      (x ∙ sym (List·getD-append (octalDigits w) (newline ∷ []) 0 i (omega arith) ∙ getD-tab (octalDigit w) 12 i 0 h))
       q
 
   -- all twelve are written: the newline
@@ -37,7 +37,7 @@ module _ (t : List ℕ) (a w i : ℕ) (e : List ℕ) (fits : a + 13 ≤ length t
   line-end h =
       copied-all t a (lineOf w) 13 _ (length-line w)
       (copied-more t a (lineOf w) 12 e newline (omega arith) (omega (arith, length-line w))
-      (sym (getD-at (digits w) newline [] 0 12 (length-digits w)))
+      (sym (getD-at (octalDigits w) newline [] 0 12 (length-digits w)))
       (rw h at q))
 
 -- ---- the text of a block: 13 bytes a word

@@ -4,7 +4,7 @@ ghost use Prim.Native.Nat.{_+_, _≤_, _<_};
 ghost use lib.ListN.{length};
 ghost use Rattle.word.specs.Lists.{splice};
 ghost use Rattle.octal.specs.Lines.{lineAt, isGood, wordOf, isBlock, blockOf, isWhole, ended, textBytes, lineCount};
-ghost use Rattle.octal.specs.Text.{digit, lineOf, textOf};
+ghost use Rattle.octal.specs.Text.{octalDigit, lineOf, textOf};
 
 // The digits of a line, its bytes with the newline, the lines of a block, and the bytes of a block's text.
 const DIGITS: usize = 12;
@@ -113,7 +113,7 @@ fn write_line(text: &mut [u8], a: usize, w: u64)
 // The digit of w that has i digits before it: three bits of it, in ASCII.
 fn digit_at(w: u64, i: usize) -> u8
     requires { ⌜ i < 12 ⌝ }
-    ensures { λ r. ⌜ r ≡ digit w i ⌝ }
+    ensures { λ r. ⌜ r ≡ octalDigit w i ⌝ }
 {
     DIGIT_0 + ((w >> (33 - 3 * i)) % 8) as u8
 }
