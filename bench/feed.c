@@ -14,10 +14,11 @@
 #include "reader.h"
 
 /* How many batches, and how many calls a batch of each kind has. */
-enum { BATCHES = 300, FEEDS = 20, RELEASES = 100, OPENS = 5, MAKES = 50 };
+enum { BATCHES = 300, FEEDS = 20, RELEASES = 100, OPENS = 5, MAKES = 50, RESEALS = 50 };
 
-/* The load that is fed, the first; and where one more is opened, in the last words of the core, which no load has. */
-enum { ROOM = 0, PLACE = 0, LAST_ROOM = ROOMS - 1, LAST_AREA = CORE_MOST - AREA_WORDS };
+/* The load that is fed, the first; and where one more is opened, in the last words of the core, which no load has; and the index of
+   the block that is resealed, which is no label. */
+enum { ROOM = 0, PLACE = 0, LAST_ROOM = ROOMS - 1, LAST_AREA = CORE_MOST - AREA_WORDS, INDEX = 1 };
 
 static const struct entries few = {.channels = 1, .units = 1, .tables = 2};
 
@@ -77,6 +78,20 @@ static void make_desk(unsigned loads, struct entries entries) {
   all_feed(CLAMP_MORE);
 }
 
+/* ---- a block to be resealed, by all loaders */
+
+static void all_reseal(void) {
+  all_answer(clamp_reseal(block, WORDS_IN_BLOCK, INDEX), peer_reseal(block, WORDS_IN_BLOCK, INDEX),
+             reader_reseal(block, WORDS_IN_BLOCK, INDEX), CLAMP_RESEALED);
+}
+
+/* One in whose sum no carry arises: its checksum is the same by either rule. So it can be resealed again and again, and is accepted
+   each time. */
+static void write_unchanging_block(void) {
+  write_termination_block(block);
+  all_reseal();
+}
+
 /* ---- what is timed */
 
 /* As fast as the compiler makes it. */
@@ -111,6 +126,9 @@ static void reader_tested(void) { last = reader_release(&second, CORE_MOST, ROOM
 static void clamp_made(void) { last = clamp_make(desk, CLAMP_DESK_WORDS, CORE_MOST, map, MAP_LENGTH); }
 static void peer_made(void) { last = peer_make(peer_desk, CLAMP_DESK_WORDS, CORE_MOST, map, MAP_LENGTH); }
 static void reader_made(void) { last = reader_make(&second, CORE_MOST, map, MAP_LENGTH); }
+static void clamp_resealed(void) { last = clamp_reseal(block, WORDS_IN_BLOCK, INDEX); }
+static void peer_resealed(void) { last = peer_reseal(block, WORDS_IN_BLOCK, INDEX); }
+static void reader_resealed(void) { last = reader_reseal(block, WORDS_IN_BLOCK, INDEX); }
 
 static void clamp_opened(void) {
   place = CLAMP_VALUE(
@@ -131,7 +149,8 @@ static void reader_opened(void) {
 }
 
 static by_each fed = {clamp_fed, peer_fed, reader_fed}, tested = {clamp_tested, peer_tested, reader_tested},
-               opened = {clamp_opened, peer_opened, reader_opened}, made = {clamp_made, peer_made, reader_made};
+               opened = {clamp_opened, peer_opened, reader_opened}, made = {clamp_made, peer_made, reader_made},
+               resealed = {clamp_resealed, peer_resealed, reader_resealed};
 
 static void row(const char *name, by_each call, unsigned calls) {
   double best[LOADERS + 1] = {INFINITY, INFINITY, INFINITY, INFINITY}; /* of each loader, and of the copy */
@@ -184,6 +203,12 @@ static void opened_row(const char *name, unsigned loads, bool falling) {
   expect("feed", last, CLAMP_RELEASED);
 }
 
+static void resealed_row(void) {
+  write_unchanging_block();
+  row("reseal", resealed, RESEALS);
+  all_reseal(); /* each one timed was accepted: the block is as it was */
+}
+
 static int table(void) {
   make_desk(1, few);
   fed_rows("one load", few);
@@ -194,6 +219,7 @@ static int table(void) {
   opened_row("open and release, eleven loads, tables rising", PLACES - 1, false);
   opened_row("open and release, eleven loads, tables falling", PLACES - 1, true);
   row("make", made, MAKES);
+  resealed_row();
   return 0;
 }
 
@@ -216,6 +242,9 @@ static int counted(const char *call, const char *where) {
     make_desk(PLACES - 1, full);
     write_lists(io, tables, full, LAST_AREA, strcmp(where, "falling") == 0);
     once(opened[by]);
+  } else if (strcmp(call, "reseal") == 0) {
+    write_unchanging_block();
+    once(resealed[by]);
   } else if (strcmp(call, "make") == 0)
     once(made[by]);
   else if (strcmp(call, "test") == 0)

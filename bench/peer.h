@@ -1,6 +1,6 @@
 /* peer.h: a loader in C with the duties of the library and written for speed, to measure the library beside. Each call takes what
    the call of that name in clamp.h takes, and gives the same answer, over the same desk (docs/DESK.md): it tests the whole desk
-   first, and leaves desk and core as the library leaves them. */
+   first, and leaves desk and core as the library leaves them. Reseal has no desk, and leaves the block so. */
 
 #ifndef PEER_H
 #define PEER_H
@@ -16,5 +16,7 @@ uint64_t peer_feed(uint64_t *desk, uint64_t desk_len, uint64_t *core, uint64_t c
                    const uint64_t *block, uint64_t block_len);
 
 uint64_t peer_release(uint64_t *desk, uint64_t desk_len, uint64_t core_len, uint64_t room, uint64_t place);
+
+uint64_t peer_reseal(uint64_t *block, uint64_t block_len, uint64_t index);
 
 #endif

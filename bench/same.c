@@ -1,7 +1,7 @@
 /* same.c: compares the peer with the library. It is linked with the comparison of tests/differ.c so that each call made on the
    library comes here first (ld --wrap): the peer gets the same call on copies of desk and core, and answer, desk and core must be
    the same afterwards. Each call is also made on desks, and with blocks, in which a few numbers are changed: many are refused, and
-   some are desks that no file leads to. Run by `bench/run same`. */
+   some are desks that no file leads to. A block that is to be resealed is copied in the same way. Run by `bench/run same`. */
 
 #include <inttypes.h>
 #include <stdio.h>
@@ -28,6 +28,7 @@ uint64_t __real_clamp_open(uint64_t *, uint64_t, uint64_t *, uint64_t, uint64_t,
                            const uint64_t *, uint64_t);
 uint64_t __real_clamp_feed(uint64_t *, uint64_t, uint64_t *, uint64_t, uint64_t, uint64_t, const uint64_t *, uint64_t);
 uint64_t __real_clamp_release(uint64_t *, uint64_t, uint64_t, uint64_t, uint64_t);
+uint64_t __real_clamp_reseal(uint64_t *, uint64_t, uint64_t);
 
 /* A loader: the library, or the peer. */
 struct loader {
@@ -70,6 +71,7 @@ static bool same(const uint64_t *one, const uint64_t *other, uint64_t length) {
 
 static uint64_t compared, changed_desks, changed_codes[CODES];
 static uint64_t *desks[2], *cores[2]; /* the ends of their memory: the library's on changed desks, and the peer's */
+static uint64_t *block_end;           /* and of the peer's block, where one is resealed */
 static struct chance turn;            /* begins again with each round, so that a round can be done again alone */
 static uint64_t turn_of = UINT64_MAX;
 
@@ -83,7 +85,7 @@ static void print_counts(void) {
 }
 
 static void differs(const char *what, const struct call *c, uint64_t proved, uint64_t peer) {
-  static const char *const names[] = {"make", "open", "feed", "release"};
+  static const char *const names[] = {"make", "open", "feed", "release", "reseal"};
   printf("same: seed %" PRIu64 ", %s: %s differ, library %" PRIu64 " %" PRIu64 ", peer %" PRIu64 " %" PRIu64
          "\n0 passed, 1 failed\n",
          seed, names[c->which], what, CLAMP_CODE(proved), CLAMP_VALUE(proved), CLAMP_CODE(peer), CLAMP_VALUE(peer));
@@ -260,17 +262,22 @@ static void compare_changed(struct call c, const uint64_t *desk, const uint64_t 
 
 /* ---- the calls, as the linker hands them over */
 
-static uint64_t wrapped(const struct call *c, uint64_t *desk, uint64_t *core, uint64_t core_words) {
+static void set_up_once(void) {
   static bool begun;
-  uint64_t result;
-  if (!begun) {
-    for (unsigned i = 0; i < 2; i++) {
-      desks[i] = guarded_end(DESK_WORDS + 1);
-      cores[i] = guarded_end(CORE_MOST + 1);
-    }
-    atexit(print_counts);
-    begun = true;
+  if (begun)
+    return;
+  for (unsigned i = 0; i < 2; i++) {
+    desks[i] = guarded_end(DESK_WORDS + 1);
+    cores[i] = guarded_end(CORE_MOST + 1);
   }
+  block_end = guarded_end(NUMBERS_MOST);
+  atexit(print_counts);
+  begun = true;
+}
+
+static uint64_t wrapped(const struct call *c, uint64_t *desk, uint64_t *core, uint64_t core_words) {
+  uint64_t result;
+  set_up_once();
   if (turn_of != seed)
     turn.state = turn_of = seed;
   for (unsigned i = 0; i < CHANGED_EACH && c->which != MAKE && c->desk_len == DESK_WORDS; i++)
@@ -286,6 +293,7 @@ uint64_t __wrap_clamp_open(uint64_t *desk, uint64_t desk_len, uint64_t *core, ui
 uint64_t __wrap_clamp_feed(uint64_t *desk, uint64_t desk_len, uint64_t *core, uint64_t core_len, uint64_t room, uint64_t place,
                            const uint64_t *block, uint64_t block_len);
 uint64_t __wrap_clamp_release(uint64_t *desk, uint64_t desk_len, uint64_t core_len, uint64_t room, uint64_t place);
+uint64_t __wrap_clamp_reseal(uint64_t *block, uint64_t block_len, uint64_t index);
 
 uint64_t __wrap_clamp_make(uint64_t *desk, uint64_t desk_len, uint64_t core_len, const uint64_t *map, uint64_t map_len) {
   struct call c = {.which = MAKE, .desk_len = desk_len, .core_len = core_len, .first = map, .first_len = map_len};
@@ -313,4 +321,17 @@ uint64_t __wrap_clamp_feed(uint64_t *desk, uint64_t desk_len, uint64_t *core, ui
 uint64_t __wrap_clamp_release(uint64_t *desk, uint64_t desk_len, uint64_t core_len, uint64_t room, uint64_t place) {
   struct call c = {.which = RELEASE, .desk_len = desk_len, .core_len = core_len, .room = room, .place = place};
   return wrapped(&c, desk, NULL, 0);
+}
+
+uint64_t __wrap_clamp_reseal(uint64_t *block, uint64_t block_len, uint64_t index) {
+  struct call c = {.which = RESEAL};
+  set_up_once();
+  uint64_t *peer_block = copied(block_end, block, block_len);
+  uint64_t peer = peer_reseal(peer_block, block_len, index), proved = __real_clamp_reseal(block, block_len, index);
+  if (proved != peer)
+    differs("answers", &c, proved, peer);
+  if (!same(block, peer_block, block_len))
+    differs("blocks", &c, proved, peer);
+  compared++;
+  return proved;
 }

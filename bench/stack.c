@@ -17,7 +17,7 @@ static unsigned char *from;
 static ucontext_t here, there;
 static void (*called)(void);
 
-static uint64_t room, place, area;
+static uint64_t room, place, area, words_lent, number;
 
 static void make(void) { answer = clamp_make(desk, CLAMP_DESK_WORDS, CORE_MOST, map, MAP_LENGTH); }
 
@@ -27,6 +27,7 @@ static void open(void) {
 
 static void feed(void) { answer = clamp_feed(desk, CLAMP_DESK_WORDS, core, CORE_MOST, room, place, block, WORDS_IN_BLOCK); }
 static void release(void) { answer = clamp_release(desk, CLAMP_DESK_WORDS, CORE_MOST, room, place); }
+static void reseal(void) { answer = clamp_reseal(block, words_lent, number); }
 static void words(void) { answer = clamp_desk_words(); }
 
 static void run(void) {
@@ -49,7 +50,7 @@ static unsigned depth(void (*call)(void)) {
   return (unsigned)(from - (stack + untouched));
 }
 
-enum { MAKE, OPEN, FEED, RELEASE, WORDS, CALLS };
+enum { MAKE, OPEN, FEED, RELEASE, RESEAL, WORDS, CALLS };
 
 static unsigned most[CALLS];
 
@@ -150,8 +151,27 @@ static void feed_faults(uint64_t first) {
   }
 }
 
+/* A block as the label, and as another: resealed where carries arise in its sum, and then refused (12); resealed where none does;
+   with a word that is too large, and a word short (11). */
+static void reseal_blocks(void) {
+  for (number = 0; number < 2; number++) {
+    unsigned at = number == 0 ? LABEL_CHECKSUM_WORD : CHECKSUM_WORD;
+    words_lent = WORDS_IN_BLOCK;
+    write_group_block(block, PLAIN, full, 1);
+    block[at] = reader_old_checksum(block, at);
+    note(RESEAL, reseal, CLAMP_RESEALED);
+    note(RESEAL, reseal, CLAMP_REFUSED_CHECKSUM);
+    memset(block, 0, sizeof block);
+    note(RESEAL, reseal, CLAMP_RESEALED);
+    block[LAST_WORD] = bit_at(BITS_IN_WORD);
+    note(RESEAL, reseal, CLAMP_REFUSED_BLOCK);
+    words_lent = WORDS_IN_BLOCK - 1;
+    note(RESEAL, reseal, CLAMP_REFUSED_BLOCK);
+  }
+}
+
 int main(void) {
-  static const char *const names[CALLS] = {"make", "open", "feed", "release", "desk_words"};
+  static const char *const names[CALLS] = {"make", "open", "feed", "release", "reseal", "desk_words"};
   even_map(map);
   note(MAKE, make, CLAMP_MADE);
   for (unsigned load = 0; load < PLACES; load++) {
@@ -171,6 +191,7 @@ int main(void) {
   note(FEED, feed, CLAMP_REFUSED_TYPE_FLAG);
   note(RELEASE, release, CLAMP_RELEASED);
   note(RELEASE, release, CLAMP_REFUSED_PLACE);
+  reseal_blocks();
   note(WORDS, words, CLAMP_CODE(CLAMP_DESK_WORDS));
   for (unsigned i = 0; i < CALLS; i++)
     printf("%s\t%u\n", names[i], most[i]);

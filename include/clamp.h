@@ -99,9 +99,9 @@ extern "C" {
    a new call or answer; the first where a program has to change, or a saved desk is of no use any more. */
 
 #define CLAMP_VERSION_MAJOR 1
-#define CLAMP_VERSION_MINOR 0
+#define CLAMP_VERSION_MINOR 1
 #define CLAMP_VERSION_PATCH 0
-#define CLAMP_VERSION_STRING "1.0.0"
+#define CLAMP_VERSION_STRING "1.1.0"
 #define CLAMP_VERSION_NUMBER (CLAMP_VERSION_MAJOR * 10000 + CLAMP_VERSION_MINOR * 100 + CLAMP_VERSION_PATCH)
 
 /* How many numbers a desk has, 29,224 bytes: what clamp_desk_words() answers. Where the two differ, the program was compiled with
@@ -156,6 +156,7 @@ extern "C" {
 #define CLAMP_MORE 66u     /* by feed: the block is accepted, another is due */
 #define CLAMP_DONE 67u     /* by feed: the load is complete; the value is the absolute address of its start */
 #define CLAMP_RELEASED 68u /* by release */
+#define CLAMP_RESEALED 72u /* by reseal */
 
 /* A code in words, for a person to read: what was refused and why, or what was accepted. It is never NULL. */
 
@@ -188,6 +189,7 @@ static inline const char *clamp_text(uint64_t code) {
   case CLAMP_MORE: return "more";
   case CLAMP_DONE: return "done";
   case CLAMP_RELEASED: return "released";
+  case CLAMP_RESEALED: return "resealed";
   default: return "no answer of this version";
   }
 }
@@ -279,7 +281,8 @@ uint64_t clamp_open(uint64_t *desk, uint64_t desk_len,
      9, 0                 place is over 11, free, or another room's
      10, 0                the load is complete or broken: release it
      11, 0                block_len is not 256, or a word is 2^36 or more
-     12, 0                the checksum word differs. The same block may be read and fed again.
+     12, 0                the checksum word differs. The same block may be read and fed again. A block that a writer of before
+                          version 1.1 has sealed may need to be resealed first (clamp_reseal).
      13, 0                the block is of the wrong record
      14, 0                the label's program type flag is not 001
      15, 0                the label is at fault
@@ -320,6 +323,28 @@ uint64_t clamp_feed(uint64_t *desk, uint64_t desk_len,
 
 uint64_t clamp_release(uint64_t *desk, uint64_t desk_len,
                        uint64_t core_len, uint64_t room, uint64_t place);
+
+
+/* Reseal: a block of an old file is sealed by the checksum rule in force.
+
+   The checksum is the sum of a block's other 255 words, its upper 18 bits added to its lower 18. Before version 1.1 a carry out of
+   bit 35 of the sum was dropped; now it is added back at bit 0, each time one arises. The two differ just where a carry arises: such
+   a block of an old file meets 12 until it is resealed. It needs no desk.
+
+     block, block_len   the block, as it was sealed by the old rule
+     index              its number in the file: 0 for the label, any other number for any other block
+
+   Answers:
+
+     CLAMP_RESEALED, 0   the checksum word, word 254 of the label and word 255 of any other block, is the one that feed asks for. No
+                         other word is changed, and none is looked at but for its bits.
+     11, 0               block_len is not 256, or a word is 2^36 or more
+     12, 0               the checksum word is not that of the old rule: the block was misread, or is resealed already. (One in which
+                         no carry arises may be resealed as often as you like, and stays as it is.)
+
+   Refused, the block is as it was. The program reseal does this for a file of octal lines (README.md). */
+
+uint64_t clamp_reseal(uint64_t *block, uint64_t block_len, uint64_t index);
 
 
 /* An example: a core of 4,096 words, all of them room 0's; a load of 64 words at 512 with one I/O reference, which is assigned 3,

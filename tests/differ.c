@@ -1,13 +1,14 @@
 /* differ.c: holds the proved loader, called through clamp.h as the emulator calls it, against the reader. Both get the same calls,
    by chance from a seed: loads in many rooms, interleaved, right files and faulty ones, and arguments of any size. After each call the
-   answers and the whole cores must agree, and a refusal from 1 to 12 must have left the desk as it was, byte for byte.
+   answers and the whole cores must agree, and a refusal from 1 to 12 must have left the desk as it was, byte for byte. At its end
+   each round reseals blocks and a file: there every word of the block must agree.
 
      differ SEED ROUNDS          so many rounds, with the seeds SEED, SEED + 1, ..
      differ --seconds N SEED     rounds for so many seconds
 
    It ends with a line 'N passed, M failed', N being the calls compared. The first difference ends it, and tells the seed of its
    round: differ SEED 1 does that round again. An answer or a kind of fault that was never seen is a failure too, and so is it where
-   blocks were never seen in whose sum no carry arises, or one, or several. */
+   blocks were never seen in whose sum no carry arises, or one, or several, or where a kind of block was never given to reseal. */
 
 #include <inttypes.h>
 #include <stdio.h>
@@ -16,6 +17,7 @@
 #include <time.h>
 
 #include "differ/deck.h"
+#include "differ/reseal.h"
 #include "differ/steps.h"
 
 enum { STEPS_IN_ROUND = 300, RUSH = 40 };
@@ -65,6 +67,8 @@ static void play_round(uint64_t round_seed) {
     step_open();
   for (unsigned i = 0; i < STEPS_IN_ROUND; i++)
     step();
+  reseal_blocks();
+  reseal_file();
 }
 
 /* ---- the result */
@@ -90,7 +94,7 @@ static bool print_table(void) {
   printf("blocks with no carry in the sum: %" PRIu64 ", with one: %" PRIu64 ", with several: %" PRIu64 "\n", carries_seen[0],
          carries_seen[1], carries_seen[2]);
   printf("desks with one number changed: %" PRIu64 ", refused %" PRIu64 "\n", changed_desks, changed_desks_refused);
-  return all;
+  return print_reseals() && all;
 }
 
 /* ---- the program */

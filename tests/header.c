@@ -1,6 +1,6 @@
 /* header.c: what clamp.h says beside its calls: versions, the desk's length, names and words of the codes, and that a desk is plain
-   numbers that may be copied, saved and brought back. C99, C11 and C++; tests/header builds it as each, and runs it with the hand deck
-   on standard input. */
+   numbers that may be copied, saved and brought back; and the hand deck resealed. C99, C11 and C++; tests/header builds it as each,
+   and runs it with the hand deck on standard input. */
 #include <stdio.h>
 #include <string.h>
 
@@ -38,9 +38,21 @@ static const uint64_t refusals[] = {CLAMP_REFUSED_DESK, CLAMP_REFUSED_CORE, CLAM
                                     CLAMP_REFUSED_RECORD, CLAMP_REFUSED_TYPE_FLAG, CLAMP_REFUSED_LABEL, CLAMP_REFUSED_ASSIGNMENTS,
                                     CLAMP_REFUSED_SECTION, CLAMP_REFUSED_GROUP, CLAMP_REFUSED_FORM, CLAMP_REFUSED_REFERENCE,
                                     CLAMP_REFUSED_VALUE, CLAMP_REFUSED_START};
-static const uint64_t accepted[] = {CLAMP_MADE, CLAMP_OPENED, CLAMP_MORE, CLAMP_DONE, CLAMP_RELEASED};
+static const struct {
+  uint64_t name, number; /* 69 to 71 are no answers of this version */
+} accepted[] = {{CLAMP_MADE, 64}, {CLAMP_OPENED, 65},   {CLAMP_MORE, 66},
+                {CLAMP_DONE, 67}, {CLAMP_RELEASED, 68}, {CLAMP_RESEALED, 72}};
 
 enum { REFUSALS = sizeof refusals / sizeof refusals[0], ACCEPTED = sizeof accepted / sizeof accepted[0] };
+
+/* Whether it is one of the numbers that have names. */
+static int is_answer(uint64_t code) {
+  unsigned i;
+  for (i = 0; i < ACCEPTED; i++)
+    if (code == accepted[i].number)
+      return 1;
+  return code >= 1 && code <= REFUSALS;
+}
 
 static uint64_t calls;
 static uint64_t counted(uint64_t answer) {
@@ -55,10 +67,11 @@ static void check_codes(void) {
   check(REFUSALS == 22, "22 refusals have names");
   for (i = 0; i < REFUSALS; i++)
     check(refusals[i] == i + 1, "each name has its number");
+  check(ACCEPTED == 6, "six accepted answers have names");
   for (i = 0; i < ACCEPTED; i++)
-    check(accepted[i] == 64 + i, "each accepted answer has its number");
+    check(accepted[i].name == accepted[i].number, "each accepted answer has its number");
   for (code = 0; code < 200; code++) {
-    int named = (code >= 1 && code <= REFUSALS) || (code >= 64 && code < 64 + ACCEPTED);
+    int named = is_answer(code);
     check((strcmp(clamp_text(code), none) != 0) == named, "just the answers of this version have words");
     check((CLAMP_IS_REFUSAL(code << 32) != 0) == (code >= 1 && code <= 63), "codes 1 to 63 are refusals");
     check((CLAMP_IS_REFUSAL((code << 32) + 0xffffffffu) != 0) == (code >= 1 && code <= 63), "whatever the value");
@@ -117,11 +130,32 @@ static void check_saved(void) {
   }
 }
 
+/* ---- the call that needs no desk */
+
+/* By the rule before request #104 the hand deck's program block ended 000001146450. No carry arises in the other blocks, which are
+   the same by either rule. */
+static void check_resealed(void) {
+  uint64_t block[256];
+  unsigned i;
+  for (i = 0; i < DECK_BLOCKS; i++) {
+    memcpy(block, deck[i], sizeof block);
+    if (i == 1)
+      block[255] = 01146450;
+    check(clamp_reseal(block, 256, i) == (uint64_t)CLAMP_RESEALED << 32, "resealed");
+    check(memcmp(block, deck[i], sizeof block) == 0, "a resealed block of the hand deck is the one that is fed");
+    check(CLAMP_CODE(clamp_reseal(block, 256, i)) == (i == 1 ? CLAMP_REFUSED_CHECKSUM : CLAMP_RESEALED), "resealed once more");
+    check(clamp_reseal(block, 255, i) == (uint64_t)CLAMP_REFUSED_BLOCK << 32, "a part of a block");
+    check(memcmp(block, deck[i], sizeof block) == 0, "the block is as it was");
+  }
+  check(clamp_reseal(NULL, 0, 0) == (uint64_t)CLAMP_REFUSED_BLOCK << 32, "a block of length 0 at NULL");
+}
+
 int main(void) {
   read_deck();
   check_numbers();
   check_codes();
   check_saved();
+  check_resealed();
   printf("%lu passed, %lu failed\n", passed, failed);
   return failed != 0;
 }

@@ -677,3 +677,30 @@ uint64_t reader_release(struct reader *desk, uint64_t core_length, uint64_t room
   desk->places[place].stage = FREE;
   return told(RELEASED, 0);
 }
+
+/* ---- reseal */
+
+/* The rule before request #104: "Sum the other 255 words, drop overflow above bit 35, and add the upper 18 bits of the result to
+   the lower 18". */
+uint64_t reader_old_checksum(const uint64_t *block, unsigned at) {
+  uint64_t sum = 0;
+  for (unsigned i = 0; i < WORDS_IN_BLOCK; i++) {
+    if (i == at)
+      continue;
+    sum += block[i];
+    if (bit(sum, 36))
+      sum = part(sum, 35, 0);
+  }
+  return part(sum, 35, 18) + part(sum, 17, 0);
+}
+
+/* Request #104: "block by block, once the old rule has passed". The block with index 0 is the label. */
+uint64_t reader_reseal(uint64_t *block, uint64_t block_length, uint64_t index) {
+  unsigned at = index == 0 ? LABEL_CHECKSUM : CHECKSUM;
+  if (!is_block(block, block_length))
+    return refused(REFUSED_BLOCK);
+  if (block[at] != reader_old_checksum(block, at))
+    return refused(REFUSED_CHECKSUM);
+  block[at] = reader_checksum(block, at);
+  return told(RESEALED, 0);
+}

@@ -74,7 +74,10 @@ uint64_t reader_feed(struct reader *desk, uint64_t *core, uint64_t core_length, 
 
 uint64_t reader_release(struct reader *desk, uint64_t core_length, uint64_t room, uint64_t place);
 
-/* The checksum of a block whose checksum word is word `at`. */
+uint64_t reader_reseal(uint64_t *block, uint64_t block_length, uint64_t index);
+
+/* The checksum of a block whose checksum word is word `at`: by the rule in force, and by the one before request #104. */
 uint64_t reader_checksum(const uint64_t *block, unsigned at);
+uint64_t reader_old_checksum(const uint64_t *block, unsigned at);
 
 #endif

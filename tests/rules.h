@@ -26,7 +26,7 @@ enum {
 
 /* ---- answers: code * 2^32 + value. A code is a refusal's number or one of these (docs/ANSWERS.md). */
 
-enum { MADE = 64, OPENED = 65, MORE = 66, DONE = 67, RELEASED = 68 };
+enum { MADE = 64, OPENED = 65, MORE = 66, DONE = 67, RELEASED = 68, RESEALED = 72 };
 
 enum {
   REFUSED_DESK = 1,         /* not of its length, or not sound */

@@ -114,12 +114,17 @@ bool cores_agree(void) {
 }
 
 /* One call: what the proved loader answered, what the reader did, and what was foretold or 0. */
-static void compare(const char *call, uint64_t proved, uint64_t plain, uint64_t answer) {
+static void compare_answers(const char *call, uint64_t proved, uint64_t plain, uint64_t answer) {
   calls++;
   if (proved != plain)
     fail(call, "the answers differ", proved, plain, answer);
   if (answer != 0 && proved != answer)
     fail(call, "another answer was foretold", proved, plain, answer);
+}
+
+/* The same of a call on a desk, and what it has left. */
+static void compare(const char *call, uint64_t proved, uint64_t plain, uint64_t answer) {
+  compare_answers(call, proved, plain, answer);
   if (!cores_agree())
     fail(call, "the cores differ", proved, plain, answer);
   if (changes_nothing(CLAMP_CODE(proved)) && !desk_is_as_before())
@@ -190,4 +195,18 @@ struct numbers map_of(const struct run *stretches) {
     map.at[2 * room + 1] = stretches[room].length;
   }
   return map;
+}
+
+/* ---- reseal: it is lent nothing but the block. Its refusals are not counted among those of the four calls. */
+
+uint64_t both_reseal(struct numbers *block, uint64_t index, uint64_t answer) {
+  uint64_t bytes = block->count * sizeof block->at[0];
+  uint64_t *lent = block->count == 0 ? NULL : memcpy(lend(&lent_first, block->count), block->at, bytes);
+  uint64_t proved = clamp_reseal(lent, block->count, index), plain = reader_reseal(block->at, block->count, index);
+  compare_answers("reseal", proved, plain, answer);
+  if (lent != NULL && (memcmp(lent, block->at, bytes) != 0 || !fence_stands(lent)))
+    fail("reseal", "the blocks differ, or written before one", proved, plain, answer);
+  if (!cores_agree() || !desk_is_as_before() || !fence_stands(lent_desk.start))
+    fail("reseal", "desk or core changed", proved, plain, answer);
+  return proved;
 }

@@ -15,7 +15,7 @@ uint64_t clamp_feed(uint64_t *desk, uint64_t desk_len, uint64_t *core, uint64_t 
 enum { NUMBERS_MOST = 700, CODES = 128 };
 
 /* The calls. */
-enum { MAKE, OPEN, FEED, RELEASE };
+enum { MAKE, OPEN, FEED, RELEASE, RESEAL };
 
 /* A map, a list or a block as the calls take them, with room for too many numbers. */
 struct numbers {
@@ -49,6 +49,9 @@ uint64_t both_open(uint64_t length, uint64_t room, struct run area, const struct
                    uint64_t answer);
 uint64_t both_feed(uint64_t length, uint64_t room, uint64_t place, const struct numbers *block, uint64_t answer);
 uint64_t both_release(uint64_t length, uint64_t room, uint64_t place, uint64_t answer);
+
+/* Reseal: both get this block, which is then as they left it. `answer` is the one that is foretold. */
+uint64_t both_reseal(struct numbers *block, uint64_t index, uint64_t answer);
 
 /* Something else that has to hold, counted as a call. */
 void check(bool holds, const char *what);

@@ -35,22 +35,30 @@ static void check_identifiers(void) {
 }
 
 /* "word sum 0 gives checksum 0; one word 2^36-1 gives 524,286"; two gave 524,285, and by request #104 "now give 524,286". A third
-   word, 1, gives another carry, and 1 is left: were what ran over added back once, after the last word, it would run over again. */
+   word, 1, gives another carry, and 1 is left: were what ran over added back once, after the last word, it would run over again.
+   Where carries are dropped it gives 524,286. A block of each old checksum is resealed. */
 static void check_checksums(void) {
   const uint64_t most = bit_at(BITS_IN_WORD) - 1, words[3] = {most, most, 1};
-  static const uint64_t sums[4] = {0, 524286, 524286, 1};
-  uint64_t block[WORDS_IN_BLOCK] = {0};
+  static const uint64_t sums[4] = {0, 524286, 524286, 1}, old_sums[4] = {0, 524286, 524285, 524286};
+  struct numbers block = {.count = WORDS_IN_BLOCK};
+  uint64_t *checksum = &block.at[CHECKSUM_WORD];
+  begin(CORE_MOST);
   for (unsigned count = 0; count <= 3; count++) {
     if (count > 0)
-      block[FIRST_WORD + count - 1] = words[count - 1];
-    check(reader_checksum(block, CHECKSUM_WORD) == sums[count], "checksum of the reader");
-    seal(block, false);
-    check(block[CHECKSUM_WORD] == sums[count], "checksum of the generator");
+      block.at[FIRST_WORD + count - 1] = words[count - 1];
+    check(reader_checksum(block.at, CHECKSUM_WORD) == sums[count], "checksum of the reader");
+    seal(block.at, false);
+    check(*checksum == sums[count], "checksum of the generator");
+    check(reader_old_checksum(block.at, CHECKSUM_WORD) == old_sums[count], "old checksum of the reader");
+    seal_as_before(block.at, false);
+    check(*checksum == old_sums[count], "old checksum of the generator");
+    both_reseal(&block, 1, told(RESEALED, 0));
+    check(*checksum == sums[count], "the checksum resealed");
   }
 }
 
 /* The three blocks of the load printer, as 01 writes them, but "the hand deck's program block ends 000001146451" (#104): it prints
-   "0 more", "1 more", "2 done 512". */
+   "0 more", "1 more", "2 done 512". In 01 it ends 000001146450: so it is refused, and resealed. In the others no carry arises. */
 static void check_printed_deck(void) {
   enum { CORE = 4096, AREA = 512, SIZE = 64 };
   static const struct at label[] = {{0, 0060505050505},
@@ -65,13 +73,20 @@ static void check_printed_deck(void) {
                                       {5, 0401001400000},
                                       {6, 0000000000007},
                                       {7, 0200000000000},
-                                      {255, 0000001146451},
+                                      {255, 0000001146450},
                                       {0, 0}};
   static const struct at termination[] = {{0, 0503127222710}, {255, 0000000726037}, {0, 0}};
   struct numbers none = {.count = 0}, blocks[3] = {deck_block(label), deck_block(program), deck_block(termination)};
   begin(CORE);
   both_open(CORE, 0, (struct run){AREA, SIZE}, &none, &none, told(OPENED, 0));
   both_feed(CORE, 0, 0, &blocks[0], told(MORE, 0));
+  both_feed(CORE, 0, 0, &blocks[1], REFUSED(CHECKSUM));
+  for (unsigned i = 0; i < 3; i++) {
+    uint64_t *checksum = &blocks[i].at[i == 0 ? LABEL_CHECKSUM_WORD : CHECKSUM_WORD], before = *checksum;
+    both_reseal(&blocks[i], i, told(RESEALED, 0));
+    check(*checksum == (i == 1 ? 0000001146451 : before), "the hand deck resealed");
+    both_reseal(&blocks[i], i, i == 1 ? REFUSED(CHECKSUM) : told(RESEALED, 0));
+  }
   both_feed(CORE, 0, 0, &blocks[1], told(MORE, 0));
   both_feed(CORE, 0, 0, &blocks[2], told(DONE, AREA));
   check(lent_core.start[AREA] == 7 + AREA, "7 plus the area's address");

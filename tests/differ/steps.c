@@ -167,8 +167,7 @@ static uint64_t foretell(unsigned place) {
   return block == file->termination ? told(DONE, file->start) : told(MORE, 0);
 }
 
-/* The area of a load that is done must be as foretold. */
-static void check_image(const struct file *file, uint64_t answer) {
+void check_image(const struct file *file, uint64_t answer) {
   if (memcmp(lent_core.start + file->area.start, file->image, file->area.length * sizeof *file->image) != 0)
     fail("feed", "another image was foretold", answer, answer, 0);
 }

@@ -31,7 +31,7 @@ void step_desk_length(void);
 void step_any_desk(void);
 void step_changed_desk(void);
 
-/* ---- what wrong.c and desks.c need of steps.c */
+/* ---- what wrong.c, desks.c and reseal.c need of steps.c */
 
 /* A room and an area for it, in free words. Now and then there is no free word, and the area is one that is to be refused. */
 struct run any_area(uint64_t *room);
@@ -43,5 +43,6 @@ void drop_file(uint64_t place);
 void foretell_no_more(uint64_t place);
 struct numbers io_of(const struct file *file); /* open's lists */
 struct numbers tables_of(const struct file *file);
+void check_image(const struct file *file, uint64_t answer); /* the area of a load that is done must be as foretold */
 
 #endif
