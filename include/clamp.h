@@ -10,8 +10,8 @@
    Everything is a uint64_t. The loader keeps nothing of its own between two calls, and allocates no memory: all that it knows
    stands in a desk, which the emulator keeps and lends to each call.
 
-     desk     CLAMP_DESK_WORDS numbers. Make fills it, the other calls keep it. Do not write into it: each call tests the whole
-              desk first, and answers one that cannot be right with refusal 1. Two desks have nothing to do with each other.
+     desk     CLAMP_DESK_WORDS numbers. Make fills it, open, feed and release keep it. Do not write into it: they test the whole
+              desk first, and answer one that cannot be right with refusal 1. Two desks have nothing to do with each other.
      core     the words of the emulated core, one 36-bit word in each number, from 1 to 65,536 of them. The loader reads no core
               word, and stores only values below 2^36.
      map      which stretch of the core belongs to which room: start and length of room 0's, of room 1's, and so on to room 7's,
@@ -27,7 +27,8 @@
 
    WORDS OF THE FILE
 
-     block          256 words of the tape. The first of a file is its label, the last its termination block.
+     block          256 words of the tape. The first of a file is its label, the last its termination block. One of them is its
+                    checksum.
      entry          what the file says of one thing that it refers to by number: an I/O reference or a table.
      I/O reference  a jump switch, a channel or a unit. Open is given the number that is to stand for it.
      table          a core table: words of the area beside the program's own. Open is given its address and length.
@@ -74,13 +75,13 @@
    loads, and bring both back together: a load that goes on over another core ends in another image, and no call can tell. A desk
    is for the library that made it: save CLAMP_VERSION_STRING beside it.
 
-   Stack. Measured, the most of many calls: 2,624 bytes in open, 848 in feed, 336 in release, 64 in make (docs/PERFORMANCE.md). The
-   tests fail where open takes over 3,072 or another call over 1,024. The first call that copies or clears memory may take some 3 KB
-   more, where the dynamic linker then looks for memcpy or memset. No call is recursive.
+   Stack. Measured, the most of many calls: 2,624 bytes in open, 848 in feed, 336 in release, 64 in make, 16 in reseal
+   (docs/PERFORMANCE.md). The tests fail where open takes over 3,072 or another call over 1,024. The first call that copies or
+   clears memory may take some 3 KB more, where the dynamic linker then looks for memcpy or memset. No call is recursive.
 
-   Cost. Every call tests the whole desk: some 400 instructions with one load of few tables, 8,700 with twelve loads of 128 tables
-   each. To that a program block adds from 1,300 (no field changed) to 22,000 (every field), and open has the area to clear and the
-   tables to sort. No call waits, calls the operating system or calls back.
+   Cost. Open, feed and release test the whole desk: some 400 instructions with one load of few tables, 8,700 with twelve loads of
+   128 tables each. To that a program block adds from 1,300 (no field changed) to 22,000 (every field), and open has the area to clear
+   and the tables to sort. Reseal goes through the block once, some 520. No call waits, calls the operating system or calls back.
 
    A call that does not return (longjmp out of a signal handler, a thread that is ended) may leave any desk and core: make the desk
    again. The library has no unwind tables, because the Rattle kit makes none: a debugger that stops inside a call may not find the

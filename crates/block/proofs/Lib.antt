@@ -1,3 +1,4 @@
 pub mod Checksum
+pub mod Quarters
 pub mod OnePass
 pub mod Records
