@@ -1,13 +1,13 @@
 -- The checksum by one plain sum of all words, from which the checksum word is taken away again, and which is carried round
 -- afterwards: for any number of words that is the sum whose every carry was added back as it arose.
 use Prim.Native.Nat.{ℕ, zero, suc, _+_, _-_, _*_, _/_, _%_, _^_, _≤_, _<_}
-use mathlib.Core.Path.{_≡_, refl, sym, ap, _∙_}
+use mathlib.Core.Path.{_≡_, sym, ap, _∙_}
 use mathlib.Core.Bool.{true}
 use mathlib.Core.List.{List, [], _∷_}
 use native.Mathlib.Omega.{arith}
 use native.Mathlib.Nat.{zero-add, add-zero, add-assoc}
 use native.Mathlib.Numerals.{add-one}
-use lib.ListN.{length, getD, set, take, drop, drop-of-length-le}
+use lib.ListN.{length, getD, set, drop, drop-of-length-le}
 use lib.Seq.{drop-cons, take-set-le, drop-set-lt}
 use borrow.Author.Tests.{ltb-true}
 use Rattle.word.specs.Word.{wordLimit, isWord}
@@ -129,6 +129,16 @@ pub sum-after : (n s : ℕ) (ws : List ℕ) → s < 2 ^ 36 → every isWord ws �
 sum-after n s ws h a k =
     round-one (s + total ws) (sumOf added s ws) (rounds n (s + total ws)) (sum-round s ws) (rounds-round n (s + total ws))
     (sum-word s ws h a) k
+
+-- there is always an end to it: a sum over 36 bits is less after a round
+rounds-end : (n s : ℕ) → s < 2 ^ 36 + n → rounds n s < 2 ^ 36
+unfolding rounds
+rounds-end zero s h = omega arith
+rounds-end (suc n) s h = rounds-end n (carriedRound s) (omega arith)
+
+pub sum-always : (s : ℕ) (ws : List ℕ) → s < 2 ^ 36 → every isWord ws ≡ true
+    → sumOf added s ws ≡ rounds (s + total ws) (s + total ws)
+sum-always s ws h a = sum-after (s + total ws) s ws h a (rounds-end (s + total ws) (s + total ws) (omega arith))
 
 -- two rounds are enough for a sum of 64 bits
 once-small : (s : ℕ) → s < 2 ^ 64 → carriedRound s < 2 ^ 36 + 2 ^ 28

@@ -1,13 +1,13 @@
 -- The pass goes through the four quarters of a block side by side, a word of each in a turn: what is left of the block, and what a
 -- turn takes of it.
-use Prim.Native.Nat.{ℕ, suc, _+_, _%_, _^_, _≤_, _<_}
+use Prim.Native.Nat.{ℕ, _+_, _%_, _^_, _≤_, _<_}
 use mathlib.Core.Path.{_≡_, refl, sym, ap, _∙_}
 use mathlib.Core.Bool.{Bool, true, false, _&&_}
 use mathlib.Core.List.{List, [], _∷_, _++_}
 use native.Mathlib.Omega.{arith}
 use native.Mathlib.Numerals.{add-one}
 use native.Mathlib.Nat.{zero-add}
-use lib.ListN.{length, getD, take, drop, take-append-drop, drop-of-length-le}
+use lib.ListN.{length, getD, drop, take-append-drop, drop-of-length-le}
 use lib.Seq.{drop-cons, drop-drop}
 use lib.Bits.{bitOr}
 use lib.Dec.{leb}
@@ -15,7 +15,7 @@ use borrow.Author.Tests.{leb-true}
 use Rattle.word.specs.Limits.{wordsInBlock}
 use Rattle.word.specs.Word.{isWord}
 use Rattle.word.specs.Lists.{every, range}
-use Rattle.word.proofs.Cases.{and-assoc, and-true, and-left, and-right}
+use Rattle.word.proofs.Cases.{and-assoc, and-true}
 use Rattle.word.proofs.Range.{or-below}
 use Rattle.word.proofs.Stretch.{every-head, every-tail}
 use Rattle.word.proofs.Lists.{length-range, length-range-most, getD-range}
@@ -27,10 +27,10 @@ unfolding total
 total-append [] ys = omega arith
 total-append (x ∷ xs) ys = rw (total-append xs ys) (omega arith)
 
-and-swap : (a b c : Bool) → (a && (b && c)) ≡ (b && (a && c))
-and-swap true b c = refl
-and-swap false true c = refl
-and-swap false false c = refl
+and-past : (a b c : Bool) → (a && (b && c)) ≡ (b && (a && c))
+and-past true b c = refl
+and-past false true c = refl
+and-past false false c = refl
 
 every-append : (xs ys : List ℕ) → every isWord (xs ++ ys) ≡ (every isWord xs && every isWord ys)
 unfolding every
@@ -99,7 +99,7 @@ module _ (l : List ℕ) (i : ℕ) where
         every-append (drop (i + 1) (range l a quarter)) (leftOf starts l (i + 1)),
         left-every starts (every-tail inside a starts q) h,
       )
-      (ap (λ (b : Bool). isWord w && b) (and-swap d e r) ∙ sym (and-assoc (isWord w) e (d && r)))
+      (ap (λ (b : Bool). isWord w && b) (and-past d e r) ∙ sym (and-assoc (isWord w) e (d && r)))
 
 -- ---- a turn of the loop, by the four words that it takes
 wrapped : (s x r t : ℕ) → (s + (x + r)) % 2 ^ 64 ≡ t % 2 ^ 64 → ((s + x) % 2 ^ 64 + r) % 2 ^ 64 ≡ t % 2 ^ 64

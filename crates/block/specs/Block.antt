@@ -1,6 +1,6 @@
 -- Refusals 11 and 12: "block not 256 words, or a word of 2^36 or more"; "checksum word differs".
 use Prim.Native.Nat.{ℕ}
-use mathlib.Core.Bool.{Bool, cond, _&&_}
+use mathlib.Core.Bool.{Bool, _&&_}
 use mathlib.Core.List.{List}
 use lib.ListN.{length}
 use lib.Dec.{eqb}

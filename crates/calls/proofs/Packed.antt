@@ -16,6 +16,7 @@ packed-apart More h = (omega arith, omega arith)
 packed-apart (Done start) h = (omega arith, omega arith)
 packed-apart Released h = (omega arith, omega arith)
 
-pub file-packed-apart : (a : FileAnswer) → FileSmall a → (filePacked a / 2 ^ 32 ≡ fileCodeOf a) × (filePacked a % 2 ^ 32 ≡ fileValueOf a)
+pub file-packed-apart : (a : FileAnswer) → FileSmall a
+    → (filePacked a / 2 ^ 32 ≡ fileCodeOf a) × (filePacked a % 2 ^ 32 ≡ fileValueOf a)
 file-packed-apart (FileRefused f) h = (omega arith, omega arith)
 file-packed-apart Resealed h = (omega arith, omega arith)

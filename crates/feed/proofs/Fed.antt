@@ -6,8 +6,6 @@ use mathlib.Core.Bool.{true, false}
 use mathlib.Core.List.{List}
 use native.Mathlib.Omega.{arith}
 use lib.ListN.{length, getD}
-use lib.Dec.{eqb}
-use borrow.Author.Tests.{eqb-true}
 use Rattle.word.specs.Limits.{wordsInBlock, placeCount, coreMost}
 use Rattle.word.specs.Lists.{every}
 use Rattle.word.specs.Fault.{fault}
@@ -16,7 +14,7 @@ use Rattle.word.specs.declared.Area.{Area}
 use Rattle.word.specs.declared.Fault.{Fault}
 use Rattle.word.specs.declared.Absolute.{Absolute}
 use Rattle.word.specs.Word.{isWord}
-use Rattle.word.proofs.Cases.{when, both}
+use Rattle.word.proofs.Cases.{when}
 use Rattle.word.proofs.Stretch.{length-cleared}
 use Rattle.word.proofs.Word.{part-below}
 use Rattle.block.specs.declared.Record.{Record}

@@ -12,7 +12,7 @@ use Rattle.field.specs.Field.{fieldStep}
 use Rattle.hand_deck.specs.Hand.{cases}
 
 pub hand : (h : Half) → map (λ (c : ℕ × ℕ). c .0) (cases h) ≡ map (λ (c : ℕ × ℕ). c .1) (cases h)
-unfolding spelt modification program termination sumOf checksum valued plusOrMinus movedField table referred minusZero short long constant
-    becomes putBack fieldStep
+unfolding spelt modification program termination sumOf checksum valued plusOrMinus movedField table referred minusZero short long
+    constant becomes putBack fieldStep
 hand Left = refl
 hand Right = refl

@@ -1,7 +1,7 @@
 -- The two rules beside each other, by the plain sum of the words: the old one keeps what stands below 2^36 of it, the one in force
 -- adds back what stands above. So they differ as soon as anything does.
 use Prim.Native.Nat.{ℕ, _+_, _-_, _*_, _/_, _%_, _^_, _≤_, _<_}
-use mathlib.Core.Path.{_≡_, refl, sym, ap, _∙_}
+use mathlib.Core.Path.{_≡_, sym, ap, _∙_}
 use mathlib.Core.Bool.{true, false}
 use mathlib.Core.List.{List, [], _∷_}
 use native.Mathlib.Omega.{arith}

@@ -1,5 +1,5 @@
 -- What is promised of the two rules and of resealing (specs/Promises.antt), from the laws of the checksum.
-use Prim.Native.Nat.{ℕ, _+_, _≤_, _<_, _^_}
+use Prim.Native.Nat.{ℕ, _<_}
 use mathlib.Core.Path.{_≡_, refl, sym, ap, _∙_}
 use mathlib.Core.Bool.{Bool, true, false, cond, false≢true}
 use mathlib.Core.List.{List}
@@ -19,7 +19,6 @@ use Rattle.block.specs.Records.{checksumPlace}
 use Rattle.block.specs.Checksum.{checksum, others}
 use Rattle.block.specs.Block.{wholeBlock, sealVerdict, verdict}
 use Rattle.block.specs.declared.Record.the-variants.{Label, Program}
-use Rattle.block.specs.declared.Verdict.{Verdict}
 use Rattle.block.specs.declared.Verdict.the-variants.{Pass, Refused}
 use Rattle.block.proofs.Records.{place-small}
 use Rattle.block.proofs.Checksum.{words-others, length-others, others-set, checksum-word}
@@ -38,7 +37,8 @@ module _ (p : ℕ) (l : List ℕ) (small : p < wordsInBlock) (whole : wholeBlock
   summed-agree : (oldChecksum (others p l) ≡ checksum (others p l)) ↔ (carries 0 (others p l) ≡ false)
   summed-agree =
       let n = whole-long l whole in
-      rules-agree (others p l) (words-others l p (omega arith) (whole-words l whole)) (omega (arith, length-others l p (omega arith)))
+      rules-agree (others p l) (words-others l p (omega arith) (whole-words l whole))
+      (omega (arith, length-others l p (omega arith)))
 
   -- one rule's verdict of a block that has the other rule's checksum
   met : (rule : List ℕ → ℕ) → ((rule (others p l) ≡ getD l p 0) ↔ (carries 0 (others p l) ≡ false))
@@ -96,7 +96,8 @@ module _ (p : ℕ) (l : List ℕ) (small : p < wordsInBlock) (whole : wholeBlock
       ∙ set-set l p (checksum (others p l)) (checksum (others p l))
 
 -- ---- resealing
-resealed-pass : (index : ℕ) (block : List ℕ) → oldVerdict index block ≡ Pass → resealed index block ≡ sealedAnew (sealPlace index) block
+resealed-pass : (index : ℕ) (block : List ℕ) → oldVerdict index block ≡ Pass
+    → resealed index block ≡ sealedAnew (sealPlace index) block
 unfolding resealed
 resealed-pass index block e = rw e
 

@@ -1,5 +1,5 @@
--- Resealing (#104): "a small program reseals a file, block by block, once the old rule has passed". A block is known by its index in
--- the file, 0 for the label; its record and what else stands in it are not looked at.
+-- Resealing (#104): "a small program reseals a file, block by block, once the old rule has passed". A block is known by its index
+-- in the file, 0 for the label; its record and what else stands in it are not looked at.
 use Prim.Native.Nat.{ℕ}
 use mathlib.Core.Path.{_≡_}
 use mathlib.Core.Bool.{cond}

@@ -1,5 +1,5 @@
-// The reseal program (#104): reads a program file of the old checksum rule, 256 lines of 12 octal digits a block, and prints it with
-// each block sealed by the rule in force, once the old rule has passed.
+// The reseal program (#104): reads a program file of the old checksum rule, 256 lines of 12 octal digits a block, and prints it
+// with each block sealed by the rule in force, once the old rule has passed.
 ghost use mathlib.Core.Path.{_≡_};
 ghost use lib.ListN.{length};
 ghost use Rattle.word.specs.Limits.{wordsInBlock};

@@ -55,18 +55,18 @@ use Rattle.demands.proofs.Demands.{demand-2, demand-2-start}
 -- a history, with every definition that computing it opens; a proof that unfolds it opens them all
 computed : List Event → List Told
 unfolding every everyTwo range tab splice cleared within apart characters spelt modification program termination sumOf checksum
-    wholeBlock sealVerdict verdict isName isRest letterOrDigit tableWordsIn tableWords tablesInOrder entriesOf countsOf withinLimits labelOf finished
-    programWordFits assignmentsFit bankOf segmentOf tableSectionOf groupOf inBank bitsOf flatMap indicatorBits bitsBefore numberAt
-    indicatorAt afterField afterWord afterAll listsObey tablesObey tablesOf numbersKept wordsKept ranksKept wordsFrom sorted ranked
-    numbersIn tablesIn chain chainFrom valued movedField becomes putBack fieldStep halfStep wordStep changedWords wordsLie addressOf
-    indicatorsFit groupFits refusedGroup storedGroup groupOutcome readOutcome groupStep numbersOf stageOf labelCountsFit bankFits
-    dueFits stageFits recordDue isOver afterLabel withLabel labelStep terminationStep banksFit withSegment segmentStep afterLast
-    afterGroup itemStep closes programFrom programStep stretchOf mapOf inCore stretchesApart mapObeys hit count free held heldEach
-    idle atMost fair placeRefusal lowestFree mapNumbers holders places placeIn ownOf stageIn listsIn iosIn wordsIn ranksIn
-    coreTables ioNumbers keptLists areaIn countsFit loadFits heldFits placeFits areasApart sound freed freshDesk makeOf besideOwn
-    areaFits openedOwn openedPlace openedDesk opened grantOf openOf entryRefusal entered holds dueStep blockStep loadIn staged
-    settledOf takenOf checkedOf heldOf feedOf withWords blank deckLabel deckProgram deckTermination run answerTo call event told
-    oldDesk oldCore old answersIn taken starts isGone releaseOf
+    wholeBlock sealVerdict verdict isName isRest letterOrDigit tableWordsIn tableWords tablesInOrder entriesOf countsOf
+    withinLimits labelOf finished programWordFits assignmentsFit bankOf segmentOf tableSectionOf groupOf inBank bitsOf flatMap
+    indicatorBits bitsBefore numberAt indicatorAt afterField afterWord afterAll listsObey tablesObey tablesOf numbersKept
+    wordsKept ranksKept wordsFrom sorted ranked numbersIn tablesIn chain chainFrom valued movedField becomes putBack fieldStep
+    halfStep wordStep changedWords wordsLie addressOf indicatorsFit groupFits refusedGroup storedGroup groupOutcome readOutcome
+    groupStep numbersOf stageOf labelCountsFit bankFits dueFits stageFits recordDue isOver afterLabel withLabel labelStep
+    terminationStep banksFit withSegment segmentStep afterLast afterGroup itemStep closes programFrom programStep stretchOf mapOf
+    inCore stretchesApart mapObeys hit count free held heldEach idle atMost fair placeRefusal lowestFree mapNumbers holders places
+    placeIn ownOf stageIn listsIn iosIn wordsIn ranksIn coreTables ioNumbers keptLists areaIn countsFit loadFits heldFits
+    placeFits areasApart sound freed freshDesk makeOf besideOwn areaFits openedOwn openedPlace openedDesk opened grantOf openOf
+    entryRefusal entered holds dueStep blockStep loadIn staged settledOf takenOf checkedOf heldOf feedOf withWords blank deckLabel
+    deckProgram deckTermination run answerTo call event told oldDesk oldCore old answersIn taken starts isGone releaseOf
 computed es = told es old
 
 -- ---- what the histories lead to, each by computing

@@ -58,8 +58,8 @@ use Rattle.worked_file.specs.Split.{splitImage}
 
 unfoldable pub opens : ℕ
 unfolding flatMap every everyTwo range tab splice cleared within apart characters spelt modification program termination sumOf
-    checksum wholeBlock sealVerdict verdict isName isRest letterOrDigit tableWordsIn tableWords isCarried tablesInOrder entriesOf countsOf
-    withinLimits labelOf finished programWordFits assignmentsFit bankOf segmentOf tableSectionOf groupOf inBank bitsOf
+    checksum wholeBlock sealVerdict verdict isName isRest letterOrDigit tableWordsIn tableWords isCarried tablesInOrder entriesOf
+    countsOf withinLimits labelOf finished programWordFits assignmentsFit bankOf segmentOf tableSectionOf groupOf inBank bitsOf
     indicatorBits bitsBefore numberAt indicatorAt afterField afterWord afterAll valued plusOrMinus movedField table referred
     pair minusZero short long constant switch unit becomes putBack fieldStep halfStep wordStep changedWords wordsLie addressOf
     indicatorsFit groupFits refusedGroup storedGroup groupOutcome readOutcome groupStep labelCountsFit bankFits sectionFits

@@ -1,6 +1,6 @@
 -- `block::check_block` meets its contract: by what is known where the pass has found a sum.
 use Prim.Native.Nat.{_<_}
-use mathlib.Core.Path.{_≡_, sym, _∙_}
+use mathlib.Core.Path.{sym, _∙_}
 use native.Mathlib.Omega.{arith}
 use denote.Ref.{now}
 use Rattle.word.specs.Limits.{wordsInBlock}

@@ -1,7 +1,7 @@
 -- `block::sum_words` meets its contract: by the loop's invariant, over what is left of the four quarters.
 use Prim.Native.Nat.{_≤_, _<_, _+_, _-_, _%_, _^_}
 use mathlib.Core.Path.{_≡_, _∙_}
-use mathlib.Core.Bool.{true, _&&_}
+use mathlib.Core.Bool.{_&&_}
 use native.Mathlib.Omega.{arith}
 use denote.Ref.{now}
 use borrow.Author.Needs.{needs}
