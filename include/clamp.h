@@ -81,7 +81,7 @@
 
    Cost. Open, feed and release test the whole desk: some 400 instructions with one load of few tables, 8,700 with twelve loads of
    128 tables each. To that a program block adds from 1,300 (no field changed) to 22,000 (every field), and open has the area to clear
-   and the tables to sort. Reseal goes through the block once, some 520. No call waits, calls the operating system or calls back.
+   and the tables to sort. Reseal goes through the block once, some 510. No call waits, calls the operating system or calls back.
 
    A call that does not return (longjmp out of a signal handler, a thread that is ended) may leave any desk and core: make the desk
    again. The library has no unwind tables, because the Rattle kit makes none: a debugger that stops inside a call may not find the
