@@ -1,5 +1,7 @@
 pub mod Cases
 pub mod Every
+pub mod First
+pub mod PassedUp
 pub mod Lists
 pub mod Range
 pub mod Says

@@ -1,7 +1,7 @@
--- Lists: a test of every element and of every pair, a list by what stands at each place, and a stretch of a list of numbers that is
--- read or written.
+-- Lists: a test of every element and of every pair, the first number that a test fails, a list by what stands at each place, and a
+-- stretch of a list of numbers that is read or written.
 use Prim.Native.Nat.{ℕ, zero, suc, _+_}
-use mathlib.Core.Bool.{Bool, true, _&&_}
+use mathlib.Core.Bool.{Bool, true, cond, _&&_}
 use mathlib.Core.List.{List, [], _∷_, _++_}
 use lib.ListN.{length, take, drop, replicate}
 
@@ -20,6 +20,11 @@ module _ {A : Type 0} where
   unfoldable pub tab : (ℕ → A) → ℕ → List A
   tab f zero = []
   tab f (suc n) = tab f n ++ (f n ∷ [])
+
+-- the first of the numbers 0, 1, 2 up to n that the test f fails; n where it fails none below
+unfoldable pub firstNot : (ℕ → Bool) → ℕ → ℕ
+firstNot f zero = zero
+firstNot f (suc n) = cond (f 0) (suc (firstNot (λ i. f (suc i)) n)) zero
 
 -- the n numbers from place a on
 unfoldable pub range : List ℕ → ℕ → ℕ → List ℕ

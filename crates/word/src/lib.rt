@@ -1,4 +1,6 @@
-// A core word and its fields, the three sorts of number, an area, runs of words and a fault: what every other crate builds on.
+// A core word and its fields, the three sorts of number, an area, runs of words, and a fault with its place: what every other crate
+// builds on.
+pub mod faults;
 pub mod limits;
 pub mod slices;
 
@@ -6,6 +8,7 @@ ghost use mathlib.Core.Path.{_≡_};
 ghost use Prim.Native.Nat.{_+_, _<_, _≤_, _^_, _%_};
 ghost use lib.ListN.{getD};
 ghost use Rattle.word.specs.Word.{bits, isSet, fieldOf, fieldStored, aField, aStored};
+ghost use Rattle.word.specs.Fault.{fault, inHalf, further};
 ghost use Rattle.word.specs.Runs.{within, apart};
 ghost use Rattle.word.specs.Sorts.{absoluteOf, fromTable, rightMoved};
 
@@ -40,9 +43,58 @@ pub struct Area {
     pub size: u64,
 }
 
-// Why a block is refused: the number that 01 gives it. The place of the fault (#105) will stand beside it.
+// What of its word a fault lies in: the word as a whole, or one of its halves.
+pub enum Side {
+    Whole,
+    In(Half),
+}
+
+// Why a call is refused: the number that 01 gives it; and where: the word, the half of it where a field is at fault, and how many of
+// the group's indicator bits stand before that half's own. Outside a block all of these are 0.
 pub struct Fault {
     pub number: u64,
+    pub word: u64,
+    pub half: Side,
+    pub bit: u64,
+}
+
+// A fault of the first word that its reader was given: a reader says no more of its place.
+pub fn fault_of(number: u64) -> Fault
+    ensures { λ r. ⌜ r ≡ fault number ⌝ }
+{
+    Fault {
+        number,
+        word: 0,
+        half: Side::Whole,
+        bit: 0,
+    }
+}
+
+// The same in a half, before whose indicator so many bits stand.
+pub fn in_half(f: Fault, h: Half, bit: u64) -> Fault
+    ensures { λ r. ⌜ r ≡ inHalf h bit f ⌝ }
+{
+    Fault {
+        number: f.number,
+        word: f.word,
+        half: Side::In(h),
+        bit,
+    }
+}
+
+// The same as whoever called the reader counts words: what the reader was given starts k words on. The one way in which a place is
+// passed up.
+pub fn further(k: u64, f: Fault) -> Fault
+    requires { ⌜ k + f .word < 2 ^ 64 ⌝ }
+    ensures { λ r. ⌜ r ≡ further k f ⌝ }
+{
+    let half = f.half;
+    Fault {
+        number: f.number,
+        word: k + f.word,
+        half,
+        bit: f.bit,
+    }
 }
 
 // The only way from an address relative to the Program Name to an absolute one: by an area's address.
