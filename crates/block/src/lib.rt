@@ -6,6 +6,8 @@ ghost use Rattle.block.specs.Block.{verdict};
 ghost use Rattle.block.specs.HowChecksum.{summed, sealOf};
 use word::Fault;
 use word::WORD_LIMIT;
+use word::faults::FAULT_11;
+use word::faults::FAULT_12;
 
 // How many words a block has.
 pub const BLOCK_WORDS: usize = 256;
@@ -132,13 +134,13 @@ pub fn check_block(block: &[u64], r: Record) -> Verdict
     ensures { λ v. ⌜ v ≡ verdict r (now (block .entry)) ⌝ }
 {
     match sum_words(block) {
-        Summed::NoBlock => Verdict::Refused(Fault { number: 11 }),
+        Summed::NoBlock => Verdict::Refused(FAULT_11),
         Summed::Sum(s) => {
             let seal = block[checksum_place(r)];
             if seal_of(s - seal) == seal {
                 Verdict::Pass
             } else {
-                Verdict::Refused(Fault { number: 12 })
+                Verdict::Refused(FAULT_12)
             }
         }
     }

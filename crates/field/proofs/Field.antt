@@ -27,7 +27,7 @@ use Rattle.field.specs.declared.Changed.{Changed}
 use Rattle.field.specs.declared.Changed.the-variants.{Word, Refused}
 use Rattle.field.specs.Field.{Assignments, valued, plusOrMinus, movedField, table, addressOrLength, referred, pair, minusZero}
 use Rattle.field.specs.Field.{short, long, constant, switch, unit, reference, relative, becomes, changedLowest, changedWidth}
-use Rattle.field.specs.Field.{putBack, fieldStep, Fits}
+use Rattle.field.specs.Field.{putBack, fieldChange, toldIn, Fits}
 use Rattle.field.specs.declared.Stepped.{Stepped}
 use Rattle.field.specs.declared.Stepped.the-variants.{Refused as SteppedRefused}
 use Rattle.field.specs.HowField.{isLong, stepped}
@@ -102,40 +102,40 @@ becomes-fits a h t w x = by-eq t 4
 
 -- ---- an arm of the match over the type, the same for either half: what its calls give is the step of its type
 module _ (a : Assignments) (h : Half) (w x : ℕ) {t f : ℕ} {b : Becomes} (read : f ≡ fieldOf h w) where
-  pub moved-arm : t ≡ 0 → b ≡ movedField (a .area) (relative f) → putBack (lowest h) 16 w b ≡ fieldStep a h t w x
-  unfolding fieldStep becomes
+  pub moved-arm : t ≡ 0 → b ≡ movedField (a .area) (relative f) → putBack (lowest h) 16 w b ≡ fieldChange a h t w x
+  unfolding fieldChange becomes
   moved-arm e q = rw (q, read, e)
 
-  pub pair-arm : t ≡ 1 → b ≡ pair (a .tables) f → putBack (lowest h) 16 w b ≡ fieldStep a h t w x
-  unfolding fieldStep becomes
+  pub pair-arm : t ≡ 1 → b ≡ pair (a .tables) f → putBack (lowest h) 16 w b ≡ fieldChange a h t w x
+  unfolding fieldChange becomes
   pair-arm e q = rw (q, read, e)
 
-  pub long-arm : t ≡ 2 → isSet 15 f ≡ true → b ≡ long (a .tables) f x → putBack (lowest h) 16 w b ≡ fieldStep a h t w x
-  unfolding fieldStep becomes constant
+  pub long-arm : t ≡ 2 → isSet 15 f ≡ true → b ≡ long (a .tables) f x → putBack (lowest h) 16 w b ≡ fieldChange a h t w x
+  unfolding fieldChange becomes constant
   long-arm e i q = rw (q, e, ← read, i)
 
-  pub short-arm : t ≡ 2 → isSet 15 f ≡ false → b ≡ short (a .tables) f → putBack (lowest h) 16 w b ≡ fieldStep a h t w x
-  unfolding fieldStep becomes constant
+  pub short-arm : t ≡ 2 → isSet 15 f ≡ false → b ≡ short (a .tables) f → putBack (lowest h) 16 w b ≡ fieldChange a h t w x
+  unfolding fieldChange becomes constant
   short-arm e i q = rw (q, e, ← read, i)
 
-  pub unit-arm : t ≡ 7 → b ≡ unit (a .ios) (a .channels) (reference f) → putBack (lowest h) 16 w b ≡ fieldStep a h t w x
-  unfolding fieldStep becomes
+  pub unit-arm : t ≡ 7 → b ≡ unit (a .ios) (a .channels) (reference f) → putBack (lowest h) 16 w b ≡ fieldChange a h t w x
+  unfolding fieldChange becomes
   unit-arm e q = rw (q, read, e)
 
 -- type 100: of a left half, whose bits 25-22 it changes
 pub switch-arm : (a : Assignments) (w x : ℕ) {t k : ℕ} {b : Becomes} → k ≡ aField w → t ≡ 4
-    → b ≡ switch (a .ios) (a .channels) Left (reference k) → putBack 22 4 w b ≡ fieldStep a Left t w x
-unfolding fieldStep becomes
+    → b ≡ switch (a .ios) (a .channels) Left (reference k) → putBack 22 4 w b ≡ fieldChange a Left t w x
+unfolding fieldChange becomes
 switch-arm a w x read e q = rw (q, read, e)
 
-pub switch-right : (a : Assignments) (w x : ℕ) {t : ℕ} → t ≡ 4 → Refused (fault 19) ≡ fieldStep a Right t w x
-unfolding fieldStep becomes switch putBack
+pub switch-right : (a : Assignments) (w x : ℕ) {t : ℕ} → t ≡ 4 → Refused (fault 19) ≡ fieldChange a Right t w x
+unfolding fieldChange becomes switch putBack
 switch-right a w x e = rw e
 
 -- "Others are 19."
 pub others : (a : Assignments) (h : Half) (t w x : ℕ) → t ≢ 0 → t ≢ 1 → t ≢ 2 → t ≢ 4 → t ≢ 7
-    → Refused (fault 19) ≡ fieldStep a h t w x
-unfolding fieldStep becomes putBack
+    → Refused (fault 19) ≡ fieldChange a h t w x
+unfolding fieldChange becomes putBack
 others a h t w x p q r m s = rw (ne-eqb t 0 p, ne-eqb t 1 q, ne-eqb t 2 r, ne-eqb t 4 m, ne-eqb t 7 s)
 
 -- three bits that are none of 0 to 6 are 7
@@ -158,17 +158,17 @@ long-by read i = rw (← read) i
 
 module _ (a : Assignments) (h : Half) (t w x : ℕ) where
   pub word-arm : (k : ℕ) {long : Bool} {c : Changed} {r : Stepped} → t ≡ k → isLong k (fieldOf h w) ≡ long → r ≡ stepped long c
-      → c ≡ fieldStep a h t w x
-      → r ≡ stepped (isLong t (fieldOf h w)) (fieldStep a h t w x)
+      → c ≡ fieldChange a h t w x
+      → r ≡ stepped (isLong t (fieldOf h w)) (fieldChange a h t w x)
   word-arm k e i back q = back ∙ rw (← q, e, i)
 
-  pub refused-arm : (k : ℕ) → t ≡ k → Refused (fault 19) ≡ fieldStep a h k w x
-      → SteppedRefused ≡ stepped (isLong t (fieldOf h w)) (fieldStep a h t w x)
+  pub refused-arm : (k : ℕ) → t ≡ k → Refused (fault 19) ≡ fieldChange a h k w x
+      → SteppedRefused ≡ stepped (isLong t (fieldOf h w)) (fieldChange a h t w x)
   refused-arm k e q = rw (e, ← q)
 
   -- the nine more bits are read by a long type 010 alone
-  pub step-short : isLong t (fieldOf h w) ≡ false → fieldStep a h t w x ≡ fieldStep a h t w 0
-  unfolding fieldStep becomes constant
+  pub step-short : isLong t (fieldOf h w) ≡ false → fieldChange a h t w x ≡ fieldChange a h t w 0
+  unfolding fieldChange becomes constant
   step-short i = by-eq t 2
       (λ e. let n : isSet 15 (fieldOf h w) ≡ false = rw e at i in rw (e, n))
       (λ n. rw (ne-eqb t 2 n))
@@ -206,9 +206,18 @@ across-kept h t w v g = by-eq t 4
     (λ q. rw (q, g q) (λ f. omega arith))
     (λ n. rw (ne-eqb t 4 n) (across-stored h w v))
 
-module _ (a : Assignments) (h : Half) (t w x u : ℕ) (e : fieldStep a h t w x ≡ Word u) where
+-- a refusal told with its place leaves a word as it is; and the last one told stands
+pub word-told : (h : Half) (b : ℕ) (r : Changed) (u : ℕ) → toldIn h b r ≡ Word u → r ≡ Word u
+word-told h b (Word v) u e = e
+word-told h b (Refused f) u e = let z : _≡_ {A = ℕ} 0 1 = cc in absurd (omega arith)
+
+pub told-anew : (h : Half) (b c : ℕ) (r : Changed) → toldIn h b (toldIn h c r) ≡ toldIn h b r
+told-anew h b c (Word v) = refl
+told-anew h b c (Refused f) = refl
+
+module _ (a : Assignments) (h : Half) (t w x u : ℕ) (e : fieldChange a h t w x ≡ Word u) where
   pub step-stored : Stored (changedLowest h t) (changedWidth t) w (becomes a h t w x) u
-  unfolding fieldStep
+  unfolding fieldChange
   step-stored = back-stored (changedLowest h t) (changedWidth t) w (becomes a h t w x) u (becomes-fits a h t w x) e
 
   -- the changed bits read back as the value

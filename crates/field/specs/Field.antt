@@ -10,7 +10,7 @@ use Rattle.word.specs.declared.Half.{Half}
 use Rattle.word.specs.declared.Half.the-variants.{Left, Right}
 use Rattle.word.specs.declared.Reference.{Reference}
 use Rattle.word.specs.declared.Relative.{Relative}
-use Rattle.word.specs.Fault.{fault}
+use Rattle.word.specs.Fault.{fault, inHalf}
 use Rattle.word.specs.Sorts.{absoluteOf}
 use Rattle.word.specs.Word.{bits, put, isSet, lowest, fieldOf, aField}
 use Rattle.lists.specs.declared.Table.{Table}
@@ -139,9 +139,20 @@ unfoldable pub putBack : ℕ → ℕ → ℕ → Becomes → Changed
 putBack k n w (Value v) = Word (put k n w v)
 putBack k n w (Bad f) = Refused f
 
--- what becomes of a word by a change of type t in its half h; x is the nine more indicator bits of a long type 010
-unfoldable pub fieldStep : Assignments → Half → ℕ → ℕ → ℕ → Changed
-fieldStep a h t w x = putBack (changedLowest h t) (changedWidth t) w (becomes a h t w x)
+-- what becomes of a word by a change of type t in its half h, or the number of a refusal; x is the nine more indicator bits of a long
+-- type 010
+unfoldable pub fieldChange : Assignments → Half → ℕ → ℕ → ℕ → Changed
+fieldChange a h t w x = putBack (changedLowest h t) (changedWidth t) w (becomes a h t w x)
+
+-- a refusal with its half and bit
+abbrev pub toldIn : Half → ℕ → Changed → Changed
+toldIn h b (Word v) = Word v
+toldIn h b (Refused f) = Refused (inHalf h b f)
+
+-- "The field step shall tell which half and at which bit of the indicators it stopped": b bits of the group's indicators stand before
+-- this half's own
+unfoldable pub fieldStep : Assignments → Half → ℕ → ℕ → ℕ → ℕ → Changed
+fieldStep a h b t w x = toldIn h b (fieldChange a h t w x)
 
 -- a value that n bits can hold
 abbrev pub Fits : ℕ → Becomes → Type 0

@@ -7,7 +7,7 @@ ghost use Rattle.word.specs.declared.Half.the-variants.{Left, Right};
 ghost use Rattle.word.specs.Word.{lowest, fieldOf};
 ghost use Rattle.lists.specs.Load.{coreTables, ioNumbers, Readable};
 ghost use Rattle.field.specs.Field.{valued, plusOrMinus, movedField, table, addressOrLength, referred, pair, minusZero};
-ghost use Rattle.field.specs.Field.{short, long, switch, unit, Fits, putBack, assignedBy, fieldStep};
+ghost use Rattle.field.specs.Field.{short, long, switch, unit, Fits, putBack, assignedBy, fieldChange, fieldStep};
 ghost use Rattle.field.specs.HowField.{isLong, stepped};
 use lists::Given;
 use word::Area;
@@ -15,6 +15,9 @@ use word::Fault;
 use word::Half;
 use word::Reference;
 use word::Relative;
+use word::faults::FAULT_19;
+use word::faults::FAULT_20;
+use word::faults::FAULT_21;
 
 // A value outside 0 to 65,535 is refused (21); a long constant is 64 or more.
 pub const VALUE_LIMIT: u64 = 1 << 16;
@@ -34,7 +37,7 @@ pub enum Changed {
 }
 
 // What a word becomes where only the word is wanted: it; it by a long type 010, which has nine indicator bits more; or that the
-// field is refused, whose number `field_step` tells.
+// field is refused, of which `field_step` tells the rest.
 pub enum Stepped {
     Word(u64),
     Long(u64),
@@ -48,11 +51,23 @@ pub struct Assigned {
     pub channels: u64,
 }
 
-// The word w with its half h changed by modification type t (01, "A match over the three-bit modification type decides field
-// position, form and refusal for each half"); x is the nine more indicator bits of a long type 010. Only a left half has type 100.
-pub fn field_step(s: Assigned, lists: &[u64], h: Half, t: u64, w: u64, x: u64) -> Changed
+// The word w with its half h changed by modification type t; x is the nine more indicator bits of a long type 010. A refusal is told
+// with its half and with how many of the group's indicator bits stand before that half's own.
+pub fn field_step(s: Assigned, lists: &[u64], h: Half, bit: u64, t: u64, w: u64, x: u64) -> Changed
     requires { ⌜ (Readable (s .given) (now lists)) × (w < 2 ^ 36) ⌝ }
-    ensures { λ r. ⌜ r ≡ fieldStep (assignedBy s (now (lists .entry))) h t w x ⌝ }
+    ensures { λ r. ⌜ r ≡ fieldStep (assignedBy s (now (lists .entry))) h bit t w x ⌝ }
+{
+    match field_change(s, lists, h, t, w, x) {
+        Changed::Word(v) => Changed::Word(v),
+        Changed::Refused(f) => Changed::Refused(word::in_half(f, h, bit)),
+    }
+}
+
+// The same with the number of a refusal alone (01, "A match over the three-bit modification type decides field position, form and
+// refusal for each half"). Only a left half has type 100.
+fn field_change(s: Assigned, lists: &[u64], h: Half, t: u64, w: u64, x: u64) -> Changed
+    requires { ⌜ (Readable (s .given) (now lists)) × (w < 2 ^ 36) ⌝ }
+    ensures { λ r. ⌜ r ≡ fieldChange (assignedBy s (now (lists .entry))) h t w x ⌝ }
 {
     let g = s.given;
     let area = g.area;
@@ -71,10 +86,10 @@ pub fn field_step(s: Assigned, lists: &[u64], h: Half, t: u64, w: u64, x: u64) -
                 w,
                 switch_of(g, lists, s.channels, Reference(word::a_field(w))),
             ),
-            Half::Right => Changed::Refused(Fault { number: 19 }),
+            Half::Right => Changed::Refused(FAULT_19),
         },
         7 => put_back(h, w, unit_of(g, lists, s.channels, Reference(f))),
-        _ => Changed::Refused(Fault { number: 19 }),
+        _ => Changed::Refused(FAULT_19),
     }
 }
 
@@ -82,7 +97,7 @@ pub fn field_step(s: Assigned, lists: &[u64], h: Half, t: u64, w: u64, x: u64) -
 // needs no test before its jump; and each half has its function, so that the compiler makes its code for that half alone.
 pub fn left_step(s: Assigned, lists: &[u64], t: u64, w: u64, x: u64) -> Stepped
     requires { ⌜ (Readable (s .given) (now lists)) × (w < 2 ^ 36) × (t < 8) ⌝ }
-    ensures { λ r. ⌜ r ≡ stepped (isLong t (fieldOf Left w)) (fieldStep (assignedBy s (now (lists .entry))) Left t w x) ⌝ }
+    ensures { λ r. ⌜ r ≡ stepped (isLong t (fieldOf Left w)) (fieldChange (assignedBy s (now (lists .entry))) Left t w x) ⌝ }
 {
     let g = s.given;
     let area = g.area;
@@ -110,7 +125,7 @@ pub fn left_step(s: Assigned, lists: &[u64], t: u64, w: u64, x: u64) -> Stepped
 // The same for a right half.
 pub fn right_step(s: Assigned, lists: &[u64], t: u64, w: u64, x: u64) -> Stepped
     requires { ⌜ (Readable (s .given) (now lists)) × (w < 2 ^ 36) × (t < 8) ⌝ }
-    ensures { λ r. ⌜ r ≡ stepped (isLong t (fieldOf Right w)) (fieldStep (assignedBy s (now (lists .entry))) Right t w x) ⌝ }
+    ensures { λ r. ⌜ r ≡ stepped (isLong t (fieldOf Right w)) (fieldChange (assignedBy s (now (lists .entry))) Right t w x) ⌝ }
 {
     let g = s.given;
     let area = g.area;
@@ -147,7 +162,7 @@ fn pair_of(g: Given, lists: &[u64], f: u64) -> Becomes
     ensures { λ b. ⌜ b ≡ pair (coreTables g (now (lists .entry))) f ⌝ }
 {
     if word::is_set(f, 15) {
-        return Becomes::Bad(Fault { number: 19 });
+        return Becomes::Bad(FAULT_19);
     }
     let k = Reference(word::bits(f, 13, 7));
     let l = Reference(word::bits(f, 6, 0));
@@ -155,7 +170,7 @@ fn pair_of(g: Given, lists: &[u64], f: u64) -> Becomes
         let amount = address_or_length(g, lists, true, l);
         return refer(g, lists, false, k, word::is_set(f, 14), amount);
     }
-    Becomes::Bad(Fault { number: 20 })
+    Becomes::Bad(FAULT_20)
 }
 
 // Type 010, short, with bit 15 zero.
@@ -166,7 +181,7 @@ fn short_of(g: Given, lists: &[u64], f: u64) -> Becomes
     let minus = word::is_set(f, 14);
     let amount = word::bits(f, 5, 0);
     if minus_zero(minus, amount) {
-        return Becomes::Bad(Fault { number: 19 });
+        return Becomes::Bad(FAULT_19);
     }
     let k = Reference(word::bits(f, 12, 6));
     refer(g, lists, word::is_set(f, 13), k, minus, amount)
@@ -179,10 +194,10 @@ fn long_of(g: Given, lists: &[u64], f: u64, x: u64) -> Becomes
 {
     let amount = word::bits(f, 13, 0);
     if amount < LONG_LEAST {
-        return Becomes::Bad(Fault { number: 19 });
+        return Becomes::Bad(FAULT_19);
     }
     if word::is_set(x, 7) {
-        return Becomes::Bad(Fault { number: 19 });
+        return Becomes::Bad(FAULT_19);
     }
     let k = Reference(word::bits(x, 6, 0));
     refer(g, lists, word::is_set(x, 8), k, word::is_set(f, 14), amount)
@@ -194,7 +209,7 @@ fn switch_of(g: Given, lists: &[u64], channels: u64, k: Reference) -> Becomes
     ensures { λ b. ⌜ b ≡ switch (ioNumbers g (now (lists .entry))) channels Left k ⌝ }
 {
     if channels <= k.0 {
-        return Becomes::Bad(Fault { number: 20 });
+        return Becomes::Bad(FAULT_20);
     }
     Becomes::Value(word::bits(lists::load::io_assigned(g, lists, k), 3, 0))
 }
@@ -205,12 +220,12 @@ fn unit_of(g: Given, lists: &[u64], channels: u64, k: Reference) -> Becomes
     ensures { λ b. ⌜ b ≡ unit (ioNumbers g (now (lists .entry))) channels k ⌝ }
 {
     if k.0 < channels {
-        return Becomes::Bad(Fault { number: 20 });
+        return Becomes::Bad(FAULT_20);
     }
     if k.0 < g.io {
         return valued_of(lists::load::io_assigned(g, lists, k));
     }
-    Becomes::Bad(Fault { number: 20 })
+    Becomes::Bad(FAULT_20)
 }
 
 // The address of table k, or its length.
@@ -233,7 +248,7 @@ fn refer(g: Given, lists: &[u64], sized: bool, k: Reference, minus: bool, amount
     if k.0 < g.tables {
         return plus_or_minus(minus, address_or_length(g, lists, sized, k), amount);
     }
-    Becomes::Bad(Fault { number: 20 })
+    Becomes::Bad(FAULT_20)
 }
 
 // A form that takes 0 away.
@@ -252,7 +267,7 @@ fn plus_or_minus(minus: bool, base: u64, amount: u64) -> Becomes
         if amount <= base {
             return valued_of(base - amount);
         }
-        return Becomes::Bad(Fault { number: 21 });
+        return Becomes::Bad(FAULT_21);
     }
     valued_of(base + amount)
 }
@@ -264,7 +279,7 @@ fn valued_of(v: u64) -> Becomes
     if v < VALUE_LIMIT {
         return Becomes::Value(v);
     }
-    Becomes::Bad(Fault { number: 21 })
+    Becomes::Bad(FAULT_21)
 }
 
 // The word with what the field of half h becomes.

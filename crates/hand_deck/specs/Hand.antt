@@ -27,9 +27,10 @@ abbrev pub asNumber : Half → Changed → ℕ
 asNumber h (Word w) = fieldOf h w
 asNumber h (Refused f) = refusal (f .number)
 
--- the field f of half h in a word else zero, changed by type t; x is the nine more bits of a long type 010
+-- the field f of half h in a word else zero, changed by type t, no indicator bits before its own; x is the nine more bits of a long type
+-- 010
 abbrev pub changed : Half → ℕ → ℕ → ℕ → ℕ
-changed h t f x = asNumber h (fieldStep deckLoad h t (fieldStored h 0 f) x)
+changed h t f x = asNumber h (fieldStep deckLoad h 0 t (fieldStored h 0 f) x)
 
 abbrev pub cases : Half → List (ℕ × ℕ)
 cases h =

@@ -4,8 +4,9 @@ ghost use Rattle.old_seal.specs.Reseal.{sealPlace, Reseals};
 use block::Record;
 use block::Summed;
 use block::Verdict;
-use word::Fault;
 use word::WORD_LIMIT;
+use word::faults::FAULT_11;
+use word::faults::FAULT_12;
 
 // The word that holds the checksum of the block with this index in its file; 0 is the label.
 fn seal_place(index: u64) -> usize
@@ -24,13 +25,13 @@ pub fn reseal(words: &mut [u64], index: u64) -> Verdict
 {
     let p = seal_place(index);
     match block::sum_words(words) {
-        Summed::NoBlock => Verdict::Refused(Fault { number: 11 }),
+        Summed::NoBlock => Verdict::Refused(FAULT_11),
         Summed::Sum(s) => {
             let seal = words[p];
             let others = s - seal;
             let old = block::fold(others % WORD_LIMIT);
             if old != seal {
-                return Verdict::Refused(Fault { number: 12 });
+                return Verdict::Refused(FAULT_12);
             }
             let new = block::seal_of(others);
             words[p] = new;

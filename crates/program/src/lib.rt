@@ -7,6 +7,8 @@ ghost use Rattle.program.specs.Start.{startOf, inBank};
 use word::Fault;
 use word::Reference;
 use word::Relative;
+use word::faults::FAULT_17;
+use word::faults::FAULT_18;
 
 // The last word of a program block that sections and groups may use; the checksum stands behind it.
 pub const LAST_WORD: usize = 254;
@@ -63,10 +65,10 @@ pub fn read_bank(w: u64) -> BankRead
     ensures { λ r. ⌜ r ≡ bankOf w ⌝ }
 {
     if word::bits(w, 35, 34) != 0 {
-        return BankRead::Bad(Fault { number: 17 });
+        return BankRead::Bad(FAULT_17);
     }
     if word::bits(w, 17, 16) != 0 {
-        return BankRead::Bad(Fault { number: 17 });
+        return BankRead::Bad(FAULT_17);
     }
     BankRead::Good(Bank {
         at: Relative(word::bits(w, 15, 0)),
@@ -81,7 +83,7 @@ pub fn read_segment(first: u64, second: u64) -> SegmentRead
     match read_bank(first) {
         BankRead::Good(ibank) => {
             if ibank.count == 0 {
-                return SegmentRead::Bad(Fault { number: 17 });
+                return SegmentRead::Bad(FAULT_17);
             }
             match read_bank(second) {
                 BankRead::Good(dbank) => SegmentRead::Good(Segment { ibank, dbank }),
@@ -97,14 +99,14 @@ pub fn read_table_section(w: u64) -> TableSectionRead
     ensures { λ r. ⌜ r ≡ tableSectionOf w ⌝ }
 {
     if word::bits(w, 35, 34) != 1 {
-        return TableSectionRead::Bad(Fault { number: 17 });
+        return TableSectionRead::Bad(FAULT_17);
     }
     if word::bits(w, 17, 8) != 0 {
-        return TableSectionRead::Bad(Fault { number: 17 });
+        return TableSectionRead::Bad(FAULT_17);
     }
     let count = word::bits(w, 33, 18);
     if count == 0 {
-        return TableSectionRead::Bad(Fault { number: 17 });
+        return TableSectionRead::Bad(FAULT_17);
     }
     TableSectionRead::Good(TableSection {
         number: Reference(word::bits(w, 7, 0)),
@@ -117,11 +119,11 @@ pub fn read_group(w: u64) -> GroupRead
     ensures { λ r. ⌜ r ≡ groupOf w ⌝ }
 {
     if word::bits(w, 35, 34) != 2 {
-        return GroupRead::Bad(Fault { number: 18 });
+        return GroupRead::Bad(FAULT_18);
     }
     let program = word::bits(w, 25, 18);
     if program == 0 {
-        return GroupRead::Bad(Fault { number: 18 });
+        return GroupRead::Bad(FAULT_18);
     }
     GroupRead::Good(Group {
         words: word::bits(w, 33, 26),

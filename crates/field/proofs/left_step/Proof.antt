@@ -1,7 +1,7 @@
 -- `field::left_step` meets its contract: each arm of the match by what its calls give (Field's arms), and what they give fits.
 use mathlib.Core.Path.{refl, sym, _∙_}
 use Rattle.word.specs.declared.Half.the-variants.{Left}
-use Rattle.field.specs.Field.{assignedBy, becomes, putBack, fieldStep}
+use Rattle.field.specs.Field.{assignedBy, becomes, putBack, fieldChange}
 use Rattle.field.proofs.Field.{moved-fits, pair-fits, long-fits, short-fits, switch-fits, unit-fits, moved-arm, pair-arm}
 use Rattle.field.proofs.Field.{long-arm, short-arm, unit-arm, switch-arm, long-by, word-arm, refused-arm, last-type}
 use borrow.Author.Needs.{needs}
@@ -82,7 +82,7 @@ returns-4 c = let m = c .before .before .before .before in
     (short-arm _ Left _ _ read (m .match .keys3) bit (c .before .short-of .ensures))
 
 returns-5 : tie.Need-returns-5
-unfolding fieldStep becomes putBack
+unfolding fieldChange becomes putBack
 returns-5 c = refused-arm _ Left _ _ _ 3 (c .match .keys4) refl
 
 returns-6 : tie.Need-returns-6
@@ -92,11 +92,11 @@ returns-6 c = let m = c .before .before .before in
     (switch-arm _ _ _ (c .before .before .a-field .ensures) (m .match .keys5) (c .before .switch-of .ensures))
 
 returns-7 : tie.Need-returns-7
-unfolding fieldStep becomes putBack
+unfolding fieldChange becomes putBack
 returns-7 c = refused-arm _ Left _ _ _ 5 (c .match .keys6) refl
 
 returns-8 : tie.Need-returns-8
-unfolding fieldStep becomes putBack
+unfolding fieldChange becomes putBack
 returns-8 c = refused-arm _ Left _ _ _ 6 (c .match .keys7) refl
 
 returns-9 : tie.Need-returns-9

@@ -1,7 +1,7 @@
 -- `field::right_step` meets its contract: each arm of the match by what its calls give (Field's arms), and what they give fits.
 use mathlib.Core.Path.{refl, sym, _∙_}
 use Rattle.word.specs.declared.Half.the-variants.{Right}
-use Rattle.field.specs.Field.{assignedBy, becomes, switch, putBack, fieldStep}
+use Rattle.field.specs.Field.{assignedBy, becomes, switch, putBack, fieldChange}
 use Rattle.field.proofs.Field.{moved-fits, pair-fits, long-fits, short-fits, unit-fits, moved-arm, pair-arm}
 use Rattle.field.proofs.Field.{long-arm, short-arm, unit-arm, long-by, word-arm, refused-arm, last-type}
 use borrow.Author.Needs.{needs}
@@ -73,19 +73,19 @@ returns-4 c = let m = c .before .before .before .before in
     (short-arm _ Right _ _ read (m .match .keys3) bit (c .before .short-of .ensures))
 
 returns-5 : tie.Need-returns-5
-unfolding fieldStep becomes putBack
+unfolding fieldChange becomes putBack
 returns-5 c = refused-arm _ Right _ _ _ 3 (c .match .keys4) refl
 
 returns-6 : tie.Need-returns-6
-unfolding fieldStep becomes switch putBack
+unfolding fieldChange becomes switch putBack
 returns-6 c = refused-arm _ Right _ _ _ 4 (c .match .keys5) refl
 
 returns-7 : tie.Need-returns-7
-unfolding fieldStep becomes putBack
+unfolding fieldChange becomes putBack
 returns-7 c = refused-arm _ Right _ _ _ 5 (c .match .keys6) refl
 
 returns-8 : tie.Need-returns-8
-unfolding fieldStep becomes putBack
+unfolding fieldChange becomes putBack
 returns-8 c = refused-arm _ Right _ _ _ 6 (c .match .keys7) refl
 
 returns-9 : tie.Need-returns-9
