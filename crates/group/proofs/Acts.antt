@@ -8,7 +8,7 @@ use native.Mathlib.Omega.{arith}
 use lib.ListN.{length, getD, replicate, length-replicate}
 use Rattle.word.specs.declared.Area.{Area}
 use Rattle.word.specs.declared.Fault.{Fault}
-use Rattle.word.specs.Fault.{fault}
+use Rattle.word.specs.Fault.{fault, further}
 use Rattle.word.specs.Lists.{splice, cleared}
 use Rattle.word.proofs.Cases.{by-test, by-lt}
 use Rattle.word.proofs.Lists.{length-range-most, getD-splice-in}
@@ -87,7 +87,7 @@ module _ (area : Area) where
           told = λ core. refl;
           left = λ core. refl;
         }
-    stored-acts q i n few (Refuse f) m = refused-acts f
+    stored-acts q i n few (Refuse f) m = refused-acts (further 1 f)
 
 module _ (a : Assignments) (section : Section) (block : List ℕ) (i : ℕ) where
   read-acts : InArea (a .area) section → (r : GroupRead) → Acts (a .area) (λ core. readOutcome a section block i core r)

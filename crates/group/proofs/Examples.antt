@@ -5,10 +5,14 @@ use mathlib.Core.List.{List, [], _∷_, _++_, map, flatMap}
 use Prim.Native.Nat.{ℕ}
 use lib.ListN.{replicate}
 use Rattle.word.specs.Fault.{fault}
+use Rattle.word.specs.declared.Fault.{Fault}
+use Rattle.word.specs.declared.Half.{Half}
+use Rattle.word.specs.declared.Half.the-variants.{Left, Right}
+use Rattle.word.specs.declared.Side.the-variants.{In}
 use Rattle.word.specs.Lists.{range, splice, cleared}
 use Rattle.word.specs.Runs.{within}
 use Rattle.program.specs.Groups.{groupOf}
-use Rattle.field.specs.Field.{Assignments, valued, movedField, becomes, putBack, fieldStep}
+use Rattle.field.specs.Field.{Assignments, valued, movedField, becomes, putBack, fieldChange, fieldStep}
 use Rattle.indicator.specs.Indicator.{bitsOf, indicatorBits, bitsBefore, numberAt, indicatorAt, afterField, afterWord, afterAll}
 use Rattle.group.specs.declared.GroupStep.the-variants.{Done, Refused}
 use Rattle.group.specs.declared.Section.{Section}
@@ -46,8 +50,15 @@ stored p v = record { answer = Done p true; core = 100 ∷ 101 ∷ v ∷ 103 ∷
 abbrev storedInTable : ℕ → ℕ → GroupOutcome
 storedInTable p v = record { answer = Done p true; core = 100 ∷ 101 ∷ 102 ∷ 103 ∷ 104 ∷ v ∷ 106 ∷ 107 ∷ [] }
 
+abbrev zerosAt : Fault → GroupOutcome
+zerosAt f = record { answer = Refused f; core = 100 ∷ 101 ∷ 0 ∷ 103 ∷ 104 ∷ 105 ∷ 106 ∷ 107 ∷ [] }
+
+-- at the identifier; and in a half of word k after it, whose indicator is at bit b
 abbrev zeros : ℕ → GroupOutcome
-zeros n = record { answer = Refused (fault n); core = 100 ∷ 101 ∷ 0 ∷ 103 ∷ 104 ∷ 105 ∷ 106 ∷ 107 ∷ [] }
+zeros n = zerosAt (fault n)
+
+abbrev zerosIn : ℕ → ℕ → Half → ℕ → GroupOutcome
+zerosIn n k h b = zerosAt (record { number = n; word = k; half = In h; bit = b })
 
 abbrev untouched : ℕ → GroupOutcome
 untouched n = record { answer = Refused (fault n); core = 100 ∷ 101 ∷ 102 ∷ 103 ∷ 104 ∷ 105 ∷ 106 ∷ 107 ∷ [] }
@@ -68,9 +79,9 @@ cases =
     -- a word more after the identifier: five bits need one indicator word, not two
     ∷ (after segment (0o401401400000 ∷ 0o000000000007 ∷ 0 ∷ 0o200000000000 ∷ []) 0, zeros 18)
     -- type 011, 0 and 1 011
-    ∷ (after segment (0o401001400000 ∷ 0o000000000007 ∷ 0o260000000000 ∷ []) 0, zeros 19)
+    ∷ (after segment (0o401001400000 ∷ 0o000000000007 ∷ 0o260000000000 ∷ []) 0, zerosIn 19 1 Right 1)
     -- 1 000 and 1 011, where the left sum is too large: the first fault is given, not the lowest
-    ∷ (after segment (0o401001400000 ∷ 0o177777000000 ∷ 0o426000000000 ∷ []) 0, zeros 21)
+    ∷ (after segment (0o401001400000 ∷ 0o177777000000 ∷ 0o426000000000 ∷ []) 0, zerosIn 21 1 Left 0)
     -- bit 16 and the address 1: the table's second word; in the segment there is no DBANK to hold it
     ∷ (after table (0o401001600001 ∷ 0o000000000007 ∷ 0o200000000000 ∷ []) 0, storedInTable 3 9)
     ∷ (after segment (0o401001600001 ∷ 0o000000000007 ∷ 0o200000000000 ∷ []) 0, untouched 18)
@@ -84,5 +95,5 @@ cases =
 worked : map (λ (c : GroupOutcome × GroupOutcome). c .0) cases ≡ map (λ (c : GroupOutcome × GroupOutcome). c .1) cases
 unfolding groupStep readOutcome groupOutcome groupFits wordsLie indicatorsFit storedGroup refusedGroup addressOf changedWords
     wordStep halfStep groupOf within range splice cleared bitsBefore indicatorBits flatMap bitsOf numberAt indicatorAt afterField
-    afterWord afterAll fieldStep putBack becomes movedField valued
+    afterWord afterAll fieldStep fieldChange putBack becomes movedField valued
 worked = refl

@@ -12,7 +12,7 @@ use Rattle.word.specs.Limits.{wordsInBlock}
 use Rattle.program.specs.Sections.{lastWord}
 use Rattle.word.specs.declared.Absolute.{Absolute}
 use Rattle.word.specs.declared.Fault.{Fault}
-use Rattle.word.specs.Fault.{fault}
+use Rattle.word.specs.Fault.{fault, further}
 use Rattle.word.specs.Lists.{every, splice, cleared}
 use Rattle.word.specs.Word.{isWord}
 use Rattle.word.proofs.Cases.{and-left, and-right, when}
@@ -105,7 +105,7 @@ module _ (a : Assignments) (section : Section) (block : List ℕ) (i : ℕ) wher
     unfolding storedGroup
     by-words g e h (Become vs) q = all g (addressOf (a .area) section g) vs
         (record { read = e; lies = h .lies; address = refl }) h q
-    by-words g e h (Refuse f) q = by-place g f e
+    by-words g e h (Refuse f) q = by-place g (further 1 f) e
 
     by-read : (x : GroupRead) → groupOf (getD block i 0) ≡ x → P (readOutcome a section block i core x)
     unfolding readOutcome groupOutcome

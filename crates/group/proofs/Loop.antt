@@ -14,6 +14,7 @@ use Rattle.word.specs.Lists.{every, range, splice}
 use Rattle.word.specs.Word.{isWord}
 use Rattle.word.proofs.Cases.{by-test}
 use Rattle.word.proofs.Lists.{length-range, length-splice, range-turn, range-end, splice-whole}
+use Rattle.word.proofs.PassedUp.{further-twice, further-none}
 use Rattle.word.proofs.Stretch.{splice-none, splice-first}
 use Rattle.field.specs.declared.Changed.{Changed}
 use Rattle.field.specs.declared.Changed.the-variants.{Word, Refused as RefusedWord}
@@ -52,12 +53,12 @@ onto-first : (out : List ℕ) (k v : ℕ) (r : Words) → k < length out
     → onto out k (thenWords (Word v) r) ≡ onto (set out k v) (k + 1) r
 unfolding onto
 onto-first out k v (Become vs) h = ap Become (splice-first out k v vs h)
-onto-first out k v (Refuse f) h = refl
+onto-first out k v (Refuse f) h = ap Refuse (further-twice k 1 f)
 
 onto-whole : (out : List ℕ) (r : Words) → Many (length out) r → onto out 0 r ≡ r
 unfolding onto
 onto-whole out (Become vs) m = ap Become (splice-whole out vs m)
-onto-whole out (Refuse f) m = refl
+onto-whole out (Refuse f) m = ap Refuse (further-none f)
 
 onto-refuses : (out : List ℕ) (k : ℕ) (r : Words) → Refuses r → Refuses (onto out k r)
 unfolding onto

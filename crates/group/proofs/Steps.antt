@@ -11,7 +11,7 @@ use Rattle.word.specs.Limits.{wordsInBlock}
 use Rattle.program.specs.Sections.{lastWord}
 use Rattle.lists.specs.declared.Given.{Given}
 use Rattle.word.specs.declared.Fault.{Fault}
-use Rattle.word.specs.Fault.{fault}
+use Rattle.word.specs.Fault.{fault, further}
 use Rattle.word.specs.Lists.{every, range, splice, cleared}
 use Rattle.word.specs.Word.{isWord}
 use Rattle.word.proofs.Cases.{by-test}
@@ -121,7 +121,7 @@ module _ (x : Given) (l block : List ℕ) (i : ℕ) (g : Group) (out : List ℕ)
     filled-bits (Become vs) b q out′ e = (cc, record { told = refl; left = e })
     filled-bits (Refuse f) b q out′ e = let z : _≡_ {A = ℕ} 0 1 = cc in absurd (omega arith)
 
-    filled-stop : (r : Words) → stop-group ≡ bitsOr r ends → changedFill i g r ≡ zeroFill (g .program) (faultOr r)
+    filled-stop : (r : Words) → stop-group ≡ bitsOr r ends → changedFill i g r ≡ zeroFill (g .program) (further 1 (faultOr r))
     filled-stop (Become vs) q = let z : _≡_ {A = ℕ} 0 1 = cc in absurd (omega arith)
     filled-stop (Refuse x) q = refl
 
@@ -186,7 +186,7 @@ module _ (a : Assignments) (section : Section) (block : List ℕ) (i : ℕ) (g :
       (splice core to (changedFill i g r .words))
   unfolding storedGroup
   changed-stored q (Become vs) = record { told = refl; left = refl }
-  changed-stored q (Refuse f) = zero-stored f q
+  changed-stored q (Refuse f) = zero-stored (further 1 f) q
 
   -- what was filled in is the outcome
   fill-is : wordsLie section g ≡ true

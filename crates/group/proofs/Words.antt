@@ -47,8 +47,8 @@ then-all (Word v) (Refuse f) h k = tt
 then-all (RefusedWord f) rest h k = tt
 
 module _ (a : Assignments) where
-  half-below : (h : Half) (m : Indicator) (w : ℕ) → isWord w ≡ true → Below (halfStep a h m w)
-  half-below h m w b = told (halfStep a h m w) (λ u e. half-word a h m w u (ltb-true w (2 ^ 36) b) e)
+  half-below : (h : Half) (p : ℕ) (m : Indicator) (w : ℕ) → isWord w ≡ true → Below (halfStep a h p m w)
+  half-below h p m w b = told (halfStep a h p m w) (λ u e. half-word a h p m w u (ltb-true w (2 ^ 36) b) e)
     where
       told : (r : Changed) → ((u : ℕ) → r ≡ Word u → u < 2 ^ 36) → Below r
       told (Word u) k = lt-ltb u (2 ^ 36) (k u refl)
@@ -58,9 +58,9 @@ module _ (a : Assignments) where
     pub word-below : (p w : ℕ) → isWord w ≡ true → Below (wordStep a bits p w)
     unfolding wordStep
     word-below p w b =
-        then-below (halfStep a Left (indicatorAt bits p (fieldOf Left w)) w) _
-        (half-below Left (indicatorAt bits p (fieldOf Left w)) w b)
-        (λ v k. half-below Right (indicatorAt bits (afterField bits p (fieldOf Left w)) (fieldOf Right w)) v k)
+        then-below (halfStep a Left p (indicatorAt bits p (fieldOf Left w)) w) _
+        (half-below Left p (indicatorAt bits p (fieldOf Left w)) w b)
+        (λ v k. half-below Right (afterField bits p (fieldOf Left w)) (indicatorAt bits (afterField bits p (fieldOf Left w)) (fieldOf Right w)) v k)
 
     pub changed-many : (p : ℕ) (ws : List ℕ) → Many (length ws) (changedWords a bits p ws)
     unfolding changedWords

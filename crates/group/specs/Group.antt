@@ -1,5 +1,5 @@
 -- One group of a program block (01, "Program blocks", from "Group: bits 35-34 are 10" on): what its program words become, where
--- they go, and what the core holds afterwards.
+-- they go, and what the core holds afterwards. The word of a fault is counted from the group's identifier.
 use Prim.Native.Nat.{ℕ, _+_, _-_, _≤_}
 use mathlib.Core.Path.{_≡_}
 use mathlib.Core.Bool.{Bool, true, cond, not, _&&_}
@@ -13,7 +13,7 @@ use Rattle.word.specs.declared.Area.{Area}
 use Rattle.word.specs.declared.Fault.{Fault}
 use Rattle.word.specs.declared.Half.{Half}
 use Rattle.word.specs.declared.Half.the-variants.{Left, Right}
-use Rattle.word.specs.Fault.{fault}
+use Rattle.word.specs.Fault.{fault, further}
 use Rattle.word.specs.Lists.{every, range, splice, cleared}
 use Rattle.word.specs.Runs.{within}
 use Rattle.word.specs.Sorts.{absoluteOf, fromTable}
@@ -38,11 +38,12 @@ use Rattle.group.specs.declared.Section.the-variants.{Segment as InSegme
 
 -- ---- a program word
 
--- a half of the word w by its indicator: no change, a change by a type, or a long type 010 with its nine bits more
-unfoldable pub halfStep : Assignments → Half → Indicator → ℕ → Changed
-halfStep a h Same w = Word w
-halfStep a h (Change t) w = fieldStep a h t w 0
-halfStep a h (Long x) w = fieldStep a h 2 w x
+-- a half of the word w by its indicator, which starts at place p of the bits: no change, a change by a type, or a long type 010 with
+-- its nine bits more
+unfoldable pub halfStep : Assignments → Half → ℕ → Indicator → ℕ → Changed
+halfStep a h p Same w = Word w
+halfStep a h p (Change t) w = fieldStep a h p t w 0
+halfStep a h p (Long x) w = fieldStep a h p 2 w x
 
 -- one change and then another of what it gave; the first refusal stands
 abbrev pub thenHalf : Changed → (ℕ → Changed) → Changed
@@ -53,8 +54,9 @@ thenHalf (RefusedWord f) next = RefusedWord f
 -- are is decided by the fields of the word as it stands in the block.
 unfoldable pub wordStep : Assignments → List ℕ → ℕ → ℕ → Changed
 wordStep a bits p w =
-    thenHalf (halfStep a Left (indicatorAt bits p (fieldOf Left w)) w)
-    (halfStep a Right (indicatorAt bits (afterField bits p (fieldOf Left w)) (fieldOf Right w)))
+    thenHalf (halfStep a Left p (indicatorAt bits p (fieldOf Left w)) w)
+    (halfStep a Right (afterField bits p (fieldOf Left w))
+    (indicatorAt bits (afterField bits p (fieldOf Left w)) (fieldOf Right w)))
 
 -- ---- all program words of a group
 
@@ -63,10 +65,10 @@ pub data Words : Type 0 where
   Become : List ℕ → Words
   Refuse : Fault → Words
 
--- a word, and the words after it
+-- a word, and the words after it, which start a word further on
 abbrev pub thenWords : Changed → Words → Words
 thenWords (Word v) (Become vs) = Become (v ∷ vs)
-thenWords (Word v) (Refuse f) = Refuse f
+thenWords (Word v) (Refuse f) = Refuse (further 1 f)
 thenWords (RefusedWord f) rest = Refuse f
 
 -- each program word in turn, with the place p of its indicators
@@ -130,11 +132,12 @@ unfoldable pub refusedGroup : Area → Section → Group → List ℕ → Fault 
 refusedGroup area section g core f =
     record { answer = Refused f; core = cond (wordsLie section g) (cleared core (addressOf area section g .0) (g .program)) core }
 
--- all fields read: the words stand in the core, and the next identifier is due after the group; or the first field's refusal
+-- all fields read: the words stand in the core, and the next identifier is due after the group; or the first field's refusal, at a
+-- program word, of which the first stands behind the identifier
 unfoldable pub storedGroup : Area → Section → ℕ → Group → List ℕ → Words → GroupOutcome
 storedGroup area section i g core (Become vs) =
     record { answer = Done (i + 1 + g .words) (g .last); core = splice core (addressOf area section g .0) vs }
-storedGroup area section i g core (Refuse f) = refusedGroup area section g core f
+storedGroup area section i g core (Refuse f) = refusedGroup area section g core (further 1 f)
 
 -- "Otherwise 18, tested before any field of the group."
 unfoldable pub groupOutcome : Assignments → Section → List ℕ → ℕ → Group → List ℕ → GroupOutcome

@@ -5,7 +5,7 @@ use mathlib.Core.Bool.{true, cond}
 use mathlib.Core.List.{List}
 use lib.ListN.{length}
 use Rattle.word.specs.declared.Fault.{Fault}
-use Rattle.word.specs.Fault.{fault}
+use Rattle.word.specs.Fault.{fault, further}
 use Rattle.word.specs.Limits.{wordsInBlock}
 use Rattle.word.specs.Lists.{every}
 use Rattle.word.specs.Word.{isWord}
@@ -27,10 +27,11 @@ faultOr (Refuse f) = f
 unfoldable pub firstFault : Assignments → List ℕ → ℕ → Fault
 firstFault a words n = faultOr (changedWords a (groupBits words n) 0 (programIn words n))
 
--- 18 comes before any field
+-- 18 comes before any field; the program words stand behind the identifier
 unfoldable pub groupFault : Assignments → List ℕ → ℕ → Fault
 groupFault a words n =
-    cond (justEnough (afterAll (groupBits words n) 0 (programIn words n)) (length words - n)) (firstFault a words n) (fault 18)
+    cond (justEnough (afterAll (groupBits words n) 0 (programIn words n)) (length words - n))
+    (further 1 (firstFault a words n)) (fault 18)
 
 -- what is known before
 pub record FaultReady (g : Given) (l words : List ℕ) (n : ℕ) : Type 0 where

@@ -10,7 +10,7 @@ use Rattle.lists.specs.declared.Given.{Given}
 use Rattle.lists.specs.Load.{Readable}
 use Rattle.word.specs.declared.Area.{Area}
 use Rattle.word.specs.declared.Fault.{Fault}
-use Rattle.word.specs.Fault.{fault}
+use Rattle.word.specs.Fault.{fault, further}
 use Rattle.word.specs.Lists.{every}
 use Rattle.word.specs.Word.{isWord}
 use Rattle.program.specs.declared.Group.{Group}
@@ -38,7 +38,7 @@ zeroFill n f = record { answer = Refused f; words = replicate n 0 }
 -- all fields read
 abbrev pub changedFill : ℕ → Group → Words → Fill
 changedFill i g (Become vs) = record { answer = Done (i + 1 + g .words) (g .last); words = vs }
-changedFill i g (Refuse f) = zeroFill (g .program) f
+changedFill i g (Refuse f) = zeroFill (g .program) (further 1 f)
 
 unfoldable pub countedFill : Assignments → List ℕ → ℕ → Group → Fill
 countedFill a block i g =

@@ -1,5 +1,5 @@
 -- A word's halves, one after the other with a cursor: how the code goes, not a rule of 01.
-use Prim.Native.Nat.{ℕ, _/_, _^_, _≤_, _<_}
+use Prim.Native.Nat.{ℕ, _+_, _/_, _^_, _≤_, _<_}
 use mathlib.Core.Bool.{Bool, cond}
 use mathlib.Core.List.{List}
 use lib.Dec.{ltb, eqb}
@@ -17,6 +17,7 @@ use Rattle.field.specs.declared.Stepped.{Stepped}
 use Rattle.field.specs.declared.Stepped.the-variants.{Word as stepped-word, Long as stepped-long, Refused as stepped-refused}
 use Rattle.field.specs.Field.{Assignments, relative, valueLimit}
 use Rattle.indicator.specs.declared.Cursor.{Cursor}
+use Rattle.indicator.specs.Indicator.{widthOf}
 use Rattle.indicator.specs.HowCursor.{lookOf, pastBits, pastField}
 use Rattle.group.specs.declared.halves.WordChange.{WordChange}
 use Rattle.group.specs.declared.halves.WordChange.the-variants.{Next, Stop}
@@ -27,9 +28,10 @@ abbrev pub onward : Changed → (ℕ → WordChange) → WordChange
 onward (Word v) next = next v
 onward (Refused f) next = Stop
 
--- a half of the word w, from the cursor before its indicator to the cursor past it
+-- a half of the word w, from the cursor before its indicator to the cursor past it; as nothing is told of a refusal, the indicator's
+-- place does not matter
 unfoldable pub halfOf : Assignments → Half → ℕ → Cursor → WordChange
-halfOf a h w c = onward (halfStep a h (lookOf (c .ahead) (fieldOf h w)) w) (λ v. Next v (pastField c (fieldOf h w)))
+halfOf a h w c = onward (halfStep a h 0 (lookOf (c .ahead) (fieldOf h w)) w) (λ v. Next v (pastField c (fieldOf h w)))
 
 -- its left half, and then the right half of what that gave
 abbrev pub thenRight : Assignments → WordChange → WordChange
@@ -39,11 +41,13 @@ thenRight a Stop = Stop
 unfoldable pub bothOf : Assignments → ℕ → Cursor → WordChange
 bothOf a w c = thenRight a (halfOf a Left w c)
 
--- both halves by the indicators that come next, where the refusal is wanted (`word-of`, proofs/Both.antt: it is `wordStep`)
-unfoldable pub wordOf : Assignments → ℕ → Cursor → Changed
-wordOf a w c =
-    thenHalf (halfStep a Left (lookOf (c .ahead) (fieldOf Left w)) w)
-    (halfStep a Right (lookOf (pastField c (fieldOf Left w) .ahead) (fieldOf Right w)))
+-- both halves by the indicators that come next, the first at place p, where the refusal is wanted (`word-of`, proofs/Both.antt: it is
+-- `wordStep`)
+unfoldable pub wordOf : Assignments → ℕ → ℕ → Cursor → Changed
+wordOf a p w c =
+    thenHalf (halfStep a Left p (lookOf (c .ahead) (fieldOf Left w)) w)
+    (halfStep a Right (p + widthOf (lookOf (c .ahead) (fieldOf Left w)))
+    (lookOf (pastField c (fieldOf Left w) .ahead) (fieldOf Right w)))
 
 -- where four bits are passed: nine more for a long one
 abbrev pub passedBits : Cursor → Stepped → WordChange

@@ -4,6 +4,7 @@ use mathlib.Core.Path.{_≡_}
 use mathlib.Core.Bool.{true}
 use mathlib.Core.List.{List}
 use lib.ListN.{length}
+use Rattle.word.specs.Fault.{further}
 use Rattle.word.specs.Limits.{wordsInBlock}
 use Rattle.word.specs.Lists.{every, range, splice}
 use Rattle.word.specs.Word.{isWord}
@@ -25,10 +26,10 @@ abbrev pub Refuses : Words → Type 0
 Refuses (Become vs) = ⊥
 Refuses (Refuse f) = Unit {0}
 
--- what words become, onto the core's words from number k on; a refusal writes nothing
+-- what words become, onto the core's words from number k on; a refusal writes nothing, and its word counts from these words' first
 unfoldable pub onto : List ℕ → ℕ → Words → Words
 onto out k (Become vs) = Become (splice out k vs)
-onto out k (Refuse f) = Refuse f
+onto out k (Refuse f) = Refuse (further k f)
 
 -- what the words given from number k on become, by the indicators from place q on, onto the core's words
 abbrev pub becomeFrom : Assignments → List ℕ → List ℕ → List ℕ → ℕ → ℕ → Words

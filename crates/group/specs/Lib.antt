@@ -1,4 +1,5 @@
 pub mod Group
+pub mod Places
 pub mod HowGroup
 pub mod HowHalves
 pub mod HowWords

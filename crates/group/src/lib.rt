@@ -21,6 +21,7 @@ use program::Segment;
 use word::Absolute;
 use word::Area;
 use word::Fault;
+use word::faults::FAULT_18;
 
 // The section that a group stands in: the segment with its two banks, or a core table with the section's word count.
 pub enum Section {
@@ -57,7 +58,7 @@ pub fn group_step(
                 let past = first + g.program as usize;
                 return fill_group(s, lists, block, i, g, &mut core[first..past]);
             }
-            GroupStep::Refused(Fault { number: 18 })
+            GroupStep::Refused(FAULT_18)
         }
         GroupRead::Bad(f) => GroupStep::Refused(f),
     }
@@ -121,10 +122,10 @@ fn fill_group(
     ensures { λ r. ⌜ Fills (fillOf (assignedBy s (now (lists .entry))) (now (block .entry)) i g) r (now (out .exit)) ⌝ }
 {
     if LAST_WORD < i + g.words as usize {
-        return refuse(out, Fault { number: 18 });
+        return refuse(out, FAULT_18);
     }
     if g.words < g.program {
-        return refuse(out, Fault { number: 18 });
+        return refuse(out, FAULT_18);
     }
     count_group(s, lists, block, i, g, out)
 }
@@ -150,7 +151,7 @@ fn count_group(
             if indicator::just_enough(bits, marks) {
                 return GroupStep::Done(end, g.last);
             }
-            refuse(out, Fault { number: 18 })
+            refuse(out, FAULT_18)
         }
         GroupChange::Stop => refuse(out, refusals::group_fault(s, lists, &block[first..end], n)),
     }
