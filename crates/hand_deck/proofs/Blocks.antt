@@ -2,15 +2,15 @@
 use mathlib.Core.Path.{_≡_, refl}
 use mathlib.Core.Bool.{true, false}
 use lib.ListN.{getD}
-use Rattle.word.specs.Lists.{every, everyTwo, tab}
+use Rattle.word.specs.Lists.{every, firstNot, tab}
 use Rattle.block.specs.Fieldata.{spelt, characters}
 use Rattle.block.specs.Records.{program, termination, ofRecord}
 use Rattle.block.specs.Checksum.{sumOf, checksum}
 use Rattle.block.specs.Block.{wholeBlock, sealVerdict, verdict}
 use Rattle.block.specs.declared.Record.the-variants.{Label, Program, Termination}
 use Rattle.block.specs.declared.Verdict.the-variants.{Pass}
-use Rattle.label.specs.Name.{isName, isRest, letterOrDigit}
-use Rattle.label.specs.Tables.{tableWordsIn, tableWords, tablesInOrder, entriesOf, countsOf, withinLimits}
+use Rattle.label.specs.Name.{isName, firstWrong, mayStand, letterOrDigit}
+use Rattle.label.specs.Tables.{tableWordsIn, tableWords, tablesStand, firstTable, tableStands, entriesOf, countsOf, withinLimits}
 use Rattle.label.specs.Label.{labelOf, finished, programWordFits}
 use Rattle.label.specs.declared.LabelRead.the-variants.{Good as label-read}
 use Rattle.program.specs.Sections.{segmentOf, bankOf}
@@ -44,8 +44,8 @@ termination-known = refl
 -- the label of a program named A: no tables, no table sections
 pub label-read-whole : labelOf deckLabel
     ≡ label-read (record { switches = 0; channels = 0; units = 0; tables = 0; exact = false; sections = 0 })
-unfolding deckLabel withWords blank labelOf isName isRest letterOrDigit every characters
-    tableWordsIn tableWords tablesInOrder entriesOf countsOf withinLimits everyTwo tab
+unfolding deckLabel withWords blank labelOf isName firstWrong mayStand letterOrDigit every characters
+    tableWordsIn tableWords tablesStand firstTable tableStands entriesOf countsOf withinLimits firstNot tab
     finished programWordFits
 label-read-whole = refl
 

@@ -1,17 +1,17 @@
 -- Every label that is accepted is within the house's limits.
-use Prim.Native.Nat.{ℕ, _+_, _≤_}
+use Prim.Native.Nat.{ℕ, _≤_}
 use mathlib.Core.Path.{_≡_}
-use mathlib.Core.Bool.{true, _&&_}
+use mathlib.Core.Bool.{true}
 use mathlib.Core.List.{List}
 use lib.ListN.{getD}
 use lib.Dec.{eqb, leb}
 use borrow.Author.Tests.{leb-true}
 use Rattle.word.specs.Word.{bits}
-use Rattle.word.specs.Limits.{ioMost, tablesMost}
-use Rattle.word.proofs.Cases.{when, and-left, and-right}
+use Rattle.word.proofs.Cases.{when, and-right}
 use Rattle.label.specs.Name.{isName}
-use Rattle.label.specs.Tables.{tableWords, tablesInOrder, countsOf, channelsMost, withinLimits}
+use Rattle.label.specs.Tables.{tableWords, tablesStand, countsOf, withinLimits}
 use Rattle.label.specs.Label.{nameOf, programWordFits, totalOf, finished, labelOf, Carried}
+use Rattle.label.proofs.Tables.{few-channels, few-io, few-tables, stand-within}
 use Rattle.label.specs.declared.Counts.{Counts}
 use Rattle.label.specs.declared.Label.{Label}
 use Rattle.label.specs.declared.LabelRead.{LabelRead}
@@ -28,30 +28,10 @@ sections-few w n q =
     (and-right (eqb (bits 33 18 w) 1) (leb (bits 15 0 w) n)
     (and-right (eqb (bits 17 16 w) 0) _ (and-right (eqb (bits 35 34 w) 0) _ q)))
 
-module _ (c : Counts) (q : withinLimits c ≡ true) where
-  rest : (leb (c .switches + c .channels + c .units) ioMost && leb (c .tables) tablesMost) ≡ true
-  unfolding withinLimits
-  rest = and-right (leb (c .switches + c .channels) channelsMost) _ q
-
-  few-channels : c .switches + c .channels ≤ channelsMost
-  unfolding withinLimits
-  few-channels = leb-true (c .switches + c .channels) channelsMost (and-left (leb (c .switches + c .channels) channelsMost) _ q)
-
-  few-io : c .switches + c .channels + c .units ≤ ioMost
-  few-io =
-      leb-true (c .switches + c .channels + c .units) ioMost
-      (and-left (leb (c .switches + c .channels + c .units) ioMost) (leb (c .tables) tablesMost) rest)
-
-  few-tables : c .tables ≤ tablesMost
-  few-tables =
-      leb-true (c .tables) tablesMost
-      (and-right (leb (c .switches + c .channels + c .units) ioMost) (leb (c .tables) tablesMost) rest)
-
-finished-holds : (block : List ℕ) (c : Counts) → Holds (finished block c)
+finished-holds : (block : List ℕ) (c : Counts) → withinLimits c ≡ true → Holds (finished block c)
 unfolding finished
-finished-holds block c =
-    when Holds (withinLimits c)
-    (λ l. when Holds (eqb (totalOf c) (bits 10 0 (getD block 3 0)))
+finished-holds block c l =
+    when Holds (eqb (totalOf c) (bits 10 0 (getD block 3 0)))
     (λ _. when Holds (programWordFits (getD block 253 0) (c .tables))
     (λ q. when Holds (eqb (getD block 255 0) (getD block 0 0))
     (λ _. record {
@@ -62,7 +42,6 @@ finished-holds block c =
     })
     (λ _. tt))
     (λ _. tt))
-    (λ _. tt))
     (λ _. tt)
 
 label-holds : (block : List ℕ) → Holds (labelOf block)
@@ -70,7 +49,9 @@ unfolding labelOf
 label-holds block =
     when Holds (isName (nameOf block))
     (λ _. when Holds (eqb (bits 35 33 (getD block 2 0)) 1)
-    (λ _. when Holds (tablesInOrder (tableWords block)) (λ _. finished-holds block (countsOf (tableWords block))) (λ _. tt))
+    (λ _. when Holds (tablesStand (tableWords block))
+    (λ q. finished-holds block (countsOf (tableWords block)) (stand-within (tableWords block) q))
+    (λ _. tt))
     (λ _. tt))
     (λ _. tt)
 

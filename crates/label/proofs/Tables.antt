@@ -1,227 +1,173 @@
--- The tables of a label taken one after another tell what the definition tells of them all, and a turn of each loop over them.
-use Prim.Native.Nat.{ℕ, _+_, _*_, _≤_, _<_}
-use mathlib.Core.Path.{_≡_, refl, sym, ap, _∙_}
+-- The tables of a label: what is known of those that stand. They are four at most, so that no loop reads past the block and no
+-- fault lies past word 8; and they are within the limits.
+use Prim.Native.Nat.{ℕ, zero, suc, _+_, _≤_, _<_}
+use mathlib.Core.Path.{_≡_, refl}
 use mathlib.Core.Bool.{Bool, true, false, false≢true, _&&_}
 use mathlib.Core.List.{List, [], _∷_}
 use native.Mathlib.Omega.{arith}
-use native.Mathlib.Numerals.{add-one}
-use lib.ListN.{length, getD, drop, drop-of-length-le}
-use lib.Seq.{drop-cons}
+use lib.ListN.{length, take}
+use lib.Seq.{getD-take, length-take-le, take-all}
 use lib.Dec.{eqb, leb}
-use borrow.Author.Tests.{ltb-true, lt-ltb, leb-true, le-leb, ne-eqb}
+use borrow.Author.Tests.{ltb-true, leb-true, eqb-true, ne-eqb}
 use Rattle.word.specs.Word.{bits}
-use Rattle.word.specs.Lists.{every, everyTwo}
-use Rattle.word.proofs.Cases.{by-lt, both, and-left, and-right, and-both}
-use Rattle.word.proofs.Every.{every-then, every-by}
-use Rattle.word.proofs.Lists.{length-tab, getD-tab}
-use Rattle.label.specs.Tables.{TableWord, tableWord, tableWordsIn, tableWords, isCarried, carries, rises, hasEntries}
-use Rattle.label.specs.Tables.{tablesInOrder, entriesIf, entriesOf, countsOf}
-use Rattle.label.specs.HowTables.{mayFollow, allFollow, FewEntries}
+use Rattle.word.specs.Limits.{ioMost, tablesMost}
+use Rattle.word.specs.Lists.{every}
+use Rattle.word.proofs.Cases.{by-lt, both, and-left, and-right}
+use Rattle.word.proofs.Every.{every-place}
+use Rattle.word.proofs.First.{AllBelow, first-most, first-before}
+use Rattle.label.specs.Tables.{TableWord, tableWord, isCarried, carries, rises, hasEntries, entriesIf, entriesOf, countsOf}
+use Rattle.label.specs.Tables.{channelsMost, withinLimits, tableAt, tableStands, firstTable, tablesStand}
+use Rattle.label.specs.HowTables.{countedWith, FewEntries}
+use Rattle.label.specs.declared.Counts.{Counts}
 
--- ---- one after another is all in order
-abbrev atLeast : ℕ → TableWord → Bool
-atLeast k x = leb k (x .type)
+-- ---- the clauses of a table that stands
+module _ (ts : List TableWord) (j : ℕ) (q : tableStands ts j ≡ true) where
+  abbrev above : TableWord → Bool
+  above x = rises x (tableAt ts j)
 
-record Ordered (k : ℕ) (ts : List TableWord) : Type 0 where
-  least : every (atLeast k) ts ≡ true
-  carried : every carries ts ≡ true
-  rising : everyTwo rises ts ≡ true
-  some : every hasEntries ts ≡ true
+  pub stands-carried : carries (tableAt ts j) ≡ true
+  unfolding tableStands
+  stands-carried = and-left (carries (tableAt ts j)) _ q
 
--- what may follow, clause by clause
-module _ (k : ℕ) (x : TableWord) (q : mayFollow k x ≡ true) where
-  pub above : k ≤ x .type
-  unfolding mayFollow
-  above = leb-true k (x .type) (and-left (atLeast k x) (hasEntries x && carries x) q)
+  rest : (every above (take j ts) && (hasEntries (tableAt ts j) && withinLimits (countsOf (take (suc j) ts)))) ≡ true
+  unfolding tableStands
+  rest = and-right (carries (tableAt ts j)) _ q
 
-  entered : hasEntries x ≡ true
-  unfolding mayFollow
-  entered = and-left (hasEntries x) (carries x) (and-right (atLeast k x) (hasEntries x && carries x) q)
+  pub stands-entries : hasEntries (tableAt ts j) ≡ true
+  stands-entries = and-left (hasEntries (tableAt ts j)) _ (and-right (every above (take j ts)) _ rest)
 
-  pub of-type : carries x ≡ true
-  unfolding mayFollow
-  of-type = and-right (hasEntries x) (carries x) (and-right (atLeast k x) (hasEntries x && carries x) q)
+  pub stands-within : withinLimits (countsOf (take (suc j) ts)) ≡ true
+  stands-within = and-right (hasEntries (tableAt ts j)) _ (and-right (every above (take j ts)) _ rest)
 
--- above one type and above another
-above-then : (k : ℕ) (x : TableWord) → k ≤ x .type → (y : TableWord) → atLeast (x .type + 1) y ≡ true → atLeast k y ≡ true
-above-then k x l y h = let m = leb-true (x .type + 1) (y .type) h in le-leb k (y .type) (omega arith)
+  pub stands-above : (i : ℕ) → i < j → j ≤ length ts → tableAt ts i .type < tableAt ts j .type
+  stands-above i h k =
+      let l = length-take-le j ts k in
+      let e = every-place (tableWord 0) above (take j ts) i (omega arith) (and-left (every above (take j ts)) _ rest) in
+      ltb-true (tableAt ts i .type) (tableAt ts j .type) (rw (getD-take j ts i (tableWord 0) h) at e)
 
-above-rises : (x y : TableWord) → atLeast (x .type + 1) y ≡ true → rises x y ≡ true
-above-rises x y h = let m = leb-true (x .type + 1) (y .type) h in lt-ltb (x .type) (y .type) (omega arith)
+-- ---- at most four stand: a fifth type carried, above four others, there is not
+module _ (t : ℕ) (q : isCarried t ≡ true) where
+  one-of : (t ≡ 0 → ⊥) → (t ≡ 2 → ⊥) → (t ≡ 3 → ⊥) → (t ≡ 12 → ⊥) → ⊥
+  unfolding isCarried
+  one-of a b c d = false≢true (rw (ne-eqb t 0 a, ne-eqb t 2 b, ne-eqb t 3 c, ne-eqb t 12 d) at q)
 
-rises-above : (x y : TableWord) → rises x y ≡ true → atLeast (x .type + 1) y ≡ true
-rises-above x y h = let m = ltb-true (x .type) (y .type) h in le-leb (x .type + 1) (y .type) (omega arith)
+  -- the types that lie between, and those above
+  above-first : 0 < t → 2 ≤ t
+  above-first h = by-lt t 2
+      (λ l. absurd (one-of (λ e. omega arith) (λ e. omega arith) (λ e. omega arith) (λ e. omega arith)))
+      (λ g. g)
 
-ordered : (k : ℕ) (ts : List TableWord) → allFollow k ts ≡ true → Ordered k ts
-unfolding allFollow every everyTwo
-ordered k [] q = record { least = refl; carried = refl; rising = refl; some = refl }
-ordered k (x ∷ xs) q =
-    let a = and-left (mayFollow k x) (allFollow (x .type + 1) xs) q in
-    let l = above k x a in
-    let o = ordered (x .type + 1) xs (and-right (mayFollow k x) (allFollow (x .type + 1) xs) q) in
-    record {
-      least = and-both (atLeast k x) (every (atLeast k) xs) (le-leb k (x .type) l)
-          (every-then (atLeast (x .type + 1)) (atLeast k) (above-then k x l) xs (o .least));
-      carried = and-both (carries x) (every carries xs) (of-type k x a) (o .carried);
-      rising = and-both (every (rises x) xs) (everyTwo rises xs)
-          (every-then (atLeast (x .type + 1)) (rises x) (above-rises x) xs (o .least))
-          (o .rising);
-      some = and-both (hasEntries x) (every hasEntries xs) (entered k x a) (o .some);
-    }
+  above-third : 3 < t → 12 ≤ t
+  above-third h = by-lt t 12
+      (λ l. absurd (one-of (λ e. omega arith) (λ e. omega arith) (λ e. omega arith) (λ e. omega arith)))
+      (λ g. g)
 
-follows : (k : ℕ) (ts : List TableWord) → Ordered k ts → allFollow k ts ≡ true
-unfolding allFollow every everyTwo mayFollow
-follows k [] o = refl
-follows k (x ∷ xs) o =
-    and-both (mayFollow k x) (allFollow (x .type + 1) xs)
-    (and-both (atLeast k x) (hasEntries x && carries x) (and-left (atLeast k x) (every (atLeast k) xs) (o .least))
-    (and-both (hasEntries x) (carries x) (and-left (hasEntries x) (every hasEntries xs) (o .some))
-    (and-left (carries x) (every carries xs) (o .carried))))
-    (follows (x .type + 1) xs (record {
-      least = every-then (rises x) (atLeast (x .type + 1)) (rises-above x) xs
-          (and-left (every (rises x) xs) (everyTwo rises xs) (o .rising));
-      carried = and-right (carries x) (every carries xs) (o .carried);
-      rising = and-right (every (rises x) xs) (everyTwo rises xs) (o .rising);
-      some = and-right (hasEntries x) (every hasEntries xs) (o .some);
-    }))
+  carried-most : t ≤ 12
+  carried-most = by-lt 12 t
+      (λ l. absurd (one-of (λ e. omega arith) (λ e. omega arith) (λ e. omega arith) (λ e. omega arith)))
+      (λ g. g)
 
-same-test : (a b : Bool) → (a ≡ true → b ≡ true) → (b ≡ true → a ≡ true) → a ≡ b
-same-test true b f g = sym (f refl)
-same-test false true f g = g refl
-same-test false false f g = refl
+module _ (ts : List TableWord) (a : AllBelow (tableStands ts) 5) (h : 5 ≤ length ts) where
+  of-type : (j : ℕ) → j < 5 → isCarried (tableAt ts j .type) ≡ true
+  of-type j l = stands-carried ts j (a j l)
 
-pub order-follows : (ts : List TableWord) → tablesInOrder ts ≡ allFollow 0 ts
-unfolding tablesInOrder
-order-follows ts = same-test (tablesInOrder ts) (allFollow 0 ts)
-    (λ q.
-    let a = and-left (every carries ts) (everyTwo rises ts && every hasEntries ts) q in
-    let r = and-right (every carries ts) (everyTwo rises ts && every hasEntries ts) q in
-    follows 0 ts (record {
-      least = every-then carries (atLeast 0) (λ y h. le-leb 0 (y .type) (omega arith)) ts a;
-      carried = a;
-      rising = and-left (everyTwo rises ts) (every hasEntries ts) r;
-      some = and-right (everyTwo rises ts) (every hasEntries ts) r;
-    }))
-    (λ q.
-    let o = ordered 0 ts q in
-    and-both (every carries ts) (everyTwo rises ts && every hasEntries ts) (o .carried)
-    (and-both (everyTwo rises ts) (every hasEntries ts) (o .rising) (o .some)))
+  next : (j : ℕ) → suc j < 5 → tableAt ts j .type < tableAt ts (suc j) .type
+  next j l = stands-above ts (suc j) (a (suc j) l) j (omega arith) (omega arith)
 
--- ---- so there are few: no type above 12 is carried
-pub carried-most : (t : ℕ) → isCarried t ≡ true → t ≤ 12
-unfolding isCarried
-carried-most t q = by-lt 12 t
-    (λ l.
-    let z = rw (
-      ne-eqb t 0 (λ e. omega arith),
-      ne-eqb t 2 (λ e. omega arith),
-      ne-eqb t 3 (λ e. omega arith),
-      ne-eqb t 12 (λ e. omega arith),
-    ) at q in
-    absurd (false≢true z))
-    (λ h. h)
+  no-five : ⊥
+  no-five =
+      let t1 = above-first (tableAt ts 1 .type) (of-type 1 (omega arith)) (omega (arith, next 0 (omega arith))) in
+      let t2 = next 1 (omega arith) in
+      let t3 = above-third (tableAt ts 3 .type) (of-type 3 (omega arith)) (omega (arith, next 2 (omega arith))) in
+      let t4 = next 3 (omega arith) in
+      let m = carried-most (tableAt ts 4 .type) (of-type 4 (omega arith)) in
+      omega arith
 
-few-from : (k : ℕ) (ts : List TableWord) → allFollow k ts ≡ true → k ≤ 13 → k + length ts ≤ 13
-unfolding allFollow
-few-from k [] q h = omega arith
-few-from k (x ∷ xs) q h =
-    let a = and-left (mayFollow k x) (allFollow (x .type + 1) xs) q in
-    let l = above k x a in
-    let m = carried-most (x .type) (of-type k x a) in
-    let f = few-from (x .type + 1) xs (and-right (mayFollow k x) (allFollow (x .type + 1) xs) q) (omega arith) in
-    omega arith
+pub few-stand : (ts : List TableWord) (k : ℕ) → k ≤ length ts → AllBelow (tableStands ts) k → k ≤ 4
+few-stand ts k h a = by-lt 4 k (λ l. absurd (no-five ts (λ i m. a i (omega arith)) (omega arith))) (λ g. g)
 
--- ---- the loops over the first n table words
-none : TableWord
-none = tableWord 0
+module _ (ts : List TableWord) where
+  stand-before : AllBelow (tableStands ts) (firstTable ts)
+  unfolding firstTable
+  stand-before = first-before (tableStands ts) (length ts)
 
-module _ (block : List ℕ) (n : ℕ) where
-  pub tables-length : length (tableWordsIn block n) ≡ n
-  unfolding tableWordsIn
-  tables-length = length-tab (λ i. tableWord (getD block (4 + i) 0)) n
+  first-in : firstTable ts ≤ length ts
+  unfolding firstTable
+  first-in = first-most (tableStands ts) (length ts)
 
-  table-at : (i : ℕ) → i < n → getD (tableWordsIn block n) i none ≡ tableWord (getD block (4 + i) 0)
-  unfolding tableWordsIn
-  table-at i h = getD-tab (λ j. tableWord (getD block (4 + j) 0)) n i none h
+  -- so the first that does not is one of the first five
+  pub table-few : firstTable ts ≤ 4
+  table-few = few-stand ts (firstTable ts) first-in stand-before
 
-  table-first : (i : ℕ) → i < n
-      → drop i (tableWordsIn block n) ≡ tableWord (getD block (4 + i) 0) ∷ drop (i + 1) (tableWordsIn block n)
-  table-first i h =
-      let e = tables-length in
-      drop-cons (tableWordsIn block n) i none (omega arith) ∙ rw (table-at i h, add-one)
+  pub all-stand : tablesStand ts ≡ true → AllBelow (tableStands ts) (length ts)
+  unfolding tablesStand
+  all-stand q = let e = eqb-true (firstTable ts) (length ts) q in rw e at stand-before
 
-  tables-end : (i : ℕ) → n ≤ i → drop i (tableWordsIn block n) ≡ []
-  tables-end i h =
-      let l : length (tableWordsIn block n) ≤ i = omega (arith, tables-length) in
-      drop-of-length-le (tableWordsIn block n) l
+-- ---- counts
+module _ (c : Counts) (q : withinLimits c ≡ true) where
+  others : (leb (c .switches + c .channels + c .units) ioMost && leb (c .tables) tablesMost) ≡ true
+  unfolding withinLimits
+  others = and-right (leb (c .switches + c .channels) channelsMost) _ q
 
-  module _ (least i : ℕ) (b : Bool) where
-    pub follow-more : i < n → mayFollow least (tableWord (getD block (4 + i) 0)) ≡ true
-        → b ≡ allFollow least (drop i (tableWordsIn block n))
-        → b ≡ allFollow (bits 35 32 (getD block (4 + i) 0) + 1) (drop (i + 1) (tableWordsIn block n))
-    unfolding allFollow
-    follow-more h t q = q ∙ rw (table-first i h, t)
+  pub few-channels : c .switches + c .channels ≤ channelsMost
+  unfolding withinLimits
+  few-channels = leb-true (c .switches + c .channels) channelsMost (and-left (leb (c .switches + c .channels) channelsMost) _ q)
 
-    pub follow-fails : i < n → mayFollow least (tableWord (getD block (4 + i) 0)) ≡ false
-        → b ≡ allFollow least (drop i (tableWordsIn block n)) → false ≡ b
-    unfolding allFollow
-    follow-fails h t q = sym (q ∙ rw (table-first i h, t))
+  pub few-io : c .switches + c .channels + c .units ≤ ioMost
+  few-io =
+      leb-true (c .switches + c .channels + c .units) ioMost
+      (and-left (leb (c .switches + c .channels + c .units) ioMost) (leb (c .tables) tablesMost) others)
 
-    pub follow-ends : n ≤ i → b ≡ allFollow least (drop i (tableWordsIn block n)) → true ≡ b
-    unfolding allFollow
-    follow-ends h q = sym (q ∙ rw (tables-end i h))
+  pub few-tables : c .tables ≤ tablesMost
+  few-tables =
+      leb-true (c .tables) tablesMost
+      (and-right (leb (c .switches + c .channels + c .units) ioMost) (leb (c .tables) tablesMost) others)
 
-  module _ (t i s r : ℕ) where
-    pub entries-more : i < n → s + entriesOf t (drop i (tableWordsIn block n)) ≡ r
-        → s + entriesIf t (tableWord (getD block (4 + i) 0)) + entriesOf t (drop (i + 1) (tableWordsIn block n)) ≡ r
-    unfolding entriesOf
-    entries-more h q = let e = ap (entriesOf t) (table-first i h) in omega (arith, e, q)
+  pub few : FewEntries c
+  few =
+      let a = few-channels in
+      let b = few-io in
+      let d = few-tables in
+      record { switches = omega arith; channels = omega arith; units = omega arith; tables = omega arith }
 
-    pub entries-end : n ≤ i → s + entriesOf t (drop i (tableWordsIn block n)) ≡ r → s ≡ r
-    unfolding entriesOf
-    entries-end h q = let e = ap (entriesOf t) (tables-end i h) in omega (arith, e, q)
-
--- ---- and the entries of each type are few
 pub counted-most : (t w : ℕ) → entriesIf t (tableWord w) ≤ 511
 counted-most t w = both (λ (x : ℕ). x ≤ 511) (eqb (bits 35 32 w) t) (omega arith) (omega arith)
 
-abbrev short : TableWord → Bool
-short x = leb (x .entries) 511
+-- one table more takes them no further than sums can hold
+pub counted-few : (c : Counts) (w : ℕ) → withinLimits c ≡ true → FewEntries (countedWith c (tableWord w))
+unfolding countedWith
+counted-few c w q =
+    let a = few-channels c q in
+    let b = few-io c q in
+    let d = few-tables c q in
+    record {
+      switches = omega (arith, counted-most 0 w);
+      channels = omega (arith, counted-most 2 w);
+      units = omega (arith, counted-most 3 w);
+      tables = omega (arith, counted-most 12 w);
+    }
 
-entries-most : (t : ℕ) (ts : List TableWord) → every short ts ≡ true → entriesOf t ts ≤ 511 * length ts
-unfolding entriesOf every
-entries-most t [] q = omega arith
-entries-most t (x ∷ xs) q =
-    let h = leb-true (x .entries) 511 (and-left (short x) (every short xs) q) in
-    let m = entries-most t xs (and-right (short x) (every short xs) q) in
-    let c : entriesIf t x ≤ 511 = both (λ (y : ℕ). y ≤ 511) (eqb (x .type) t) h (omega arith) in
-    omega arith
+entries-front : (t : ℕ) (ts : List TableWord) (j : ℕ) → j < length ts
+    → entriesOf t (take (suc j) ts) ≡ entriesOf t (take j ts) + entriesIf t (tableAt ts j)
+unfolding entriesOf
+entries-front t [] j h = absurd (omega arith)
+entries-front t (x ∷ xs) zero h = omega arith
+entries-front t (x ∷ xs) (suc j) h = let e = entries-front t xs j (omega arith) in omega arith
 
-module _ (block : List ℕ) (q : tablesInOrder (tableWords block) ≡ true) where
-  pub few : bits 28 18 (getD block 3 0) ≤ 13
-  unfolding tableWords
-  few =
-      let f = few-from 0 (tableWords block) (sym (order-follows (tableWords block)) ∙ q) (omega arith) in
-      omega (arith, f, tables-length block (bits 28 18 (getD block 3 0)))
+pub counts-front : (ts : List TableWord) (j : ℕ) → j < length ts
+    → countsOf (take (suc j) ts) ≡ countedWith (countsOf (take j ts)) (tableAt ts j)
+unfolding countsOf countedWith
+counts-front ts j h = rw (entries-front 0 ts j h, entries-front 2 ts j h, entries-front 3 ts j h, entries-front 12 ts j h)
 
-  all-short : every short (tableWords block) ≡ true
-  unfolding tableWords
-  all-short =
-      let n = bits 28 18 (getD block 3 0) in
-      every-by none short (tableWordsIn block n)
-      (λ i h. rw (table-at block n i (omega (arith, tables-length block n)))
-      (le-leb (bits 8 0 (getD block (4 + i) 0)) 511 (omega arith)))
+-- the tables that stand are within the limits
+module _ (ts : List TableWord) where
+  none-within : withinLimits (countsOf (take 0 ts)) ≡ true
+  unfolding countsOf entriesOf withinLimits
+  none-within = refl
 
-  each-few : (t : ℕ) → entriesOf t (tableWords block) ≤ 6643
-  each-few t =
-      let f = few-from 0 (tableWords block) (sym (order-follows (tableWords block)) ∙ q) (omega arith) in
-      omega (arith, entries-most t (tableWords block) all-short)
+  front-within : (k : ℕ) → AllBelow (tableStands ts) k → withinLimits (countsOf (take k ts)) ≡ true
+  front-within zero a = none-within
+  front-within (suc k) a = stands-within ts k (a k (omega arith))
 
-  pub counts-small : FewEntries (countsOf (tableWords block))
-  unfolding countsOf
-  counts-small = record {
-    switches = omega (arith, each-few 0);
-    channels = omega (arith, each-few 2);
-    units = omega (arith, each-few 3);
-    tables = omega (arith, each-few 12);
-  }
+  pub stand-within : tablesStand ts ≡ true → withinLimits (countsOf ts) ≡ true
+  stand-within q = rw (take-all (length ts) ts (omega arith)) at (front-within (length ts) (all-stand ts q))

@@ -1,7 +1,8 @@
 -- how the code goes, not a rule of 01
--- A name read a character at a time. That this tells what `isName` tells is `name-spelled` in proofs/Spelt.antt.
+-- A name read a character at a time. That it goes wrong at the first wrong character is `spelled-right` and `spelled-wrong` in
+-- proofs/Spelt.antt.
 use Prim.Native.Nat.{ℕ}
-use mathlib.Core.Bool.{cond}
+use mathlib.Core.Bool.{Bool, true, false, cond}
 use mathlib.Core.List.{List, [], _∷_}
 use lib.Dec.{eqb}
 use Rattle.block.specs.Fieldata.{hyphen}
@@ -18,3 +19,9 @@ nextSpelling Wrong c = Wrong
 unfoldable pub spelled : Spelling → List ℕ → Spelling
 spelled s [] = s
 spelled s (c ∷ cs) = spelled (nextSpelling s c) cs
+
+abbrev pub isWrong : Spelling → Bool
+isWrong First = false
+isWrong Inside = false
+isWrong Spaces = false
+isWrong Wrong = true

@@ -1,13 +1,16 @@
 -- The tables that a label names: "Words from 4: table type in bits 35-32, entries in bits 8-0." What the house asks of them is said
--- in `tablesInOrder` and `withinLimits`, a line for each clause; where one does not hold, the refusal is 15.
-use Prim.Native.Nat.{ℕ, _+_}
+-- of one table and those before it, a line for each clause, in `tableStands`; where it does not hold of one, the fault is 15 at the
+-- word of the first such table.
+use Prim.Native.Nat.{ℕ, suc, _+_}
 use mathlib.Core.Bool.{Bool, cond, not, _&&_, _||_}
 use mathlib.Core.List.{List, [], _∷_}
-use lib.ListN.{getD}
+use lib.ListN.{length, getD, take}
 use lib.Dec.{eqb, ltb, leb}
 use Rattle.word.specs.Word.{bits}
-use Rattle.word.specs.Lists.{every, everyTwo, tab}
+use Rattle.word.specs.Fault.{fault, further}
+use Rattle.word.specs.Lists.{every, firstNot, tab}
 use Rattle.word.specs.Limits.{ioMost, tablesMost}
+use Rattle.word.specs.declared.Fault.{Fault}
 use Rattle.label.specs.declared.Counts.{Counts}
 
 -- a table as its word names it: its type, and how many entries it has
@@ -52,13 +55,6 @@ rises x y = ltb (x .type) (y .type)
 abbrev pub hasEntries : TableWord → Bool
 hasEntries x = not (eqb (x .entries) 0)
 
--- "table types carried ..": each is; "in rising order, none twice"; "none with 0 entries"
-unfoldable pub tablesInOrder : List TableWord → Bool
-tablesInOrder ts =
-    every carries ts
-    && (everyTwo rises ts
-    && every hasEntries ts)
-
 -- how many entries the tables of type t have
 abbrev pub entriesIf : ℕ → TableWord → ℕ
 entriesIf t x = cond (eqb (x .type) t) (x .entries) 0
@@ -85,3 +81,27 @@ withinLimits c =
     leb (c .switches + c .channels) channelsMost
     && (leb (c .switches + c .channels + c .units) ioMost
     && leb (c .tables) tablesMost)
+
+-- table number j; past the last, one of no entries
+abbrev pub tableAt : List TableWord → ℕ → TableWord
+tableAt ts j = getD ts j (tableWord 0)
+
+-- table number j stands: "table types carried ..": its is one; "in rising order, none twice": it is above each before it; "none
+-- with 0 entries"; and with it those counted so far are within the limits
+unfoldable pub tableStands : List TableWord → ℕ → Bool
+tableStands ts j =
+    carries (tableAt ts j)
+    && (every (λ x. rises x (tableAt ts j)) (take j ts)
+    && (hasEntries (tableAt ts j)
+    && withinLimits (countsOf (take (suc j) ts))))
+
+-- the number of the first table that does not stand; where all do, how many there are
+unfoldable pub firstTable : List TableWord → ℕ
+firstTable ts = firstNot (tableStands ts) (length ts)
+
+unfoldable pub tablesStand : List TableWord → Bool
+tablesStand ts = eqb (firstTable ts) (length ts)
+
+-- 15 at the word of that table, the table words counted from 0
+abbrev pub tableFault : List TableWord → Fault
+tableFault ts = further (firstTable ts) (fault 15)

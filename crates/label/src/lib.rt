@@ -3,14 +3,15 @@ pub mod name;
 
 ghost use mathlib.Core.Path.{_≡_};
 ghost use mathlib.Core.Bool.{true};
-ghost use Prim.Native.Nat.{_≤_};
-ghost use lib.ListN.{length, getD};
+ghost use lib.ListN.{length};
+ghost use Rattle.word.specs.Fault.{fault, further};
 ghost use Rattle.word.specs.Limits.{wordsInBlock};
-ghost use Rattle.label.specs.Tables.{tableWord, tableWordsIn, tableWords, isCarried, tablesInOrder, withinLimits};
-ghost use Rattle.label.specs.Tables.{entriesIf, entriesOf, countsOf};
-ghost use Rattle.label.specs.HowTables.{mayFollow, FewEntries};
+ghost use Rattle.label.specs.Tables.{tableWord, tableWords, isCarried, entriesIf, withinLimits};
+ghost use Rattle.label.specs.HowTables.{mayFollow, countedWith, tableRead, tablesRead, FewEntries};
 ghost use Rattle.label.specs.Label.{labelOf, finished, programWordFits};
 use word::Fault;
+use word::faults::FAULT_14;
+use word::faults::FAULT_15;
 use word::limits::IO_MOST;
 use word::limits::TABLES_MOST;
 
@@ -26,7 +27,12 @@ const CORE: u64 = 12;
 // How many entries jump switches and channels may have together.
 const CHANNELS_MOST: u64 = 16;
 
-// The first table word, the word that counts segments and table sections, and the word that repeats the name's first.
+// The word of the type flag, the one that counts tables and entries, the first table word, the one that counts segments and table
+// sections, and the one that repeats the name's first.
+const FLAG_WORD: usize = 2;
+
+const COUNTS_WORD: usize = 3;
+
 const TABLE_WORDS: usize = 4;
 
 const SECTIONS_WORD: usize = 253;
@@ -42,12 +48,23 @@ pub enum Spelling {
     Wrong,
 }
 
+pub enum NameRead {
+    Good,
+    Bad(Fault),
+}
+
 // How many entries each table type carried has: jump switches (0), channels (2), units (3), core tables (12).
 pub struct Counts {
     pub switches: u64,
     pub channels: u64,
     pub units: u64,
     pub tables: u64,
+}
+
+// The tables of a label: what they count, or the first that breaks a rule.
+pub enum TablesRead {
+    Good(Counts),
+    Bad(Fault),
 }
 
 // What later records need of a label: the entries of each table type, whether longer tables are forbidden, and how many table
@@ -71,36 +88,61 @@ pub fn read_label(block: &[u64]) -> LabelRead
     requires { ⌜ length (now block) ≡ wordsInBlock ⌝ }
     ensures { λ r. ⌜ r ≡ labelOf (now (block .entry)) ⌝ }
 {
-    if !name::is_name(block[0], block[1]) {
-        return LabelRead::Bad(Fault { number: 15 });
+    match name::read_name(block[0], block[1]) {
+        NameRead::Good => {
+            if word::bits(block[FLAG_WORD], 35, 33) != 1 {
+                return LabelRead::Bad(word::further(FLAG_WORD as u64, FAULT_14));
+            }
+            match read_tables(block) {
+                TablesRead::Good(c) => finish(block, c),
+                TablesRead::Bad(f) => LabelRead::Bad(word::further(TABLE_WORDS as u64, f)),
+            }
+        }
+        NameRead::Bad(f) => LabelRead::Bad(f),
     }
-    if word::bits(block[2], 35, 33) != 1 {
-        return LabelRead::Bad(Fault { number: 14 });
-    }
-    if !tables_in_order(block) {
-        return LabelRead::Bad(Fault { number: 15 });
-    }
-    let c = count_entries(block);
-    finish(block, c)
 }
 
-// Whether the table words from word 4 on, as many as word 3 counts, are of types carried and rising, and none has no entries.
-fn tables_in_order(block: &[u64]) -> bool
+// The table words from word 4 on, as many as word 3 counts: the entries of each type, or 15 at the first word that breaks a rule.
+fn read_tables(block: &[u64]) -> TablesRead
     requires { ⌜ length (now block) ≡ wordsInBlock ⌝ }
-    ensures { λ r. ⌜ r ≡ tablesInOrder (tableWords (now (block .entry))) ⌝ }
+    ensures { λ r. ⌜ r ≡ tablesRead (tableWords (now (block .entry))) ⌝ }
 {
-    let n = word::bits(block[3], 28, 18) as usize;
+    let n = word::bits(block[COUNTS_WORD], 28, 18) as usize;
+    let mut c = Counts {
+        switches: 0,
+        channels: 0,
+        units: 0,
+        tables: 0,
+    };
     let mut least: u64 = 0;
     let mut i: usize = 0;
     while i < n {
         let w = block[TABLE_WORDS + i];
-        if !may_follow(least, w) {
-            return false;
+        match read_table(least, c, w) {
+            TablesRead::Good(d) => {
+                c = d;
+                least = word::bits(w, 35, 32) + 1;
+                i += 1;
+            }
+            TablesRead::Bad(f) => return TablesRead::Bad(word::further(i as u64, f)),
         }
-        least = word::bits(w, 35, 32) + 1;
-        i += 1;
     }
-    true
+    TablesRead::Good(c)
+}
+
+// One table word, whose type must be none below the least: the counts with its entries, or 15.
+fn read_table(least: u64, c: Counts, w: u64) -> TablesRead
+    requires { ⌜ withinLimits c ≡ true ⌝ }
+    ensures { λ r. ⌜ r ≡ tableRead least c (tableWord w) ⌝ }
+{
+    if !may_follow(least, w) {
+        return TablesRead::Bad(FAULT_15);
+    }
+    let d = count_with(c, w);
+    if !within_limits(d) {
+        return TablesRead::Bad(FAULT_15);
+    }
+    TablesRead::Good(d)
 }
 
 // One table word: its type must be carried and none below the least, its entries some.
@@ -132,33 +174,17 @@ fn is_carried(t: u64) -> bool
     t == CORE
 }
 
-// The entries of each type, where the table words are in order.
-fn count_entries(block: &[u64]) -> Counts
-    requires { ⌜ (length (now block) ≡ wordsInBlock) × (tablesInOrder (tableWords (now block)) ≡ true) ⌝ }
-    ensures { λ r. ⌜ r ≡ countsOf (tableWords (now (block .entry))) ⌝ }
+// The counts, and the entries of one table more.
+fn count_with(c: Counts, w: u64) -> Counts
+    requires { ⌜ FewEntries c ⌝ }
+    ensures { λ r. ⌜ r ≡ countedWith c (tableWord w) ⌝ }
 {
-    let n = word::bits(block[3], 28, 18) as usize;
     Counts {
-        switches: entries_of(block, n, JUMP_SWITCH),
-        channels: entries_of(block, n, CHANNEL),
-        units: entries_of(block, n, UNIT),
-        tables: entries_of(block, n, CORE),
+        switches: c.switches + entries_if(w, JUMP_SWITCH),
+        channels: c.channels + entries_if(w, CHANNEL),
+        units: c.units + entries_if(w, UNIT),
+        tables: c.tables + entries_if(w, CORE),
     }
-}
-
-// How many entries the tables of type t have, of the first n table words.
-fn entries_of(block: &[u64], n: usize, t: u64) -> u64
-    requires { ⌜ (length (now block) ≡ wordsInBlock) × (n ≤ 13) ⌝ }
-    ensures { λ r. ⌜ r ≡ entriesOf t (tableWordsIn (now (block .entry)) n) ⌝ }
-{
-    let mut sum: u64 = 0;
-    let mut i: usize = 0;
-    while i < n {
-        let w = block[TABLE_WORDS + i];
-        sum += entries_if(w, t);
-        i += 1;
-    }
-    sum
 }
 
 // The entries of a table word, where it is of type t.
@@ -169,35 +195,6 @@ fn entries_if(w: u64, t: u64) -> u64
         return word::bits(w, 8, 0);
     }
     0
-}
-
-// What is read after the table words: the limits, the entry total, word 253 and word 255.
-fn finish(block: &[u64], c: Counts) -> LabelRead
-    requires { ⌜ (length (now block) ≡ wordsInBlock) × (FewEntries c) ⌝ }
-    ensures { λ r. ⌜ r ≡ finished (now (block .entry)) c ⌝ }
-{
-    if !within_limits(c) {
-        return LabelRead::Bad(Fault { number: 15 });
-    }
-    let w = block[3];
-    if c.switches + c.channels + c.units + c.tables != word::bits(w, 10, 0) {
-        return LabelRead::Bad(Fault { number: 15 });
-    }
-    let p = block[SECTIONS_WORD];
-    if !program_word_fits(p, c.tables) {
-        return LabelRead::Bad(Fault { number: 15 });
-    }
-    if block[NAME_AGAIN] != block[0] {
-        return LabelRead::Bad(Fault { number: 15 });
-    }
-    LabelRead::Good(Label {
-        switches: c.switches,
-        channels: c.channels,
-        units: c.units,
-        tables: c.tables,
-        exact: word::is_set(w, 35),
-        sections: word::bits(p, 15, 0),
-    })
 }
 
 fn within_limits(c: Counts) -> bool
@@ -211,6 +208,39 @@ fn within_limits(c: Counts) -> bool
         return false;
     }
     c.tables <= TABLES_MOST as u64
+}
+
+// What is read after the table words: the entry total, word 253 and word 255.
+fn finish(block: &[u64], c: Counts) -> LabelRead
+    requires { ⌜ (length (now block) ≡ wordsInBlock) × (FewEntries c) ⌝ }
+    ensures { λ r. ⌜ r ≡ finished (now (block .entry)) c ⌝ }
+{
+    let w = block[COUNTS_WORD];
+    if c.switches + c.channels + c.units + c.tables != word::bits(w, 10, 0) {
+        return bad_at(COUNTS_WORD);
+    }
+    let p = block[SECTIONS_WORD];
+    if !program_word_fits(p, c.tables) {
+        return bad_at(SECTIONS_WORD);
+    }
+    if block[NAME_AGAIN] != block[0] {
+        return bad_at(NAME_AGAIN);
+    }
+    LabelRead::Good(Label {
+        switches: c.switches,
+        channels: c.channels,
+        units: c.units,
+        tables: c.tables,
+        exact: word::is_set(w, 35),
+        sections: word::bits(p, 15, 0),
+    })
+}
+
+// 15 at word k.
+fn bad_at(k: usize) -> LabelRead
+    ensures { λ r. ⌜ r ≡ LabelRead.Bad (further k (fault 15)) ⌝ }
+{
+    LabelRead::Bad(word::further(k as u64, FAULT_15))
 }
 
 // Word 253: its other bits zero, one segment, no more table sections than core tables.

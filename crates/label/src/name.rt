@@ -2,9 +2,11 @@
 ghost use mathlib.Core.Path.{_≡_};
 ghost use mathlib.Core.List.{_++_};
 ghost use Rattle.block.specs.Fieldata.{characters};
-ghost use Rattle.label.specs.Name.{isName, letterOrDigit};
-ghost use Rattle.label.specs.HowSpelling.{nextSpelling, spelled};
+ghost use Rattle.label.specs.Name.{letterOrDigit, nameRead};
+ghost use Rattle.label.specs.HowSpelling.{nextSpelling, spelled, isWrong};
+use crate::NameRead;
 use crate::Spelling;
+use word::faults::FAULT_15;
 
 // "12 Fieldata characters": six a word, of six bits each.
 const IN_WORD: u64 = 6;
@@ -22,15 +24,28 @@ const HYPHEN: u64 = 0o41;
 
 const SPACE: u64 = 0o05;
 
-// Whether two words spell a name.
-pub fn is_name(first: u64, second: u64) -> bool
-    ensures { λ r. ⌜ r ≡ isName (characters 6 first ++ characters 6 second) ⌝ }
+// The name that two words spell, or 15 at the one in which the first wrong character stands.
+pub fn read_name(first: u64, second: u64) -> NameRead
+    ensures { λ r. ⌜ r ≡ nameRead (characters 6 first ++ characters 6 second) ⌝ }
 {
-    match spell_word(spell_word(Spelling::First, first), second) {
+    let s = spell_word(Spelling::First, first);
+    if is_wrong(s) {
+        return NameRead::Bad(FAULT_15);
+    }
+    if is_wrong(spell_word(s, second)) {
+        return NameRead::Bad(word::further(1, FAULT_15));
+    }
+    NameRead::Good
+}
+
+fn is_wrong(s: Spelling) -> bool
+    ensures { λ r. ⌜ r ≡ isWrong s ⌝ }
+{
+    match s {
         Spelling::First => false,
-        Spelling::Inside => true,
-        Spelling::Spaces => true,
-        Spelling::Wrong => false,
+        Spelling::Inside => false,
+        Spelling::Spaces => false,
+        Spelling::Wrong => true,
     }
 }
 
