@@ -1,5 +1,5 @@
--- What a label or a modification block leads to: a stage whose numbers are in their ranges, or a fault from 13 to 22, never the
--- start; and what a termination block leads to.
+-- What a label or a modification block leads to: a stage whose numbers are in their ranges, or a fault at a word of
+-- its block, never the start; and what a termination block leads to.
 use Prim.Native.Nat.{ℕ, _+_, _≤_, _<_}
 use mathlib.Core.Path.{_≡_, refl}
 use mathlib.Core.Bool.{Bool, true, false, cond, false≢true}
@@ -8,7 +8,7 @@ use native.Mathlib.Omega.{arith}
 use lib.ListN.{length}
 use lib.Dec.{eqb, ltb}
 use borrow.Author.Tests.{eqb-true, eqb-false, le-leb, lt-ltb, ltb-true, ltb-false}
-use Rattle.word.specs.Fault.{fault}
+use Rattle.word.specs.Fault.{fault, further}
 use Rattle.word.specs.declared.Absolute.{Absolute}
 use Rattle.word.specs.declared.Area.{Area}
 use Rattle.word.specs.declared.Fault.{Fault}
@@ -19,7 +19,7 @@ use Rattle.label.specs.declared.LabelRead.{LabelRead}
 use Rattle.label.specs.declared.LabelRead.the-variants.{Good, Bad}
 use Rattle.label.specs.Label.{labelOf, channelCount, ioCount, Carried}
 use Rattle.label.proofs.Carried.{label-carried}
-use Rattle.label.proofs.Faults.{label-faults}
+use Rattle.label.proofs.Faults.{OfWhole, whole-at, whole-wider, label-faults}
 use Rattle.lists.specs.declared.Table.{Table as CoreTable}
 use Rattle.modification.specs.Assignments.{assignmentsFit}
 use Rattle.modification.specs.Entries.{entryBlocks}
@@ -35,18 +35,14 @@ use Rattle.records.specs.Termination.{terminationStep}
 use Rattle.stage.specs.declared.Step.{Step}
 use Rattle.stage.specs.declared.Step.the-variants.{More, Done, Refused}
 
--- a fault of a block, not of a call
-abbrev pub OfBlock : Fault → Type 0
-OfBlock f = (13 ≤ f .number) × (f .number ≤ 22)
-
 -- a step that goes on to a stage of which P holds, or is refused
 abbrev StepLeads : (Stage → Type 0) → Step → Type 0
 StepLeads P (More s) = P s
 StepLeads P (Done a) = ⊥
-StepLeads P (Refused f) = OfBlock f
+StepLeads P (Refused f) = OfWhole 14 16 f
 
-of-block : (n : ℕ) → 13 ≤ n → n ≤ 22 → OfBlock (fault n)
-of-block n h k = (h, k)
+is-16 : (k : ℕ) → k ≤ 255 → OfWhole 14 16 (further k (fault 16))
+is-16 k h = whole-at 14 16 16 k (omega arith) (omega arith) h
 
 -- ---- the label
 module _ (P : Stage → Type 0) (ios : List ℕ) (tables : ℕ) (block : List ℕ) where
@@ -54,8 +50,9 @@ module _ (P : Stage → Type 0) (ios : List ℕ) (tables : ℕ) (block : List �
       → ((l : Label) → labelOf block ≡ Good l → assignmentsFit l ios tables ≡ true → P (afterLabel (length ios) tables l))
       → StepLeads P (withLabel ios tables r)
   unfolding withLabel
-  with-leads (Good l) e h = when (StepLeads P) (assignmentsFit l ios tables) (h l e) (λ _. of-block 16 (omega arith) (omega arith))
-  with-leads (Bad f) e h = let g = label-faults block f e in (omega arith, omega arith)
+  with-leads (Good l) e h = when (StepLeads P) (assignmentsFit l ios tables) (h l e)
+      (λ _. is-16 3 (omega arith))
+  with-leads (Bad f) e h = whole-wider 14 16 (omega arith) (omega arith) (label-faults block f e)
 
   label-leads : ((l : Label) → labelOf block ≡ Good l → assignmentsFit l ios tables ≡ true → P (afterLabel (length ios) tables l))
       → StepLeads P (labelStep ios tables block)
@@ -92,19 +89,20 @@ module _ (ios : List ℕ) (tables : ℕ) (block : List ℕ) where
   pub label-not-done : (a : Absolute) → labelStep ios tables block ≡ Done a → ⊥
   label-not-done a e = rw e at (label-leads (λ _. Unit {0}) ios tables block (λ l g q. tt))
 
-  pub label-fault : (f : Fault) → labelStep ios tables block ≡ Refused f → OfBlock f
+  pub label-fault : (f : Fault) → labelStep ios tables block ≡ Refused f → OfWhole 14 16 f
   label-fault f e = rw e at (label-leads (λ _. Unit {0}) ios tables block (λ l g q. tt))
 
 -- ---- a modification block
 module _ (io : ℕ) (ts : List CoreTable) (c : LabelCounts) (exact : Bool) (b : ℕ) (block : List ℕ) where
   entry-leads : (P : Stage → Type 0) → P (afterEntries io (length ts) c exact b) → StepLeads P (entryStep io ts c exact b block)
   unfolding entryStep
-  entry-leads P h = both (StepLeads P) (entriesFit io ts exact b block) h (of-block 16 (omega arith) (omega arith))
+  entry-leads P h =
+      both (StepLeads P) (entriesFit io ts exact b block) h (is-16 _ (omega arith))
 
   pub entry-not-done : (a : Absolute) → entryStep io ts c exact b block ≡ Done a → ⊥
   entry-not-done a e = rw e at (entry-leads (λ _. Unit {0}) tt)
 
-  pub entry-fault : (f : Fault) → entryStep io ts c exact b block ≡ Refused f → OfBlock f
+  pub entry-fault : (f : Fault) → entryStep io ts c exact b block ≡ Refused f → OfWhole 14 16 f
   entry-fault f e = rw e at (entry-leads (λ _. Unit {0}) tt)
 
 after-entries-fit : (area : Area) (ts : List CoreTable) (io : ℕ) (c : LabelCounts) (exact : Bool) (b : ℕ)
@@ -139,7 +137,7 @@ module _ (area : Area) (ibank : Bank) where
   abbrev Ends : Step → Type 0
   Ends (More s) = ⊥
   Ends (Done a) = (area .at .0 + ibank .at .0 ≤ a .0) × (a .0 < area .at .0 + (ibank .at .0 + ibank .count))
-  Ends (Refused f) = OfBlock f
+  Ends (Refused f) = OfWhole 22 22 f
 
   module _ (block : List ℕ) where
     termination-ends : Ends (terminationStep area ibank block)
@@ -147,12 +145,12 @@ module _ (area : Area) (ibank : Bank) where
     termination-ends =
         when Ends (inBank ibank (startOf block))
         (λ q. let h = in-bank ibank (startOf block) q in (omega arith, omega arith))
-        (λ _. of-block 22 (omega arith) (omega arith))
+        (λ _. whole-at 22 22 22 1 (omega arith) (omega arith) (omega arith))
 
     pub termination-not-more : (s : Stage) → terminationStep area ibank block ≡ More s → ⊥
     termination-not-more s e = rw e at termination-ends
 
-    pub termination-fault : (f : Fault) → terminationStep area ibank block ≡ Refused f → OfBlock f
+    pub termination-fault : (f : Fault) → terminationStep area ibank block ≡ Refused f → OfWhole 22 22 f
     termination-fault f e = rw e at termination-ends
 
     pub termination-start : (a : Absolute) → terminationStep area ibank block ≡ Done a

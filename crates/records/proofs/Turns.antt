@@ -1,60 +1,104 @@
--- The loop over the tables of a modification block: what is left of it decides.
-use Prim.Native.Nat.{ℕ, _+_, _≤_, _<_}
+-- The loop over the tables of a modification block: those passed fit, so the first that does not is the one that is told.
+use Prim.Native.Nat.{ℕ, _+_, _<_}
 use mathlib.Core.Path.{_≡_, refl, sym, ap, _∙_}
 use mathlib.Core.Bool.{Bool, true, false}
 use mathlib.Core.List.{List}
 use native.Mathlib.Omega.{arith}
-use lib.ListN.{length, getD, drop}
-use Rattle.word.specs.Lists.{every, tab}
-use Rattle.word.proofs.Lists.{length-tab, getD-tab, every-more, every-fails, every-ends}
-use Rattle.lists.specs.declared.Table.{Table as CoreTable}
+use native.Mathlib.Numerals.{add-one}
+use lib.ListN.{length, getD}
+use borrow.Author.Tests.{eq-eqb, ne-eqb}
+use Rattle.word.specs.declared.Fault.{Fault}
+use Rattle.word.proofs.Cases.{when}
+use Rattle.word.proofs.First.{AllBelow, below-none, below-more, first-all, first-at}
 use Rattle.lists.specs.declared.Given.{Given}
+use Rattle.lists.specs.declared.Table.{Table as CoreTable}
 use Rattle.lists.specs.Load.{coreTable, coreTables, Readable}
 use Rattle.lists.specs.Obey.{noTable}
-use Rattle.lists.proofs.Reading.{core-length, core-at}
-use Rattle.records.specs.Entries.{entryFits, lengthOf, entriesFit}
+use Rattle.lists.proofs.Reading.{core-at}
+use Rattle.modification.specs.Entries.{lengthSpot, minimum, lengthFits}
+use Rattle.modification.specs.declared.Spot.{Spot}
+use Rattle.records.specs.Entries.{entryFits, firstEntry, entriesFit, entryFault}
+use Rattle.records.specs.HowEntries.{entryRead, entriesRead}
+use Rattle.records.specs.declared.EntriesRead.{EntriesRead}
+use Rattle.records.specs.declared.EntriesRead.the-variants.{Good, Bad}
 
-module _ (io : ℕ) (exact : Bool) (b : ℕ) (block : List ℕ) where
-  -- table t's
-  abbrev fits : List CoreTable → ℕ → Bool
-  fits ts t = entryFits io exact b block (lengthOf ts t) t
+-- ---- table t's entry, whose third word stands at the spot s
+module _ (g : Given) (l : List ℕ) (exact : Bool) (b : ℕ) (block : List ℕ) (t : ℕ) (s : Spot)
+    (o : s ≡ lengthSpot (g .io) (record { 0 = t })) where
+  pub fits-elsewhere : (s .block ≡ b → ⊥) → entryFits (g .io) (coreTables g l) exact b block t ≡ true
+  unfolding entryFits
+  fits-elsewhere h = let k = rw o at h in rw (ne-eqb _ _ k)
 
-  abbrev numbers : List CoreTable → List ℕ
-  numbers ts = tab (λ t. t) (length ts)
+  pub fits-here : Readable g l → t < g .tables → s .block ≡ b → (m : ℕ) → m ≡ minimum (getD block (s .word) 0)
+      → (x : CoreTable) → x ≡ coreTable g l t → (v : Bool) → v ≡ lengthFits exact m (x .len)
+      → entryFits (g .io) (coreTables g l) exact b block t ≡ v
+  unfolding entryFits
+  fits-here r h e m q x y v k =
+      let i = rw o at e in
+      let n = rw o at q in
+      rw (eq-eqb _ _ i)
+      (ap (λ (z : CoreTable). lengthFits exact (minimum (getD block (lengthSpot (g .io) (record { 0 = t }) .word) 0)) (z .len))
+      (core-at g l r t noTable h ∙ sym y)
+      ∙ ap (λ (j : ℕ). lengthFits exact j (x .len)) (sym n)
+      ∙ sym k)
 
-  -- every table's from table t on
-  unfoldable pub leftFit : List CoreTable → ℕ → Bool
-  leftFit ts t = every (fits ts) (drop t (numbers ts))
+-- ---- all of them
+module _ (io : ℕ) (ts : List CoreTable) (exact : Bool) (b : ℕ) (block : List ℕ) where
+  -- the first t tables' entries fit
+  unfoldable pub PassedTo : ℕ → Type 0
+  PassedTo t = AllBelow (entryFits io ts exact b block) t
 
-  pub left-first : (ts : List CoreTable) → entriesFit io ts exact b block ≡ leftFit ts 0
-  unfolding entriesFit leftFit
-  left-first ts = refl
+  pub passed-none : PassedTo 0
+  unfolding PassedTo
+  passed-none = below-none (entryFits io ts exact b block)
 
-  module _ (g : Given) (l : List ℕ) (readable : Readable g l) (t : ℕ) (r : Bool) where
-    abbrev ts : List CoreTable
-    ts = coreTables g l
+  module _ (t : ℕ) (p : PassedTo t) where
+    entry-good : entryRead io ts exact b block t ≡ Good → entryFits io ts exact b block t ≡ true
+    unfolding entryRead
+    entry-good =
+        when (λ (r : EntriesRead). r ≡ Good → entryFits io ts exact b block t ≡ true) (entryFits io ts exact b block t) (λ q e. q)
+        (λ q e. let z : _≡_ {A = ℕ} 0 1 = cc in absurd (omega arith))
 
-    many : length (numbers ts) ≡ g .tables
-    many = length-tab (λ (k : ℕ). k) (length ts) ∙ core-length g l readable
+    entry-bad : (f : Fault) → entryRead io ts exact b block t ≡ Bad f
+        → (entryFits io ts exact b block t ≡ false) × (f ≡ entryFault io t)
+    unfolding entryRead
+    entry-bad f =
+        when (λ (r : EntriesRead). r ≡ Bad f → (entryFits io ts exact b block t ≡ false) × (f ≡ entryFault io t))
+        (entryFits io ts exact b block t)
+        (λ q e. let z : _≡_ {A = ℕ} 0 1 = cc in absurd (omega arith))
+        (λ q e. (q, cc))
 
-    this : (x : CoreTable) → t < g .tables → x ≡ coreTable g l t
-        → fits ts (getD (numbers ts) t 0) ≡ entryFits io exact b block (x .len) t
-    this x h q =
-        ap (fits ts) (getD-tab (λ (k : ℕ). k) (length ts) t 0 (omega (arith, core-length g l readable)))
-        ∙ ap (λ (y : CoreTable). entryFits io exact b block (y .len) t) (core-at g l readable t noTable h ∙ sym q)
+    pub passed-more : entryRead io ts exact b block t ≡ Good → PassedTo (t + 1)
+    unfolding PassedTo
+    passed-more e = rw (add-one t) (below-more (entryFits io ts exact b block) t p (entry-good e))
 
-    pub left-more : (x : CoreTable) → t < g .tables → x ≡ coreTable g l t → (v : Bool) → v ≡ entryFits io exact b block (x .len) t
-        → v ≡ true
-        → r ≡ leftFit ts t → r ≡ leftFit ts (t + 1)
-    unfolding leftFit
-    left-more x h q v k e = every-more (fits ts) 0 (numbers ts) t r (omega (arith, many)) (this x h q ∙ sym k ∙ e)
+    pub passed-fails : (f : Fault) → t < length ts → entryRead io ts exact b block t ≡ Bad f
+        → Bad f ≡ entriesRead io ts exact b block
+    unfolding PassedTo entriesRead entriesFit firstEntry
+    passed-fails f h e =
+        let g = entry-bad f e in
+        let k = first-at (entryFits io ts exact b block) (length ts) t h p (g .0) in
+        rw (k, ne-eqb t (length ts) (λ z. omega arith), g .1)
 
-    pub left-fails : (x : CoreTable) → t < g .tables → x ≡ coreTable g l t → (v : Bool) → v ≡ entryFits io exact b block (x .len) t
-        → v ≡ false
-        → r ≡ leftFit ts t → false ≡ r
-    unfolding leftFit
-    left-fails x h q v k e = every-fails (fits ts) 0 (numbers ts) t r (omega (arith, many)) (this x h q ∙ sym k ∙ e)
+    pub passed-all : t ≡ length ts → Good ≡ entriesRead io ts exact b block
+    unfolding PassedTo entriesRead entriesFit firstEntry
+    passed-all e =
+        let k = first-all (entryFits io ts exact b block) (length ts) (rw e at p) in
+        rw (k, eq-eqb (length ts) (length ts) refl)
 
-    pub left-ends : g .tables ≤ t → r ≡ leftFit ts t → true ≡ r
-    unfolding leftFit
-    left-ends h = every-ends (fits ts) 0 (numbers ts) t r (omega (arith, many))
+  -- ---- what the block is answered with
+  pub entries-good : entriesRead io ts exact b block ≡ Good → entriesFit io ts exact b block ≡ true
+  unfolding entriesRead
+  entries-good =
+      when (λ (r : EntriesRead). r ≡ Good → entriesFit io ts exact b block ≡ true) (entriesFit io ts exact b block) (λ q e. q)
+      (λ q e. let z : _≡_ {A = ℕ} 0 1 = cc in absurd (omega arith))
+
+  pub entries-bad : (f : Fault) → entriesRead io ts exact b block ≡ Bad f
+      → (entriesFit io ts exact b block ≡ false) × (f ≡ entryFault io (firstEntry io ts exact b block))
+  unfolding entriesRead
+  entries-bad f =
+      when (λ (r : EntriesRead). r ≡ Bad f
+      → (entriesFit io ts exact b block ≡ false) × (f ≡ entryFault io (firstEntry io ts exact b block)))
+      (entriesFit io ts exact b block)
+      (λ q e. let z : _≡_ {A = ℕ} 0 1 = cc in absurd (omega arith))
+      (λ q e. (q, cc))

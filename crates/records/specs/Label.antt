@@ -1,10 +1,11 @@
--- The label: 14 or 15 where it is none, then 16 where the assignments do not fit it.
+-- The label: 14 or 15 where it is none, at the word that its own definition tells, as the label's words are the block's; then 16
+-- where the assignments do not fit it, at word 3, which counts its tables and entries.
 use Prim.Native.Nat.{ℕ}
 use mathlib.Core.Bool.{cond}
 use mathlib.Core.List.{List}
 use lib.ListN.{length}
 use lib.Dec.{eqb}
-use Rattle.word.specs.Fault.{fault}
+use Rattle.word.specs.Fault.{fault, further}
 use Rattle.label.specs.declared.Label.{Label}
 use Rattle.label.specs.declared.LabelRead.{LabelRead}
 use Rattle.label.specs.declared.LabelRead.the-variants.{Good, Bad}
@@ -29,7 +30,7 @@ afterLabel io tables l =
 
 unfoldable pub withLabel : List ℕ → ℕ → LabelRead → Step
 withLabel ios tables (Good l) =
-    cond (assignmentsFit l ios tables) (More (afterLabel (length ios) tables l)) (Refused (fault 16))
+    cond (assignmentsFit l ios tables) (More (afterLabel (length ios) tables l)) (Refused (further 3 (fault 16)))
 withLabel ios tables (Bad f) = Refused f
 
 -- ios the numbers of the I/O references, tables how many core tables there are

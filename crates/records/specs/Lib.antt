@@ -1,3 +1,4 @@
 pub mod Label
 pub mod Entries
+pub mod HowEntries
 pub mod Termination

@@ -8,7 +8,8 @@ ghost use Rattle.label.specs.declared.LabelRead.the-variants.{Good};
 ghost use Rattle.label.specs.Label.{Carried};
 ghost use Rattle.lists.specs.Load.{ioNumbers, coreTables, Readable};
 ghost use Rattle.records.specs.Label.{withLabel, labelStep};
-ghost use Rattle.records.specs.Entries.{entryFits, entriesFit, entryStep, EntryReady, SpotReady};
+ghost use Rattle.records.specs.Entries.{entryStep, EntryReady, SpotReady};
+ghost use Rattle.records.specs.HowEntries.{entryRead, entriesRead};
 ghost use Rattle.records.specs.Termination.{terminationStep};
 use label::Label;
 use label::LabelRead;
@@ -21,6 +22,19 @@ use stage::Step;
 use word::Area;
 use word::Fault;
 use word::Reference;
+use word::faults::FAULT_16;
+use word::faults::FAULT_22;
+
+// The word of a label that counts its tables and entries, and the word of a termination block that gives the start.
+const COUNTS_WORD: u64 = 3;
+
+const START_WORD: u64 = 1;
+
+// Whether the entries of a modification block fit the tables: where one does not, the fault at its third word.
+pub enum EntriesRead {
+    Good,
+    Bad(Fault),
+}
 
 // The label, compared with the lists that the load was given.
 pub fn label_step(g: Given, lists: &[u64], block: &[u64]) -> Step
@@ -39,7 +53,7 @@ fn take_label(g: Given, lists: &[u64], l: Label) -> Step
     ensures { λ r. ⌜ r ≡ withLabel (ioNumbers g (now (lists .entry))) (g .tables) (Good l) ⌝ }
 {
     if !modification::assignments_fit(l, g, lists) {
-        return Step::Refused(Fault { number: 16 });
+        return Step::Refused(word::further(COUNTS_WORD, FAULT_16));
     }
     let c = LabelCounts {
         channels: l.switches + l.channels,
@@ -63,45 +77,51 @@ pub fn entry_step(
     requires { ⌜ EntryReady g (now lists) b (now block) ⌝ }
     ensures { λ r. ⌜ r ≡ entryStep (g .io) (coreTables g (now (lists .entry))) c exact b (now (block .entry)) ⌝ }
 {
-    if !entries_fit(g, lists, exact, b, block) {
-        return Step::Refused(Fault { number: 16 });
+    match read_entries(g, lists, exact, b, block) {
+        EntriesRead::Good => {
+            let next = b + 1;
+            if next < modification::entry_blocks(g.io, g.tables) {
+                return Step::More(Stage::Entry(c, exact, next));
+            }
+            Step::More(Stage::Program(c, Due::Segment))
+        }
+        EntriesRead::Bad(f) => Step::Refused(f),
     }
-    let next = b + 1;
-    if next < modification::entry_blocks(g.io, g.tables) {
-        return Step::More(Stage::Entry(c, exact, next));
-    }
-    Step::More(Stage::Program(c, Due::Segment))
 }
 
-// Whether each table's length fits its entry, as far as the entry's third word stands in block b.
-fn entries_fit(g: Given, lists: &[u64], exact: bool, b: u64, block: &[u64]) -> bool
+// Each table's entry, as far as its third word stands in block b: the first that does not fit ends it.
+fn read_entries(g: Given, lists: &[u64], exact: bool, b: u64, block: &[u64]) -> EntriesRead
     requires { ⌜ (Readable g (now lists)) × (length (now block) ≡ wordsInBlock) ⌝ }
-    ensures { λ r. ⌜ r ≡ entriesFit (g .io) (coreTables g (now (lists .entry))) exact b (now (block .entry)) ⌝ }
+    ensures { λ r. ⌜ r ≡ entriesRead (g .io) (coreTables g (now (lists .entry))) exact b (now (block .entry)) ⌝ }
 {
-    let io = g.io;
     let tables = g.tables;
     let mut t: u64 = 0;
     while t < tables {
-        let len = lists::load::core_table(g, lists, Reference(t)).len;
-        if !entry_fits(io, exact, b, block, len, t) {
-            return false;
+        match read_entry(g, lists, exact, b, block, t) {
+            EntriesRead::Good => {
+                t += 1;
+            }
+            EntriesRead::Bad(f) => return EntriesRead::Bad(f),
         }
-        t += 1;
     }
-    true
+    EntriesRead::Good
 }
 
-// The same of table t, of length len.
-fn entry_fits(io: u64, exact: bool, b: u64, block: &[u64], len: u64, t: u64) -> bool
-    requires { ⌜ SpotReady io t (now block) ⌝ }
-    ensures { λ r. ⌜ r ≡ entryFits io exact b (now (block .entry)) len t ⌝ }
+// The entry of table t: nothing is asked of one whose third word stands in another block.
+fn read_entry(g: Given, lists: &[u64], exact: bool, b: u64, block: &[u64], t: u64) -> EntriesRead
+    requires { ⌜ SpotReady g (now lists) t (now block) ⌝ }
+    ensures { λ r. ⌜ r ≡ entryRead (g .io) (coreTables g (now (lists .entry))) exact b (now (block .entry)) t ⌝ }
 {
-    let s = modification::length_spot(io, Reference(t));
+    let s = modification::length_spot(g.io, Reference(t));
     if s.block != b {
-        return true;
+        return EntriesRead::Good;
     }
     let least = modification::minimum_length(block[s.word as usize]);
-    modification::length_fits(exact, least, len)
+    let len = lists::load::core_table(g, lists, Reference(t)).len;
+    if modification::length_fits(exact, least, len) {
+        return EntriesRead::Good;
+    }
+    EntriesRead::Bad(word::further(s.word, FAULT_16))
 }
 
 // The termination block: the start must lie in the IBANK.
@@ -111,7 +131,7 @@ pub fn termination_step(area: Area, ibank: Bank, block: &[u64]) -> Step
 {
     let start = program::read_start(block);
     if !program::in_bank(ibank, start) {
-        return Step::Refused(Fault { number: 22 });
+        return Step::Refused(word::further(START_WORD, FAULT_22));
     }
     Step::Done(word::placed(area, start))
 }

@@ -1,5 +1,6 @@
 -- `records::take_label` meets its contract: each return by the tests that led to it.
 use mathlib.Core.Path.{sym, _∙_}
+use native.Mathlib.Omega.{arith}
 use denote.Ref.{now}
 use borrow.Author.Tests.{eq-eqb, ne-eqb, not-true, not-false}
 use Rattle.lists.proofs.Reading.{io-length}
@@ -11,9 +12,17 @@ use Rattle.records.proofs.take_label.Tie as tie
 assignments-fit-requires : tie.Need-assignments-fit-requires
 assignments-fit-requires c κs = search needs
 
+further-requires : tie.Need-further-requires
+further-requires c κs = omega arith
+
 returns : tie.Need-returns
 unfolding withLabel
-returns c = rw (sym (c .before .assignments-fit .ensures) ∙ not-true _ (c .if1 .taken))
+returns c =
+    let d = c .before in
+    rw (
+      c .further .ensures,
+      sym (d .before .assignments-fit .ensures) ∙ not-true _ (d .if1 .taken),
+    )
 
 add-if2 : tie.Need-add-if2
 add-if2 c = search needs
@@ -50,4 +59,11 @@ returns-3 c =
 pub take-label-spec : {M : Type 1} → statement M
 take-label-spec =
     tie.close
-    (tie.spec assignments-fit-requires returns add-if2 entry-blocks-requires returns-2 returns-3)
+    (tie.spec
+    assignments-fit-requires
+    further-requires
+    returns
+    add-if2
+    entry-blocks-requires
+    returns-2
+    returns-3)

@@ -13,9 +13,18 @@ read-start-requires c κs = search needs
 in-bank-requires : tie.Need-in-bank-requires
 in-bank-requires c κs = search needs
 
+further-requires : tie.Need-further-requires
+further-requires c κs = omega arith
+
 returns : tie.Need-returns
 unfolding terminationStep
-returns c = rw (← c .before .before .read-start .ensures, sym (c .before .in-bank .ensures) ∙ not-true _ (c .if1 .taken))
+returns c =
+    let d = c .before in
+    rw (
+      c .further .ensures,
+      ← d .before .before .read-start .ensures,
+      sym (d .before .in-bank .ensures) ∙ not-true _ (d .if1 .taken),
+    )
 
 placed-requires : tie.Need-placed-requires
 placed-requires c κs = rw (c .before .before .read-start .ensures) (omega arith)
@@ -32,4 +41,11 @@ returns-2 c = rw (
 
 pub termination-step-spec : {M : Type 1} → statement M
 termination-step-spec =
-    tie.close (tie.spec read-start-requires in-bank-requires returns placed-requires returns-2)
+    tie.close
+    (tie.spec
+    read-start-requires
+    in-bank-requires
+    further-requires
+    returns
+    placed-requires
+    returns-2)
