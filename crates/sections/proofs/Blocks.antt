@@ -1,5 +1,5 @@
--- What a program block does, whatever it answers: the next stage's numbers are in their ranges, a refusal is from 17 to 21, the
--- core keeps its length, no word outside the area changes, what is stored is a word, and neither the answer nor the area's words
+-- What a program block does, whatever it answers: the next stage's numbers are in their ranges, a refusal is from 17 to 21 at its
+-- place, the core keeps its length, no word outside the area changes, what is stored is a word, and neither the answer nor the area's words
 -- hang on the rest of the core.
 use Prim.Native.Nat.{ℕ, zero, suc}
 use mathlib.Core.Path.{_≡_, refl, sym, ap, _∙_}
@@ -14,7 +14,6 @@ use Rattle.word.specs.Word.{isWord}
 use Rattle.word.proofs.Cases.{by-test}
 use Rattle.word.proofs.Stretch.{Beside}
 use Rattle.group.proofs.Acts.{Alike, group-same, group-alike}
-use Rattle.group.proofs.Faults.{Among}
 use Rattle.group.proofs.Group.{group-area, group-words}
 use Rattle.group.proofs.Stored.{StoredWords, stored-none, stored-then}
 use Rattle.stage.specs.declared.LabelCounts.{LabelCounts}
@@ -24,13 +23,13 @@ use Rattle.stage.specs.declared.Stage.the-variants.{Program}
 use Rattle.stage.specs.declared.Step.{Step}
 use Rattle.stage.specs.declared.Step.the-variants.{More, Done, Refused}
 use Rattle.sections.specs.declared.Item.{Item}
-use Rattle.sections.specs.declared.Item.the-variants.{Go, Stop}
+use Rattle.sections.specs.declared.Item.the-variants.{Go, Last, Refused as item-refused}
 use Rattle.lists.specs.Load.{Load}
 use Rattle.sections.specs.Waits.{assignments}
 use Rattle.sections.specs.Program.{afterGroup, itemStep, ItemOutcome, StepOutcome, StepMeets, closes, followed, programFrom}
 use Rattle.sections.specs.Program.{programStep}
 use Rattle.sections.proofs.Ranges.{StageFits}
-use Rattle.sections.proofs.Leads.{StepTold, ItemLeads, item-leads}
+use Rattle.sections.proofs.Leads.{OfProgram, StepTold, ItemLeads, item-leads}
 use Rattle.sections.proofs.Turns.{item-cases, item-length, InPlace, item-in-place, open-place}
 
 -- two outcomes that meet the contract are equal
@@ -41,31 +40,32 @@ one-outcome o r r′ core core′ p q = (p .told ∙ sym (q .told), p .left ∙ 
 -- ---- the answer
 module _ (x : Load) (block : List ℕ) where
   -- an answer for the next stage is one for this stage
-  told-through : (s t : Stage) (r : Step) → (StageFits x s → StageFits x t) → StepTold x t r → StepTold x s r
+  told-through : (s t : Stage) (r : Step) → (StageFits x s → StageFits x t) → StepTold x block t r → StepTold x block s r
   told-through s t (More u) h k = λ f. k (h f)
   told-through s t (Done a) h k = k
   told-through s t (Refused f) h k = k
 
   follow-told : (s : Stage) (i : ℕ) (it : Item) (core : List ℕ) (next : LabelCounts → Due → ℕ → List ℕ → StepOutcome)
-      → ItemLeads x s i it
-      → ((d : LabelCounts) (t : Due) (p : ℕ) → StepTold x (Program d t) (next d t p core .step))
-      → StepTold x s (followed it core next .step)
+      → ItemLeads x block s i it
+      → ((d : LabelCounts) (t : Due) (p : ℕ) → StepTold x block (Program d t) (next d t p core .step))
+      → StepTold x block s (followed i it core next .step)
   follow-told s i (Go d t p) core next l h = told-through s (Program d t) (next d t p core .step) (l .2) (h d t p)
-  follow-told s i (Stop r) core next l h = l
+  follow-told s i (Last ibank) core next l h = l
+  follow-told s i (item-refused f) core next l h = l
 
   from-told : (n : ℕ) (c : LabelCounts) (due : Due) (i : ℕ) (core : List ℕ)
-      → StepTold x (Program c due) (programFrom n x c due block i core .step)
+      → StepTold x block (Program c due) (programFrom n x c due block i core .step)
   unfolding programFrom
   from-told zero c due i core = λ f. f
   from-told (suc n) c due i core = by-test (closes block i)
       (λ q. rw q (λ f. f))
       (λ q. rw q
       (follow-told (Program c due) i (itemStep x c due block i core .item) (itemStep x c due block i core .core) _
-      (item-leads x c due block i core (open-place x block i q))
+      (item-leads x block c due i core (open-place x block i q))
       (λ d t p. from-told n d t p (itemStep x c due block i core .core))))
 
   module _ (c : LabelCounts) (due : Due) (core : List ℕ) where
-    program-told : StepTold x (Program c due) (programStep x c due block core .step)
+    program-told : StepTold x block (Program c due) (programStep x c due block core .step)
     unfolding programStep
     program-told = from-told lastWord c due 1 core
 
@@ -75,7 +75,7 @@ module _ (x : Load) (block : List ℕ) where
     pub program-not-done : (a : Absolute) → programStep x c due block core .step ≡ Done a → ⊥
     program-not-done a e = rw e at program-told
 
-    pub program-faults : (f : Fault) → programStep x c due block core .step ≡ Refused f → Among 17 21 f
+    pub program-faults : (f : Fault) → programStep x c due block core .step ≡ Refused f → OfProgram block f
     program-faults f e = rw e at program-told
 
 -- ---- the core
@@ -84,11 +84,12 @@ module _ (x : Load) (block : List ℕ) where
   module _ (P : List ℕ → List ℕ → Type 0) (same : (core : List ℕ) → P core core) (both : (a b c : List ℕ) → P a b → P b c → P a c)
       (item : (c : LabelCounts) (due : Due) (i : ℕ) (core : List ℕ) → InPlace x (Program c due) core
       → P core (itemStep x c due block i core .core)) where
-    follow-keeps : (core : List ℕ) (it : Item) (after : List ℕ) (next : LabelCounts → Due → ℕ → List ℕ → StepOutcome) → P core after
+    follow-keeps : (i : ℕ) (core : List ℕ) (it : Item) (after : List ℕ) (next : LabelCounts → Due → ℕ → List ℕ → StepOutcome) → P core after
         → ((d : LabelCounts) (t : Due) (p : ℕ) → it ≡ Go d t p → P after (next d t p after .core))
-        → P core (followed it after next .core)
-    follow-keeps core (Go d t p) after next h k = both core after (next d t p after .core) h (k d t p refl)
-    follow-keeps core (Stop r) after next h k = h
+        → P core (followed i it after next .core)
+    follow-keeps i core (Go d t p) after next h k = both core after (next d t p after .core) h (k d t p refl)
+    follow-keeps i core (Last ibank) after next h k = h
+    follow-keeps i core (item-refused f) after next h k = h
 
     from-keeps : (n : ℕ) (c : LabelCounts) (due : Due) (i : ℕ) (core : List ℕ) → InPlace x (Program c due) core
         → P core (programFrom n x c due block i core .core)
@@ -97,7 +98,7 @@ module _ (x : Load) (block : List ℕ) where
     from-keeps (suc n) c due i core w = by-test (closes block i)
         (λ q. rw q (same core))
         (λ q. rw q
-        (follow-keeps core (itemStep x c due block i core .item) (itemStep x c due block i core .core) _ (item c due i core w)
+        (follow-keeps i core (itemStep x c due block i core .item) (itemStep x c due block i core .core) _ (item c due i core w)
         (λ d t p e. from-keeps n d t p (itemStep x c due block i core .core)
         (item-in-place x block c due i core d t p e (open-place x block i q) w))))
 
@@ -145,12 +146,13 @@ module _ (x : Load) (block : List ℕ) where
     abbrev Same : StepOutcome → StepOutcome → Type 0
     Same o o′ = (o .step ≡ o′ .step) × P (o .core) (o′ .core)
 
-    follow-both : (it it′ : Item) (core core′ : List ℕ) (next : LabelCounts → Due → ℕ → List ℕ → StepOutcome) → it ≡ it′
+    follow-both : (i : ℕ) (it it′ : Item) (core core′ : List ℕ) (next : LabelCounts → Due → ℕ → List ℕ → StepOutcome) → it ≡ it′
         → P core core′
         → ((d : LabelCounts) (t : Due) (p : ℕ) → it ≡ Go d t p → Same (next d t p core) (next d t p core′))
-        → Same (followed it core next) (followed it′ core′ next)
-    follow-both (Go d t p) it′ core core′ next e h k = rw (← e) (k d t p refl)
-    follow-both (Stop r) it′ core core′ next e h k = rw (← e) (refl, h)
+        → Same (followed i it core next) (followed i it′ core′ next)
+    follow-both i (Go d t p) it′ core core′ next e h k = rw (← e) (k d t p refl)
+    follow-both i (Last ibank) it′ core core′ next e h k = rw (← e) (refl, h)
+    follow-both i (item-refused f) it′ core core′ next e h k = rw (← e) (refl, h)
 
     from-both : (n : ℕ) (c : LabelCounts) (due : Due) (i : ℕ) (core core′ : List ℕ) → InPlace x (Program c due) core
         → InPlace x (Program c due) core′ → P core core′
@@ -162,7 +164,7 @@ module _ (x : Load) (block : List ℕ) where
         (λ q. let l = open-place x block i q in
         let e = item-same c due i core core′ w in
         rw q
-        (follow-both (itemStep x c due block i core .item) (itemStep x c due block i core′ .item)
+        (follow-both i (itemStep x c due block i core .item) (itemStep x c due block i core′ .item)
         (itemStep x c due block i core .core) (itemStep x c due block i core′ .core) _
         e (item c due i core core′ w w′ h)
         (λ d t p g. from-both n d t p (itemStep x c due block i core .core) (itemStep x c due block i core′ .core)

@@ -9,6 +9,9 @@ use lib.ListN.{length, getD}
 use lib.Dec.{leb}
 use borrow.Author.Tests.{le-leb, lt-leb, leb-false, eq-eqb, ne-eqb}
 use Rattle.program.specs.Sections.{lastWord}
+use Rattle.word.specs.declared.Fault.{Fault}
+use Rattle.word.specs.Fault.{further}
+use Rattle.word.specs.Limits.{wordsInBlock}
 use Rattle.word.specs.Lists.{every}
 use Rattle.word.proofs.Cases.{by-test}
 use Rattle.program.specs.declared.Bank.{Bank}
@@ -19,6 +22,7 @@ use Rattle.lists.specs.Obey.{noTable, tableInside}
 use Rattle.lists.proofs.Reading.{core-length, core-at}
 use Rattle.field.specs.Field.{assignedBy}
 use Rattle.group.specs.declared.GroupStep.{GroupStep}
+use Rattle.group.specs.declared.GroupStep.the-variants.{Done as group-done, Refused as group-refused}
 use Rattle.group.specs.declared.Section.{Section}
 use Rattle.group.specs.declared.Section.the-variants.{Segment as in-segment}
 use Rattle.group.specs.Group.{GroupOutcome, GroupMeets, InArea, groupStep}
@@ -27,17 +31,18 @@ use Rattle.stage.specs.declared.LabelCounts.{LabelCounts}
 use Rattle.stage.specs.declared.Due.{Due}
 use Rattle.stage.specs.declared.Due.the-variants.{Segment as segment-due, SegmentGroup, Section as section-due, SectionGroup}
 use Rattle.stage.specs.declared.Stage.{Stage}
-use Rattle.stage.specs.declared.Stage.the-variants.{Program}
-use Rattle.stage.specs.declared.Step.{Step}
-use Rattle.stage.specs.declared.Step.the-variants.{More}
+use Rattle.stage.specs.declared.Stage.the-variants.{Program, Termination}
+use Rattle.stage.specs.declared.Step.the-variants.{More, Refused}
 use Rattle.sections.specs.declared.Item.{Item}
-use Rattle.sections.specs.declared.Item.the-variants.{Go, Stop}
+use Rattle.sections.specs.declared.Item.the-variants.{Go, Last, Refused as item-refused}
 use Rattle.lists.specs.Load.{Load, loadOf, coreTable, coreTables, Readable}
 use Rattle.sections.specs.Waits.{assignments, Waits}
-use Rattle.sections.specs.Program.{inSection, afterGroup, grouped, headed, itemStep, ItemOutcome, ItemMeets, StepOutcome}
+use Rattle.sections.specs.declared.Turn.{Turn}
+use Rattle.sections.specs.HowTurns.{itemOf, turnOf, turnAfter}
+use Rattle.sections.specs.Program.{inSection, afterLast, afterGroup, grouped, headed, itemStep, ItemOutcome, ItemMeets, StepOutcome}
 use Rattle.sections.specs.Program.{StepMeets, closes, followed, programFrom}
 use Rattle.sections.proofs.Ranges.{StageFits, segment-room, table-there, table-room}
-use Rattle.sections.proofs.Leads.{item-onward, item-fits}
+use Rattle.sections.proofs.Leads.{item-leads, item-onward, item-fits}
 
 -- ---- a group: what its fields are changed by is what the code hands over
 pub assigned-same : (g : Given) (l : List ℕ) (c : LabelCounts)
@@ -45,10 +50,30 @@ pub assigned-same : (g : Given) (l : List ℕ) (c : LabelCounts)
 unfolding assignedBy
 assigned-same g l c = refl
 
+-- ---- an item, as the loop takes it
+turn-back : (c : LabelCounts) (due : Due) (it : Item) → itemOf c due (turnOf it) ≡ it
+turn-back c due (Go d t p) = refl
+turn-back c due (Last ibank) = refl
+turn-back c due (item-refused f) = refl
+
+turn-after : (c : LabelCounts) (same : Due) (least : ℕ) (ibank : Bank) (r : GroupStep)
+    → itemOf c same (turnAfter c least ibank r) ≡ afterGroup c same least ibank r
+unfolding afterGroup
+turn-after c same least ibank (group-done p true) = turn-back c same (afterLast c least ibank p)
+turn-after c same least ibank (group-done p false) = refl
+turn-after c same least ibank (group-refused f) = refl
+
+pub head-met : (c : LabelCounts) (due : Due) (it it′ : Item) (r : Turn) (core : List ℕ) → it ≡ it′ → r ≡ turnOf it
+    → ItemMeets (headed it′ core) (itemOf c due r) core
+head-met c due it it′ r core e q = record { told = ap (itemOf c due) q ∙ turn-back c due it ∙ e; left = refl }
+
 pub group-met : (c : LabelCounts) (same : Due) (least : ℕ) (ibank : Bank) (o : GroupOutcome) (r : GroupStep) (core : List ℕ)
-    (it : Item)
-    → GroupMeets o r core → it ≡ afterGroup c same least ibank r → ItemMeets (grouped c same least ibank o) it core
-group-met c same least ibank o r core it m e = record { told = e ∙ ap (afterGroup c same least ibank) (m .told); left = m .left }
+    (t : Turn)
+    → GroupMeets o r core → t ≡ turnAfter c least ibank r → ItemMeets (grouped c same least ibank o) (itemOf c same t) core
+group-met c same least ibank o r core t m e = record {
+  told = ap (itemOf c same) e ∙ turn-after c same least ibank r ∙ ap (afterGroup c same least ibank) (m .told);
+  left = m .left;
+}
 
 -- a table section's table is there, so the one that the code reads is it
 module _ (g : Given) (l : List ℕ) (readable : Readable g l) (c : LabelCounts) (t : TableSection) (ibank : Bank)
@@ -99,7 +124,7 @@ module _ (x : Load) (block : List ℕ) where
     item-in-place w = record {
       inside = rw (item-length c due i core w) (w .inside);
       tables = w .tables;
-      stage = item-fits x c due block i core d t p e h (w .stage);
+      stage = item-fits x block c due i core d t p e h (w .stage);
     }
 
     -- what has been seen to still holds for the next one
@@ -110,17 +135,18 @@ module _ (x : Load) (block : List ℕ) where
       io = w .io;
       few = w .few;
       tables = w .tables;
-      stage = item-fits x c due block i core d t p e h (w .stage);
+      stage = item-fits x block c due i core d t p e h (w .stage);
       long = w .long;
       words = w .words;
     }
 
   -- ---- the block
-  follow-same : (it : Item) (core : List ℕ) (f g : LabelCounts → Due → ℕ → List ℕ → StepOutcome)
+  follow-same : (i : ℕ) (it : Item) (core : List ℕ) (f g : LabelCounts → Due → ℕ → List ℕ → StepOutcome)
       → ((d : LabelCounts) (t : Due) (p : ℕ) → it ≡ Go d t p → f d t p core ≡ g d t p core)
-      → followed it core f ≡ followed it core g
-  follow-same (Go d t p) core f g h = h d t p refl
-  follow-same (Stop r) core f g h = refl
+      → followed i it core f ≡ followed i it core g
+  follow-same i (Go d t p) core f g h = h d t p refl
+  follow-same i (Last ibank) core f g h = refl
+  follow-same i (item-refused x) core f g h = refl
 
   pub open-place : (i : ℕ) → closes block i ≡ false → i ≤ lastWord
   unfolding closes
@@ -142,7 +168,7 @@ module _ (x : Load) (block : List ℕ) where
 
   pub from-open : (n : ℕ) (c : LabelCounts) (due : Due) (i : ℕ) (core : List ℕ) → closes block i ≡ false
       → programFrom (suc n) x c due block i core
-      ≡ followed (itemStep x c due block i core .item) (itemStep x c due block i core .core)
+      ≡ followed i (itemStep x c due block i core .item) (itemStep x c due block i core .core)
       (λ d t p after. programFrom n x d t block p after)
   unfolding programFrom
   from-open n c due i core q = rw q
@@ -157,9 +183,9 @@ module _ (x : Load) (block : List ℕ) where
   fuel-enough (suc n) (suc m) c due i core h k = by-test (closes block i)
       (λ q. from-closed (suc n) c due i core q ∙ sym (from-closed (suc m) c due i core q))
       (λ q. from-open n c due i core q
-      ∙ follow-same (itemStep x c due block i core .item) (itemStep x c due block i core .core) _ _
+      ∙ follow-same i (itemStep x c due block i core .item) (itemStep x c due block i core .core) _ _
       (λ d t p e.
-      let o = item-onward x c due block i core d t p e (open-place i q) in
+      let o = item-onward x block c due i core d t p e (open-place i q) in
       fuel-enough n m d t p (itemStep x c due block i core .core) (omega arith) (omega arith))
       ∙ sym (from-open m c due i core q))
 
@@ -182,7 +208,7 @@ module _ (x : Load) (block : List ℕ) where
       unfolding closes
       opens = rw (lt-leb 255 i h, ne-eqb (getD block i 0) 0 z)
 
-      decides : o ≡ followed it after (λ d t p rest. programFrom (lastWord - i) x d t block p rest)
+      decides : o ≡ followed i it after (λ d t p rest. programFrom (lastWord - i) x d t block p rest)
       decides =
           let e : 255 - i ≡ suc (lastWord - i) = omega arith in
           q ∙ rw (e, m .told, m .left) (from-open (lastWord - i) c due i core opens)
@@ -190,11 +216,18 @@ module _ (x : Load) (block : List ℕ) where
       pub turn-on : (d : LabelCounts) (t : Due) (p : ℕ) → it ≡ Go d t p → (i < p) × (p ≤ 255)
           × (o ≡ programFrom (255 - p) x d t block p after)
       turn-on d t p e =
-          let l = item-onward x c due block i core d t p (sym (m .told) ∙ e) (omega arith) in
+          let l = item-onward x block c due i core d t p (sym (m .told) ∙ e) (omega arith) in
           (l .0, l .1, rw e at decides ∙ fuel-enough (lastWord - i) (255 - p) d t p after (omega arith) (omega arith))
 
-      pub turn-stop : (r : Step) → it ≡ Stop r → StepMeets o r after
-      turn-stop r e = rw (rw e at decides) (record { told = refl; left = refl })
+      pub turn-last : (ibank : Bank) → it ≡ Last ibank → StepMeets o (More (Termination ibank)) after
+      turn-last ibank e = rw (rw e at decides) (record { told = refl; left = refl })
+
+      pub turn-refused : (f : Fault) → it ≡ item-refused f → StepMeets o (Refused (further i f)) after
+      turn-refused f e = rw (rw e at decides) (record { told = refl; left = refl })
+
+      -- the word of the fault is in the block
+      pub turn-place : (f : Fault) → it ≡ item-refused f → i + f .word < wordsInBlock
+      turn-place f e = (rw (sym (m .told) ∙ e) at (item-leads x block c due i core (omega arith))) .1 .inside
 
       pub turn-waits : (d : LabelCounts) (t : Due) (p : ℕ) → it ≡ Go d t p → Waits x (Program c due) block core
           → Waits x (Program d t) block after

@@ -1,5 +1,5 @@
 -- The words that head a section: the segment's four, and a table section's one. "All other words, and a number with no table, are
--- 17."
+-- 17": the fault is the first word's, also where a later one breaks the rule.
 use Prim.Native.Nat.{ℕ, _+_, _-_}
 use mathlib.Core.Bool.{Bool, cond, _&&_}
 use mathlib.Core.List.{List}
@@ -21,13 +21,12 @@ use Rattle.lists.specs.declared.Table.{Table as CoreTable}
 use Rattle.stage.specs.declared.LabelCounts.{LabelCounts}
 use Rattle.stage.specs.declared.Due.the-variants.{SegmentGroup, SectionGroup}
 use Rattle.stage.specs.Ranges.{bankFits, sectionFits}
-use Rattle.stage.specs.declared.Step.the-variants.{Refused}
 use Rattle.sections.specs.declared.Item.{Item}
-use Rattle.sections.specs.declared.Item.the-variants.{Go, Stop}
+use Rattle.sections.specs.declared.Item.the-variants.{Go, Refused}
 
 -- a fault where a head is due
 abbrev pub headFault : Item
-headFault = Stop (Refused (fault 17))
+headFault = Refused (fault 17)
 
 -- ---- the segment section
 
@@ -47,7 +46,7 @@ banksFit area ts g =
 -- its groups are due after its four words, from place p on
 unfoldable pub withSegment : Area → List CoreTable → LabelCounts → ℕ → SegmentRead → Item
 withSegment area ts c p (segment-read g) = cond (banksFit area ts g) (Go c (SegmentGroup g) p) headFault
-withSegment area ts c p (no-segment f) = Stop (Refused f)
+withSegment area ts c p (no-segment f) = Refused f
 
 -- "its identifier words stay in one block (else 17)": words up to 254
 unfoldable pub segmentStep : Area → List CoreTable → LabelCounts → List ℕ → ℕ → Item
@@ -65,7 +64,7 @@ withSection ts c least ibank p (section-read t) =
     (Go (record { channels = c .channels; sections = c .sections - 1 }) (SectionGroup t ibank) p)
     headFault)
     headFault
-withSection ts c least ibank p (no-section f) = Stop (Refused f)
+withSection ts c least ibank p (no-section f) = Refused f
 
 unfoldable pub sectionStep : List CoreTable → LabelCounts → ℕ → Bank → List ℕ → ℕ → Item
 sectionStep ts c least ibank block i = withSection ts c least ibank (i + 1) (tableSectionOf (getD block i 0))

@@ -1,3 +1,4 @@
 pub mod Waits
 pub mod Heads
 pub mod Program
+pub mod HowTurns

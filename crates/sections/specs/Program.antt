@@ -6,6 +6,7 @@ use mathlib.Core.Bool.{Bool, cond, _||_}
 use mathlib.Core.List.{List}
 use lib.ListN.{getD}
 use lib.Dec.{eqb, leb}
+use Rattle.word.specs.Fault.{further}
 use Rattle.program.specs.Sections.{lastWord}
 use Rattle.program.specs.declared.Bank.{Bank}
 use Rattle.program.specs.declared.TableSection.{TableSection}
@@ -22,7 +23,7 @@ use Rattle.stage.specs.declared.Stage.the-variants.{Program, Termination}
 use Rattle.stage.specs.declared.Step.{Step}
 use Rattle.stage.specs.declared.Step.the-variants.{More, Refused}
 use Rattle.sections.specs.declared.Item.{Item}
-use Rattle.sections.specs.declared.Item.the-variants.{Go, Stop}
+use Rattle.sections.specs.declared.Item.the-variants.{Go, Last, Refused as item-refused}
 use Rattle.lists.specs.Load.{Load}
 use Rattle.sections.specs.Waits.{assignments}
 use Rattle.sections.specs.Heads.{segmentStep, sectionStep}
@@ -42,12 +43,12 @@ pub record ItemMeets (o : ItemOutcome) (item : Item) (core : List ℕ) : Type 0 
 -- due." Else the word of a table section is due, its number at least `least`.
 unfoldable pub afterLast : LabelCounts → ℕ → Bank → ℕ → Item
 afterLast c least ibank p =
-    cond (eqb (c .sections) 0) (Stop (More (Termination ibank))) (Go c (Section (record { 0 = least }) ibank) p)
+    cond (eqb (c .sections) 0) (Last ibank) (Go c (Section (record { 0 = least }) ibank) p)
 
 -- of any other: the identifier of a group of the same section is due
 unfoldable pub afterGroup : LabelCounts → Due → ℕ → Bank → GroupStep → Item
 afterGroup c same least ibank (group-done p last) = cond last (afterLast c least ibank p) (Go c same p)
-afterGroup c same least ibank (group-refused f) = Stop (Refused f)
+afterGroup c same least ibank (group-refused f) = item-refused f
 
 -- ---- what stands at place i
 
@@ -88,9 +89,12 @@ pub record StepMeets (o : StepOutcome) (step : Step) (core : List ℕ) : Type 0 
 unfoldable pub closes : List ℕ → ℕ → Bool
 closes block i = leb (lastWord + 1) i || eqb (getD block i 0) 0
 
-abbrev pub followed : Item → List ℕ → (LabelCounts → Due → ℕ → List ℕ → StepOutcome) → StepOutcome
-followed (Go c due p) core next = next c due p core
-followed (Stop s) core next = record { step = s; core = core }
+-- after the item at place i; "the group, section and block steps pass this up, each adding its word number" (02, #105): a fault that
+-- was told from there is a fault of the block, i words on
+abbrev pub followed : ℕ → Item → List ℕ → (LabelCounts → Due → ℕ → List ℕ → StepOutcome) → StepOutcome
+followed i (Go c due p) core next = next c due p core
+followed i (Last ibank) core next = record { step = More (Termination ibank); core = core }
+followed i (item-refused f) core next = record { step = Refused (further i f); core = core }
 
 -- n items at most, from place i on, `due` being due there
 unfoldable pub programFrom : ℕ → Load → LabelCounts → Due → List ℕ → ℕ → List ℕ → StepOutcome
@@ -98,7 +102,7 @@ programFrom zero x c due block i core = record { step = More (Program c due); co
 programFrom (suc n) x c due block i core =
     cond (closes block i)
     (record { step = More (Program c due); core = core })
-    (followed (itemStep x c due block i core .item) (itemStep x c due block i core .core)
+    (followed i (itemStep x c due block i core .item) (itemStep x c due block i core .core)
     (λ d next p after. programFrom n x d next block p after))
 
 -- each item takes a word or more, so 254 are all there can be

@@ -15,9 +15,8 @@ use program::SegmentRead;
 use program::TableSectionRead;
 use stage::Due;
 use stage::LabelCounts;
-use stage::Step;
-use word::Fault;
 use word::Reference;
+use word::faults::FAULT_17;
 
 // The segment section's four words at place i: 17 where they do not stay in the block, are none, or the banks do not fit.
 pub fn segment_head(g: Given, lists: &[u64], c: LabelCounts, block: &[u64], i: usize) -> Item
@@ -25,7 +24,7 @@ pub fn segment_head(g: Given, lists: &[u64], c: LabelCounts, block: &[u64], i: u
     ensures { λ r. ⌜ r ≡ segmentStep (g .area) (coreTables g (now (lists .entry))) c (now (block .entry)) i ⌝ }
 {
     if LAST_WORD < i + 3 {
-        return Item::Stop(Step::Refused(Fault { number: 17 }));
+        return Item::Refused(FAULT_17);
     }
     match program::read_segment(block[i], block[i + 1]) {
         SegmentRead::Good(segment) => {
@@ -33,9 +32,9 @@ pub fn segment_head(g: Given, lists: &[u64], c: LabelCounts, block: &[u64], i: u
                 let past = i + 4;
                 return Item::Go(c, Due::SegmentGroup(segment), past);
             }
-            Item::Stop(Step::Refused(Fault { number: 17 }))
+            Item::Refused(FAULT_17)
         }
-        SegmentRead::Bad(f) => Item::Stop(Step::Refused(f)),
+        SegmentRead::Bad(f) => Item::Refused(f),
     }
 }
 
@@ -54,16 +53,16 @@ pub fn section_head(
     match program::read_table_section(block[i]) {
         TableSectionRead::Good(t) => {
             if t.number.0 < o.least.0 {
-                return Item::Stop(Step::Refused(Fault { number: 17 }));
+                return Item::Refused(FAULT_17);
             }
             if stage::section_fits(g, lists, t) {
                 let past = i + 1;
                 let ibank = o.ibank;
                 return Item::Go(one_fewer(c), Due::SectionGroup(t, ibank), past);
             }
-            Item::Stop(Step::Refused(Fault { number: 17 }))
+            Item::Refused(FAULT_17)
         }
-        TableSectionRead::Bad(f) => Item::Stop(Step::Refused(f)),
+        TableSectionRead::Bad(f) => Item::Refused(f),
     }
 }
 

@@ -4,10 +4,12 @@ ghost use Prim.Native.Nat.{_≤_};
 ghost use Rattle.program.specs.Sections.{lastWord};
 ghost use Rattle.lists.specs.Load.{loadOf};
 ghost use Rattle.sections.specs.Waits.{KeptWaits};
-ghost use Rattle.sections.specs.Program.{afterLast, afterGroup, itemStep, programStep, ItemMeets, StepMeets};
+ghost use Rattle.sections.specs.Program.{afterLast, itemStep, programStep, ItemMeets, StepMeets};
+ghost use Rattle.sections.specs.HowTurns.{itemOf, turnOf, turnAfter};
 use crate::Awaited;
 use crate::Item;
 use crate::Onward;
+use crate::Turn;
 use crate::heads;
 use field::Assigned;
 use group::GroupStep;
@@ -45,13 +47,19 @@ pub fn program_step(
         }
         let w = Awaited { counts, due: next };
         match item_step(g, lists, w, block, i, core) {
-            Item::Go(d, t, p) => {
+            Turn::Same(p) => {
+                i = p;
+            }
+            Turn::Go(d, t, p) => {
                 counts = d;
                 next = t;
                 i = p;
             }
-            Item::Stop(r) => {
-                return r;
+            Turn::Last(ibank) => {
+                return Step::More(Stage::Termination(ibank));
+            }
+            Turn::Refused(f) => {
+                return Step::Refused(word::further(i as u64, f));
             }
         }
     }
@@ -61,31 +69,27 @@ pub fn program_step(
 // What stands at place i, where w is awaited: a section's head, or a group of the segment section or of a table section. Each of
 // the two calls the group step: with two callers the compiler makes it a function of its own, whose loop then has the registers to
 // itself.
-fn item_step(g: Given, lists: &[u64], w: Awaited, block: &[u64], i: usize, core: &mut [u64]) -> Item
+fn item_step(g: Given, lists: &[u64], w: Awaited, block: &[u64], i: usize, core: &mut [u64]) -> Turn
     requires { ⌜ (KeptWaits g (now lists) (Stage.Program (w .counts) (w .due)) (now block) (now core)) × (i ≤ lastWord) ⌝ }
     ensures { λ r. ⌜ ItemMeets (itemStep (loadOf g (now (lists .entry))) (w .counts) (w .due) (now (block .entry)) i
-        (now (core .entry))) r (now (core .exit)) ⌝ }
+        (now (core .entry))) (itemOf (w .counts) (w .due) r) (now (core .exit)) ⌝ }
 {
     let c = w.counts;
     let due = w.due;
     let channels = c.channels;
     let set = Assigned { given: g, channels };
     match due {
-        Due::Segment => heads::segment_head(g, lists, c, block, i),
+        Due::Segment => turn_of(heads::segment_head(g, lists, c, block, i)),
         Due::SegmentGroup(segment) => {
             let ibank = segment.ibank;
             let least = Reference(0);
             let r = group::group_step(set, Section::Segment(segment), lists, block, i, core);
-            after_group(c, due, Onward { least, ibank }, r)
+            after_group(c, Onward { least, ibank }, r)
         }
-        Due::Section(least, ibank) => heads::section_head(
-            g,
-            lists,
-            c,
-            Onward { least, ibank },
-            block,
-            i,
-        ),
+        Due::Section(least, ibank) => {
+            let o = Onward { least, ibank };
+            turn_of(heads::section_head(g, lists, c, o, block, i))
+        }
         Due::SectionGroup(t, ibank) => {
             let number = t.number;
             let count = t.count;
@@ -93,34 +97,45 @@ fn item_step(g: Given, lists: &[u64], w: Awaited, block: &[u64], i: usize, core:
             let above = number.0 + 1;
             let least = Reference(above);
             let r = group::group_step(set, Section::Table(table, count), lists, block, i, core);
-            after_group(c, due, Onward { least, ibank }, r)
+            after_group(c, Onward { least, ibank }, r)
         }
     }
 }
 
+// A head's item: what was due is never due again.
+fn turn_of(it: Item) -> Turn
+    ensures { λ r. ⌜ r ≡ turnOf it ⌝ }
+{
+    match it {
+        Item::Go(c, due, p) => Turn::Go(c, due, p),
+        Item::Last(ibank) => Turn::Last(ibank),
+        Item::Refused(f) => Turn::Refused(f),
+    }
+}
+
 // What is due after a group: a group of the same section, or what follows the section's last one.
-fn after_group(c: LabelCounts, same: Due, o: Onward, r: GroupStep) -> Item
-    ensures { λ it. ⌜ it ≡ afterGroup c same (o .least .0) (o .ibank) r ⌝ }
+fn after_group(c: LabelCounts, o: Onward, r: GroupStep) -> Turn
+    ensures { λ it. ⌜ it ≡ turnAfter c (o .least .0) (o .ibank) r ⌝ }
 {
     match r {
         GroupStep::Done(p, last) => {
             if last {
                 return after_last(c, o, p);
             }
-            Item::Go(c, same, p)
+            Turn::Same(p)
         }
-        GroupStep::Refused(f) => Item::Stop(Step::Refused(f)),
+        GroupStep::Refused(f) => Turn::Refused(f),
     }
 }
 
 // What is due after a section: a table section, or after the last one the termination block.
-fn after_last(c: LabelCounts, o: Onward, p: usize) -> Item
-    ensures { λ it. ⌜ it ≡ afterLast c (o .least .0) (o .ibank) p ⌝ }
+fn after_last(c: LabelCounts, o: Onward, p: usize) -> Turn
+    ensures { λ it. ⌜ it ≡ turnOf (afterLast c (o .least .0) (o .ibank) p) ⌝ }
 {
     let least = o.least;
     let ibank = o.ibank;
     if c.sections == 0 {
-        return Item::Stop(Step::More(Stage::Termination(ibank)));
+        return Turn::Last(ibank);
     }
-    Item::Go(c, Due::Section(least, ibank), p)
+    Turn::Go(c, Due::Section(least, ibank), p)
 }

@@ -1,10 +1,9 @@
 -- `items::item_step`: a head or a group, by what is due.
-use mathlib.Core.Path.{refl}
 use denote.Ref.{now}
 use native.Mathlib.Omega.{arith}
 use Rattle.sections.specs.Program.{itemStep}
 use Rattle.sections.proofs.Ranges.{segment-ready, table-ready}
-use Rattle.sections.proofs.Turns.{assigned-same, group-met, table-number, table-read}
+use Rattle.sections.proofs.Turns.{assigned-same, head-met, group-met, table-number, table-read}
 use borrow.Author.Needs.{needs}
 use Rattle.sections.proofs.items.item_step.Statement.{statement}
 use Rattle.sections.proofs.items.item_step.Tie as tie
@@ -14,6 +13,9 @@ enum-told c = search needs
 
 segment-head-requires : tie.Need-segment-head-requires
 segment-head-requires c κs = search needs
+
+turn-of-requires : tie.Need-turn-of-requires
+turn-of-requires c κs = search needs
 
 enum-known-due : tie.Need-enum-known-due
 enum-known-due c = search needs
@@ -31,6 +33,9 @@ enum-known-due-2 c = search needs
 
 section-head-requires : tie.Need-section-head-requires
 section-head-requires c κs = search needs
+
+turn-of-requires-2 : tie.Need-turn-of-requires-2
+turn-of-requires-2 c κs = search needs
 
 enum-known-due-3 : tie.Need-enum-known-due-3
 enum-known-due-3 c = search needs
@@ -54,7 +59,8 @@ after-group-requires-2 c κs = search needs
 
 returns : tie.Need-returns
 unfolding itemStep
-returns c = rw (c .before .enum-told .given .1) (record { told = c .segment-head .ensures; left = refl })
+returns c = let a = c .before .before .before .before .before .before .before .before .args in
+    rw (c .before .before .enum-told .given .1) (head-met (a .w .counts) _ _ _ _ _ (c .before .segment-head .ensures) (c .turn-of .ensures))
 
 same-length : tie.Need-same-length
 same-length c = search needs
@@ -69,7 +75,9 @@ returns-2 c = let s = c .before .before .before in
 
 returns-3 : tie.Need-returns-3
 unfolding itemStep
-returns-3 c = rw (c .before .before .due2 .given .1) (record { told = c .section-head .ensures; left = refl })
+returns-3 c = let a = c .before .before .before .before .before .before .before .before .before .args in
+    rw (c .before .before .before .due2 .given .1)
+    (head-met (a .w .counts) _ _ _ _ _ (c .before .section-head .ensures) (c .turn-of2 .ensures))
 
 same-length-2 : tie.Need-same-length-2
 same-length-2 c = search needs
@@ -92,11 +100,13 @@ item-step-spec =
     (tie.spec
     enum-told
     segment-head-requires
+    turn-of-requires
     enum-known-due
     group-step-requires
     after-group-requires
     enum-known-due-2
     section-head-requires
+    turn-of-requires-2
     enum-known-due-3
     core-table-requires
     add-above

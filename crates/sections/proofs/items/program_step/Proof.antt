@@ -1,6 +1,6 @@
 -- `items::program_step`: at every turn the items from place i on, onto the core as it is, give what the block gives.
 use Prim.Native.Nat.{_≤_, _-_}
-use mathlib.Core.Path.{_≡_, refl, _∙_}
+use mathlib.Core.Path.{_≡_, refl, ap, _∙_}
 use native.Mathlib.Omega.{arith}
 use lib.ListN.{length}
 use borrow.Author.Needs.{needs}
@@ -8,7 +8,8 @@ use Rattle.stage.specs.declared.Stage.the-variants.{Program}
 use Rattle.lists.specs.Load.{loadOf}
 use Rattle.sections.specs.Waits.{Waits}
 use Rattle.sections.specs.Program.{programFrom, programStep}
-use Rattle.sections.proofs.Turns.{turn-zero, turn-end, turn-on, turn-stop, turn-waits, turn-length}
+use Rattle.sections.specs.HowTurns.{itemOf}
+use Rattle.sections.proofs.Turns.{turn-zero, turn-end, turn-on, turn-last, turn-refused, turn-place, turn-waits, turn-length}
 use Rattle.sections.proofs.items.program_step.Statement.{statement}
 use Rattle.sections.proofs.items.program_step.Tie as tie
 
@@ -42,15 +43,15 @@ item-step-requires c κs = let l = c .before .before .before .before .loop in
     let z = c .before .before .before .before .before .before .before .before in
     (record { lists = z .pre .lists; waits = l .inv .2 }, omega arith)
 
-enum-known-d : tie.Need-enum-known-d Inv-loop μ-loop
-enum-known-d c = search needs
+enum-known-p : tie.Need-enum-known-p Inv-loop μ-loop
+enum-known-p c = search needs
 
 loop-less : tie.Need-loop-less Inv-loop μ-loop
 loop-less c = let s = c .before .before .before .before .before in
     let b = s .before .before in
     let l = b .before .before .before .loop in
     let o = turn-on _ _ (l .counts) (l .next) (l .i) (l .core) _ (b .before .before .loop-test .taken) (b .if1 .left)
-    (l .inv .3) _ _ (s .item-step .ensures) _ _ _ (c .before .d .given .1) in
+    (l .inv .3) _ _ (s .item-step .ensures) _ _ _ (ap (itemOf (l .counts) (l .next)) (c .before .p .given .1)) in
     omega (arith, o .0, o .1)
 
 loop-again : tie.Need-loop-again Inv-loop μ-loop
@@ -58,15 +59,38 @@ loop-again c = let s = c .before .before .before .before .before in
     let b = s .before .before in
     let l = b .before .before .before .loop in
     let o = turn-on _ _ (l .counts) (l .next) (l .i) (l .core) _ (b .before .before .loop-test .taken) (b .if1 .left)
-    (l .inv .3) _ _ (s .item-step .ensures) _ _ _ (c .before .d .given .1) in
+    (l .inv .3) _ _ (s .item-step .ensures) _ _ _ (ap (itemOf (l .counts) (l .next)) (c .before .p .given .1)) in
     let w = turn-waits _ _ (l .counts) (l .next) (l .i) (l .core) _ (b .before .before .loop-test .taken) (b .if1 .left)
-    (l .inv .3) _ _ (s .item-step .ensures) _ _ _ (c .before .d .given .1) (l .inv .2) in
+    (l .inv .3) _ _ (s .item-step .ensures) _ _ _ (ap (itemOf (l .counts) (l .next)) (c .before .p .given .1)) (l .inv .2) in
     let n = turn-length _ _ (l .counts) (l .next) (l .i) (l .core) _ (b .before .before .loop-test .taken) (b .if1 .left)
     (l .inv .3) _ _ (s .item-step .ensures) (l .inv .2) in
     (o .1, n ∙ l .inv .1, w, o .2)
 
-enum-known-r : tie.Need-enum-known-r Inv-loop μ-loop
-enum-known-r c = search needs
+enum-known-d : tie.Need-enum-known-d Inv-loop μ-loop
+enum-known-d c = search needs
+
+loop-less-2 : tie.Need-loop-less-2 Inv-loop μ-loop
+loop-less-2 c = let s = c .before .before .before .before .before in
+    let b = s .before .before in
+    let l = b .before .before .before .loop in
+    let o = turn-on _ _ (l .counts) (l .next) (l .i) (l .core) _ (b .before .before .loop-test .taken) (b .if1 .left)
+    (l .inv .3) _ _ (s .item-step .ensures) _ _ _ (ap (itemOf (l .counts) (l .next)) (c .before .d .given .1)) in
+    omega (arith, o .0, o .1)
+
+loop-again-2 : tie.Need-loop-again-2 Inv-loop μ-loop
+loop-again-2 c = let s = c .before .before .before .before .before in
+    let b = s .before .before in
+    let l = b .before .before .before .loop in
+    let o = turn-on _ _ (l .counts) (l .next) (l .i) (l .core) _ (b .before .before .loop-test .taken) (b .if1 .left)
+    (l .inv .3) _ _ (s .item-step .ensures) _ _ _ (ap (itemOf (l .counts) (l .next)) (c .before .d .given .1)) in
+    let w = turn-waits _ _ (l .counts) (l .next) (l .i) (l .core) _ (b .before .before .loop-test .taken) (b .if1 .left)
+    (l .inv .3) _ _ (s .item-step .ensures) _ _ _ (ap (itemOf (l .counts) (l .next)) (c .before .d .given .1)) (l .inv .2) in
+    let n = turn-length _ _ (l .counts) (l .next) (l .i) (l .core) _ (b .before .before .loop-test .taken) (b .if1 .left)
+    (l .inv .3) _ _ (s .item-step .ensures) (l .inv .2) in
+    (o .1, n ∙ l .inv .1, w, o .2)
+
+enum-known-ibank : tie.Need-enum-known-ibank Inv-loop μ-loop
+enum-known-ibank c = search needs
 
 same-length-2 : tie.Need-same-length-2 Inv-loop μ-loop
 same-length-2 c = let s = c .before .before .before .before .before in
@@ -79,14 +103,42 @@ returns-2 : tie.Need-returns-2 Inv-loop μ-loop
 returns-2 c = let s = c .before .before .before .before .before in
     let b = s .before .before in
     let l = b .before .before .before .loop in
-    turn-stop _ _ (l .counts) (l .next) (l .i) (l .core) _ (b .before .before .loop-test .taken) (b .if1 .left) (l .inv .3) _ _
-    (s .item-step .ensures) _ (c .before .r .given .1)
+    turn-last _ _ (l .counts) (l .next) (l .i) (l .core) _ (b .before .before .loop-test .taken) (b .if1 .left) (l .inv .3) _ _
+    (s .item-step .ensures) _ (ap (itemOf (l .counts) (l .next)) (c .before .ibank .given .1))
+
+enum-known-f : tie.Need-enum-known-f Inv-loop μ-loop
+enum-known-f c = search needs
+
+further-requires : tie.Need-further-requires Inv-loop μ-loop
+further-requires c κs = let s = c .before .before .before .before .before in
+    let b = s .before .before in
+    let l = b .before .before .before .loop in
+    omega (
+      arith,
+      turn-place _ _ (l .counts) (l .next) (l .i) (l .core) _ (b .before .before .loop-test .taken) (b .if1 .left)
+          (l .inv .3) _ _ (s .item-step .ensures) _ (ap (itemOf (l .counts) (l .next)) (c .before .f .given .1)),
+    )
 
 same-length-3 : tie.Need-same-length-3 Inv-loop μ-loop
-same-length-3 c = c .before .loop .inv .1
+same-length-3 c = let s = c .before .before .before .before .before .before in
+    let b = s .before .before in
+    let l = b .before .before .before .loop in
+    turn-length _ _ (l .counts) (l .next) (l .i) (l .core) _ (b .before .before .loop-test .taken) (b .if1 .left) (l .inv .3) _ _
+    (s .item-step .ensures) (l .inv .2) ∙ l .inv .1
 
 returns-3 : tie.Need-returns-3 Inv-loop μ-loop
-returns-3 c = let l = c .before .loop in turn-end _ _ (l .counts) (l .next) (l .i) (l .core) _ (c .loop-test .left) (l .inv .3)
+returns-3 c = let s = c .before .before .before .before .before .before in
+    let b = s .before .before in
+    let l = b .before .before .before .loop in
+    rw (c .further .ensures)
+    (turn-refused _ _ (l .counts) (l .next) (l .i) (l .core) _ (b .before .before .loop-test .taken) (b .if1 .left) (l .inv .3) _ _
+    (s .item-step .ensures) _ (ap (itemOf (l .counts) (l .next)) (c .before .before .f .given .1)))
+
+same-length-4 : tie.Need-same-length-4 Inv-loop μ-loop
+same-length-4 c = c .before .loop .inv .1
+
+returns-4 : tie.Need-returns-4 Inv-loop μ-loop
+returns-4 c = let l = c .before .loop in turn-end _ _ (l .counts) (l .next) (l .i) (l .core) _ (c .loop-test .left) (l .inv .3)
 
 pub program-step-spec : {M : Type 1} → statement M
 program-step-spec =
@@ -100,11 +152,18 @@ program-step-spec =
     same-length
     returns
     item-step-requires
-    enum-known-d
+    enum-known-p
     loop-less
     loop-again
-    enum-known-r
+    enum-known-d
+    loop-less-2
+    loop-again-2
+    enum-known-ibank
     same-length-2
     returns-2
+    enum-known-f
+    further-requires
     same-length-3
-    returns-3)
+    returns-3
+    same-length-4
+    returns-4)
