@@ -19,6 +19,7 @@ use Rattle.calls.specs.Answer.{Small}
 use Rattle.calls.specs.Outcome.{Outcome}
 use Rattle.calls.specs.Release.{releaseOf}
 use Rattle.calls.proofs.Entry.{entered-cases}
+use Rattle.calls.proofs.Packed.{small-fault}
 
 -- ---- a place freed: every other place, the core length and the map are as they were
 module _ (d : List ℕ) (long : length d ≡ deskWords) (p : ℕ) (h : p < placeCount) where
@@ -75,4 +76,4 @@ pub release-small : (d : List ℕ) (n r p : ℕ) → Small (releaseOf d n r p .a
 unfolding releaseOf
 release-small d n r p =
     let P : Outcome → Type 0 = λ o. Small (o .answer) in
-    entered-cases d n r [] _ P (λ m l k. omega arith) (λ k. both P (holds d r p) tt (omega arith))
+    entered-cases d n r [] _ P (λ m l k. small-fault m (omega arith)) (λ k. both P (holds d r p) tt (small-fault 9 (omega arith)))

@@ -26,6 +26,7 @@ use Rattle.calls.specs.Make.{freed, freshDesk, makeOf}
 use Rattle.calls.specs.Outcome.{Outcome}
 use Rattle.desk.proofs.Facts.{sound-says, free-fits, free-first}
 use Rattle.calls.proofs.Freed.{freed-core, freed-map}
+use Rattle.calls.proofs.Packed.{small-fault}
 
 -- ---- the loop: no place freed yet, and one more
 pub freed-none : (d : List ℕ) → d ≡ freed 0 d
@@ -150,7 +151,7 @@ make-small d n m =
     both P (eqb (length d) deskWords)
     (both P (coreFits n)
     (both P (eqb (length m) 16)
-    (both P (mapObeys n (mapOf m)) tt (omega arith))
-    (omega arith))
-    (omega arith))
-    (omega arith)
+    (both P (mapObeys n (mapOf m)) tt (small-fault 3 (omega arith)))
+    (small-fault 3 (omega arith)))
+    (small-fault 2 (omega arith)))
+    (small-fault 1 (omega arith))

@@ -40,6 +40,7 @@ use Rattle.calls.specs.Outcome.{Outcome}
 use Rattle.calls.specs.Open.{besideOwn, areaFits, openedOwn, openedPlace, openedDesk, opened, grantOf, openOf}
 use Rattle.calls.proofs.Entry.{entered-cases}
 use Rattle.calls.proofs.Grant.{area-held, area-small, own-length, with-own, lists-long, opened-length}
+use Rattle.calls.proofs.Packed.{small-fault}
 
 -- ---- areas in stretches that share no word
 stretches-areas : (s t : Stretch) (a b : Area) → Separate s t → areaIn s a ≡ true → areaIn t b ≡ true
@@ -234,8 +235,8 @@ module _ (d core : List ℕ) (r : ℕ) (a : Area) (ios tables : List ℕ) where
       (λ f. both SmallAnswer (areaFits d r a)
       (both SmallAnswer (listsObey a ios tables)
       (omega (arith, given-place (holders d) r (sound-fair d s) h (eqb-true (placeRefusal r (holders d)) 0 f)))
-      (omega arith)) (omega arith)) (λ f. refusal-small r (holders d))
+      (small-fault 8 (omega arith))) (small-fault 7 (omega arith))) (λ f. small-fault _ (refusal-small r (holders d)))
 
   pub open-small : Small (openOf d core r a ios tables .answer)
   unfolding openOf
-  open-small = entered-cases d (length core) r core _ SmallAnswer (λ m l h. omega arith) (λ k. grant-small (k .desk) (k .room))
+  open-small = entered-cases d (length core) r core _ SmallAnswer (λ m l h. small-fault m (omega arith)) (λ k. grant-small (k .desk) (k .room))

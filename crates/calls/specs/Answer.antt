@@ -1,8 +1,12 @@
--- The number and the value of each answer (01, "Refusal numbers": "A refusal returns its number and the value 0. When accepted,
--- making answers made, open opened with the place, release released; made, released and more have the value 0. .. the termination
--- block answers done with the absolute start"), and how an answer is put into one 64-bit number for C (docs/ANSWERS.md). The calls
--- that are about a file alone, with no desk, have answers of their own, with numbers behind these (02).
+-- The number and the value of each answer (01, "Refusal numbers": "A refusal returns its number"; "When accepted, making answers made,
+-- open opened with the place, release released; made, released and more have the value 0. .. the termination block answers done with
+-- the absolute start"), and how an answer is put into one 64-bit number for C (docs/ANSWERS.md). The value of a refusal is its place
+-- (02, #105): "For 13 to 22 the answer's value becomes the word number times 4, plus 1 for a left half, 2 for a right half, 0
+-- otherwise"; "Refusals 1 to 12 still return 0", as a fault told without a place does. The calls that are about a file alone, with
+-- no desk, have answers of their own, with numbers behind these (02).
 use Prim.Native.Nat.{ℕ, _+_, _*_, _^_, _<_}
+use Rattle.word.specs.declared.Fault.{Fault}
+use Rattle.word.specs.Fault.{placeValue}
 use Rattle.calls.specs.declared.Answer.{Answer}
 use Rattle.calls.specs.declared.files.FileAnswer.{FileAnswer}
 use Rattle.calls.specs.declared.files.FileAnswer.the-variants.{Refused as FileRefused, Resealed}
@@ -17,7 +21,7 @@ codeOf (Done start) = 67
 codeOf Released = 68
 
 abbrev pub valueOf : Answer → ℕ
-valueOf (Refused f) = 0
+valueOf (Refused f) = placeValue f
 valueOf Made = 0
 valueOf (Opened p) = p
 valueOf More = 0
@@ -31,14 +35,26 @@ together code value = code * 2 ^ 32 + value
 abbrev pub packed : Answer → ℕ
 packed a = together (codeOf a) (valueOf a)
 
--- an answer that fits: refusals have numbers below 64, values below 2^32
+-- a refusal that fits, and an answer that does: refusals have numbers below 64, values are below 2^32
+abbrev pub SmallFault : Fault → Type 0
+SmallFault f = (f .number < 64) × (placeValue f < 2 ^ 32)
+
 abbrev pub Small : Answer → Type 0
-Small (Refused f) = f .number < 64
+Small (Refused f) = SmallFault f
 Small Made = Unit {0}
 Small (Opened p) = p < 2 ^ 32
 Small More = Unit {0}
 Small (Done start) = start .0 < 2 ^ 32
 Small Released = Unit {0}
+
+-- what C is told of an answer: all of it but the bit of a fault, for which the value has no room
+abbrev pub toldC : Answer → Answer
+toldC (Refused f) = Refused (record { number = f .number; word = f .word; half = f .half; bit = 0 })
+toldC Made = Made
+toldC (Opened p) = Opened p
+toldC More = More
+toldC (Done start) = Done start
+toldC Released = Released
 
 -- ---- of a call about a file
 abbrev pub fileCodeOf : FileAnswer → ℕ
@@ -46,12 +62,12 @@ fileCodeOf (FileRefused f) = f .number
 fileCodeOf Resealed = 72
 
 abbrev pub fileValueOf : FileAnswer → ℕ
-fileValueOf (FileRefused f) = 0
+fileValueOf (FileRefused f) = placeValue f
 fileValueOf Resealed = 0
 
 abbrev pub filePacked : FileAnswer → ℕ
 filePacked a = together (fileCodeOf a) (fileValueOf a)
 
 abbrev pub FileSmall : FileAnswer → Type 0
-FileSmall (FileRefused f) = f .number < 64
+FileSmall (FileRefused f) = SmallFault f
 FileSmall Resealed = Unit {0}

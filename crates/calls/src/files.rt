@@ -16,7 +16,7 @@ pub fn pack_file(a: FileAnswer) -> u64
     ensures { λ r. ⌜ r ≡ filePacked a ⌝ }
 {
     match a {
-        FileAnswer::Refused(f) => f.number * CODE,
+        FileAnswer::Refused(f) => crate::pack_fault(f),
         FileAnswer::Resealed => 72 * CODE,
     }
 }

@@ -6,11 +6,14 @@ pub mod open;
 pub mod release;
 
 ghost use mathlib.Core.Path.{_≡_};
-ghost use Rattle.calls.specs.Answer.{packed, Small};
+ghost use Rattle.word.specs.Fault.{halfNumber, placeValue};
+ghost use Rattle.calls.specs.Answer.{together, packed, SmallFault, Small};
 ghost use Rattle.calls.specs.Entry.{entryRefusal};
 use layout::CORE_AT;
 use word::Absolute;
 use word::Fault;
+use word::Half;
+use word::Side;
 use word::limits::ROOMS;
 
 // 2^32: an answer's code is counted in these, its value is below.
@@ -42,13 +45,34 @@ pub fn entry_refusal(desk: &[u64], core: u64, room: u64) -> u64
     0
 }
 
+// A refusal as one number: its own times 2^32, and its place. The bit is left out.
+pub fn pack_fault(f: Fault) -> u64
+    requires { ⌜ SmallFault f ⌝ }
+    ensures { λ r. ⌜ r ≡ together (f .number) (placeValue f) ⌝ }
+{
+    let half = f.half;
+    f.number * CODE + f.word * 4 + half_number(half)
+}
+
+fn half_number(half: Side) -> u64
+    ensures { λ r. ⌜ r ≡ halfNumber half ⌝ }
+{
+    match half {
+        Side::Whole => 0,
+        Side::In(h) => match h {
+            Half::Left => 1,
+            Half::Right => 2,
+        },
+    }
+}
+
 // The answer as one number: its code times 2^32, and its value.
 pub fn pack(a: Answer) -> u64
     requires { ⌜ Small a ⌝ }
     ensures { λ r. ⌜ r ≡ packed a ⌝ }
 {
     match a {
-        Answer::Refused(f) => f.number * CODE,
+        Answer::Refused(f) => pack_fault(f),
         Answer::Made => 64 * CODE,
         Answer::Opened(p) => 65 * CODE + p,
         Answer::More => 66 * CODE,

@@ -13,7 +13,9 @@ use layout::DESK_WORDS;
 use layout::MAP_AT;
 use layout::PLACE_WORDS;
 use layout::PLACES_AT;
-use word::Fault;
+use word::faults::FAULT_1;
+use word::faults::FAULT_2;
+use word::faults::FAULT_3;
 use word::limits::CORE_MOST;
 use word::limits::MAP_WORDS;
 use word::limits::PLACES;
@@ -23,19 +25,19 @@ pub fn make_desk(desk: &mut [u64], core: u64, numbers: &[u64]) -> Answer
     ensures { λ a. ⌜ Meets (makeOf (now (desk .entry)) core (now (numbers .entry))) a (now (desk .exit)) [] ⌝ }
 {
     if desk.len() != DESK_WORDS {
-        return Answer::Refused(Fault { number: 1 });
+        return Answer::Refused(FAULT_1);
     }
     if core < 1 {
-        return Answer::Refused(Fault { number: 2 });
+        return Answer::Refused(FAULT_2);
     }
     if CORE_MOST < core {
-        return Answer::Refused(Fault { number: 2 });
+        return Answer::Refused(FAULT_2);
     }
     if numbers.len() != MAP_WORDS {
-        return Answer::Refused(Fault { number: 3 });
+        return Answer::Refused(FAULT_3);
     }
     if !map::map_fits(core, numbers) {
-        return Answer::Refused(Fault { number: 3 });
+        return Answer::Refused(FAULT_3);
     }
     write_fresh(desk, core, numbers);
     Answer::Made

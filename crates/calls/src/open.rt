@@ -18,7 +18,8 @@ use layout::PLACES_AT;
 use layout::SIZE_AT;
 use lists::Taken;
 use word::Area;
-use word::Fault;
+use word::faults::FAULT_7;
+use word::faults::FAULT_8;
 use word::limits::PLACES;
 use word::limits::TABLES_MOST;
 
@@ -36,7 +37,7 @@ pub fn open_load(
 {
     let n = crate::entry_refusal(desk, core.len() as u64, room);
     if n != 0 {
-        return Answer::Refused(Fault { number: n });
+        return Answer::Refused(word::fault_of(n));
     }
     grant(desk, core, room, area, ios, tables)
 }
@@ -57,10 +58,10 @@ fn grant(
     let h = layout::read_holders(desk);
     let n = rooms::place_refusal(&h, room);
     if n != 0 {
-        return Answer::Refused(Fault { number: n });
+        return Answer::Refused(word::fault_of(n));
     }
     if !area_fits(desk, room, area) {
-        return Answer::Refused(Fault { number: 7 });
+        return Answer::Refused(FAULT_7);
     }
     let mut words = [0u64; TABLES_MOST];
     match lists::take_lists(area, ios, tables, &mut words) {
@@ -78,7 +79,7 @@ fn grant(
             word::slices::clear(core, area.at.0 as usize, area.size as usize);
             Answer::Opened(p as u64)
         }
-        Taken::Nothing => Answer::Refused(Fault { number: 8 }),
+        Taken::Nothing => Answer::Refused(FAULT_8),
     }
 }
 

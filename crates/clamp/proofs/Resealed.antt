@@ -6,6 +6,7 @@ use native.Mathlib.Omega.{arith}
 use Rattle.block.specs.declared.Verdict.{Verdict}
 use Rattle.block.proofs.OnePass.{seal-cases}
 use Rattle.calls.specs.Answer.{FileSmall, filePacked}
+use Rattle.calls.proofs.Packed.{small-fault}
 use Rattle.old_seal.specs.OldRule.{oldChecksum}
 use Rattle.old_seal.specs.Reseal.{sealPlace, oldVerdict, Reseals}
 use Rattle.clamp.specs.Returned.{resealAnswer, ResealReturned}
@@ -13,7 +14,8 @@ use Rattle.clamp.specs.Returned.{resealAnswer, ResealReturned}
 pub reseal-small : (index : ℕ) (block : List ℕ) → FileSmall (resealAnswer (oldVerdict index block))
 unfolding oldVerdict
 reseal-small index block =
-    seal-cases oldChecksum (sealPlace index) block (λ v. FileSmall (resealAnswer v)) (λ w a. tt) (omega arith) (omega arith)
+    seal-cases oldChecksum (sealPlace index) block (λ v. FileSmall (resealAnswer v)) (λ w a. tt)
+    (small-fault 11 (omega arith)) (small-fault 12 (omega arith))
 
 pub packed-resealed : (index : ℕ) (block : List ℕ) (v : Verdict) (after : List ℕ) (r : ℕ) → Reseals index block v after
     → r ≡ filePacked (resealAnswer v) → ResealReturned index block r after

@@ -7,20 +7,20 @@ use Rattle.calls.proofs.pack.Tie as tie
 enum-known-a : tie.Need-enum-known-a
 enum-known-a c = search needs
 
-mul-result : tie.Need-mul-result
-mul-result c = omega (arith, rw (c .before .before .a .given .1) at (c .before .before .before .before .pre))
+pack-fault-requires : tie.Need-pack-fault-requires
+pack-fault-requires c κs = rw (c .before .a .given .1) at (c .before .before .before .pre)
 
 enum-told : tie.Need-enum-told
 enum-told c = search needs
 
-mul-result-2 : tie.Need-mul-result-2
-mul-result-2 c = search needs
+mul-result : tie.Need-mul-result
+mul-result c = search needs
 
 enum-known-a-2 : tie.Need-enum-known-a-2
 enum-known-a-2 c = search needs
 
-mul-result-3 : tie.Need-mul-result-3
-mul-result-3 c = search needs
+mul-result-2 : tie.Need-mul-result-2
+mul-result-2 c = search needs
 
 add-result : tie.Need-add-result
 add-result c = omega (arith, rw (c .before .a2 .given .1) at (c .before .before .before .pre))
@@ -28,14 +28,14 @@ add-result c = omega (arith, rw (c .before .a2 .given .1) at (c .before .before 
 enum-told-2 : tie.Need-enum-told-2
 enum-told-2 c = search needs
 
-mul-result-4 : tie.Need-mul-result-4
-mul-result-4 c = search needs
+mul-result-3 : tie.Need-mul-result-3
+mul-result-3 c = search needs
 
 enum-known-a-3 : tie.Need-enum-known-a-3
 enum-known-a-3 c = search needs
 
-mul-result-5 : tie.Need-mul-result-5
-mul-result-5 c = search needs
+mul-result-4 : tie.Need-mul-result-4
+mul-result-4 c = search needs
 
 add-result-2 : tie.Need-add-result-2
 add-result-2 c = omega (arith, rw (c .before .before .a3 .given .1) at (c .before .before .before .before .pre))
@@ -43,11 +43,11 @@ add-result-2 c = omega (arith, rw (c .before .before .a3 .given .1) at (c .befor
 enum-told-3 : tie.Need-enum-told-3
 enum-told-3 c = search needs
 
-mul-result-6 : tie.Need-mul-result-6
-mul-result-6 c = search needs
+mul-result-5 : tie.Need-mul-result-5
+mul-result-5 c = search needs
 
 returns : tie.Need-returns
-returns c = rw (c .before .before .a .given .1) (omega arith)
+returns c = rw (c .before .before .a .given .1) (c .pack-fault .ensures)
 
 returns-2 : tie.Need-returns-2
 returns-2 c = rw (c .enum-told .given .1)
@@ -69,19 +69,19 @@ pack-spec =
     tie.close
     (tie.spec
     enum-known-a
-    mul-result
+    pack-fault-requires
     enum-told
-    mul-result-2
+    mul-result
     enum-known-a-2
-    mul-result-3
+    mul-result-2
     add-result
     enum-told-2
-    mul-result-4
+    mul-result-3
     enum-known-a-3
-    mul-result-5
+    mul-result-4
     add-result-2
     enum-told-3
-    mul-result-6
+    mul-result-5
     returns
     returns-2
     returns-3

@@ -23,14 +23,19 @@ slice-aggregate-place-refusal c = search needs
 place-refusal-requires : tie.Need-place-refusal-requires
 place-refusal-requires c κs = search needs
 
+fault-of-requires : tie.Need-fault-of-requires
+fault-of-requires c κs = search needs
+
 same-length : tie.Need-same-length
 same-length c = search needs
 
 returns : tie.Need-returns
 returns c =
-    let s = c .before .before .before .before .before .before .before .before .before in
-    let e = c .before .before .before .read-holders .ensures in
-    grant-denied _ _ _ _ _ _ _ (c .before .place-refusal .ensures ∙ ap (placeRefusal (s .args .room)) e) (c .if1 .taken)
+    let i = c .before in
+    let s = i .before .before .before .before .before .before .before .before .before in
+    let e = i .before .before .before .read-holders .ensures in
+    rw (c .fault-of .ensures)
+    (grant-denied _ _ _ _ _ _ _ (i .before .place-refusal .ensures ∙ ap (placeRefusal (s .args .room)) e) (i .if1 .taken))
 
 area-fits-requires : tie.Need-area-fits-requires
 area-fits-requires c κs =
@@ -178,6 +183,7 @@ grant-spec =
     read-holders-requires
     slice-aggregate-place-refusal
     place-refusal-requires
+    fault-of-requires
     same-length
     returns
     area-fits-requires

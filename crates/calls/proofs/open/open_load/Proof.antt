@@ -8,12 +8,15 @@ use Rattle.calls.proofs.open.open_load.Tie as tie
 entry-refusal-requires : tie.Need-entry-refusal-requires
 entry-refusal-requires c κs = search needs
 
+fault-of-requires : tie.Need-fault-of-requires
+fault-of-requires c κs = search needs
+
 same-length : tie.Need-same-length
 same-length c = search needs
 
 returns : tie.Need-returns
 unfolding openOf
-returns c = entered-refused _ _ _ _ _ _ (c .before .entry-refusal .ensures) (c .if1 .taken)
+returns c = rw (c .fault-of .ensures) (entered-refused _ _ _ _ _ _ (c .before .before .entry-refusal .ensures) (c .before .if1 .taken))
 
 grant-requires : tie.Need-grant-requires
 grant-requires c κs =
@@ -38,6 +41,7 @@ open-load-spec =
     tie.close
     (tie.spec
     entry-refusal-requires
+    fault-of-requires
     same-length
     returns
     grant-requires
