@@ -1,8 +1,9 @@
 -- The laws of a block's step, from those of the four records.
-use Prim.Native.Nat.{ℕ, _≤_}
+use Prim.Native.Nat.{ℕ, _≤_, _<_}
 use mathlib.Core.Path.{_≡_, refl}
 use mathlib.Core.Bool.{Bool, true, false, cond}
 use mathlib.Core.List.{List}
+use mathlib.Core.Logic.{_⊎_, inl, inr}
 use native.Mathlib.Omega.{arith}
 use lib.ListN.{length, getD}
 use Rattle.word.specs.Fault.{fault}
@@ -11,6 +12,7 @@ use Rattle.word.specs.declared.Absolute.{Absolute}
 use Rattle.word.specs.declared.Fault.{Fault}
 use Rattle.word.proofs.Cases.{when}
 use Rattle.block.specs.Records.{ofRecord}
+use Rattle.label.proofs.Faults.{OfWhole, whole-at}
 use Rattle.program.specs.declared.Bank.{Bank}
 use Rattle.program.specs.Start.{startOf, inBank}
 use Rattle.stage.specs.declared.LabelCounts.{LabelCounts}
@@ -32,7 +34,7 @@ use Rattle.sections.proofs.Blocks.{program-words, program-alike}
 use Rattle.group.proofs.Acts.{Alike}
 use Rattle.group.proofs.Stored.{StoredWords, stored-none}
 use Rattle.feed.specs.Block.{storesNothing, dueStep, blockStep}
-use Rattle.feed.proofs.Laws.{FitToFeed, Holds, BlockLaws}
+use Rattle.feed.proofs.Laws.{FitToFeed, Holds, OfBlock, BlockLaws}
 
 -- a record whose block is read whole stores nothing; a program block is read word by word. P speaks of the outcome as a function of
 -- the core.
@@ -57,6 +59,23 @@ module _ (x : Load) (block : List ℕ) (P : (List ℕ → StepOutcome) → Type 
       by-record true h = h
       by-record false h = none (Refused (fault 13))
 
+-- a fault of a block that is read whole is of a word of it, and of no half
+whole-block : (block : List ℕ) {low high : ℕ} (f : Fault) → 13 ≤ low → high ≤ 22 → (high < 19) ⊎ (21 < low) → OfWhole low high f
+    → OfBlock block f
+whole-block block f l h o p = record {
+  least = omega (arith, p .least);
+  most = omega (arith, p .most);
+  place = record {
+    inside = omega (arith, p .word);
+    field = λ i j. absurd (apart p o i j);
+    whole = λ q. (p .half, p .bit);
+  };
+}
+  where
+    apart : {low high : ℕ} (p : OfWhole low high f) → (high < 19) ⊎ (21 < low) → 19 ≤ f .number → f .number ≤ 21 → ⊥
+    apart p (inl x) i j = omega (arith, p .most)
+    apart p (inr x) i j = omega (arith, p .least)
+
 -- ---- what it leads to
 module _ (x : Load) (block core : List ℕ) where
   -- 13 comes before the record's own rules
@@ -79,12 +98,18 @@ module _ (x : Load) (block core : List ℕ) where
   due-fits Complete t f q = let e : Complete ≡ t = cc in rw (← e) (f .stage)
   due-fits Broken t f q = let e : Broken ≡ t = cc in rw (← e) (f .stage)
 
-  due-faults : (s : Stage) (f : Fault) → dueStep x s block core .step ≡ Refused f → (13 ≤ f .number) × (f .number ≤ 22)
+  due-faults : (s : Stage) (f : Fault) → dueStep x s block core .step ≡ Refused f → OfBlock block f
   unfolding dueStep
-  due-faults Label f q = label-fault (x .ios) (length (x .tables)) block f q
-  due-faults (Entry c exact b) f q = entry-fault (length (x .ios)) (x .tables) c exact b block f q
-  due-faults (Program c due) f q = let k = program-faults x block c due core f q in (omega arith, omega arith)
-  due-faults (Termination i) f q = termination-fault (x .area) i block f q
+  due-faults Label f q =
+      whole-block block f (omega arith) (omega arith) (inl (omega arith)) (label-fault (x .ios) (length (x .tables)) block f q)
+  due-faults (Entry c exact b) f q =
+      whole-block block f (omega arith) (omega arith) (inl (omega arith))
+      (entry-fault (length (x .ios)) (x .tables) c exact b block f q)
+  due-faults (Program c due) f q =
+      let k = program-faults x block c due core f q in
+      record { least = omega (arith, k .0 .0); most = omega (arith, k .0 .1); place = k .1 }
+  due-faults (Termination i) f q =
+      whole-block block f (omega arith) (omega arith) (inr (omega arith)) (termination-fault (x .area) i block f q)
   due-faults Complete f q = let z : _≡_ {A = ℕ} 0 1 = cc in absurd (omega arith)
   due-faults Broken f q = let z : _≡_ {A = ℕ} 0 1 = cc in absurd (omega arith)
 
@@ -113,8 +138,11 @@ block-laws = record {
   fits = λ x s t block core f. due-or-13 x block core s
       (λ (r : Step). r ≡ More t → stageFits (x .area) (x .tables) (length (x .ios)) t ≡ true)
       (λ q. let z : _≡_ {A = ℕ} 0 1 = cc in absurd (omega arith)) (due-fits x block core s t f);
-  faults = λ x s block core f. due-or-13 x block core s (λ (r : Step). r ≡ Refused f → (13 ≤ f .number) × (f .number ≤ 22))
-      (λ q. let e : fault 13 ≡ f = cc in rw (← e) (omega arith, omega arith)) (due-faults x block core s f);
+  faults = λ x s block core f. due-or-13 x block core s (λ (r : Step). r ≡ Refused f → OfBlock block f)
+      (λ q. let e : fault 13 ≡ f = cc in
+      rw (← e) (whole-block block (fault 13) (omega arith) (omega arith) (inl (omega arith)) (whole-at 13 13 13 0 (omega arith)
+      (omega arith) (omega arith))))
+      (due-faults x block core s f);
   long = λ x s block core f h. block-cases x block (λ (g : List ℕ → StepOutcome). length (g core .core) ≡ length core) (λ r. refl) s
       (λ c due e. program-length x block c due core (standing x s c due core e f h));
   beside = λ x s block core f h j b. block-cases x block (λ (g : List ℕ → StepOutcome). getD (g core .core) j 0 ≡ getD core j 0)

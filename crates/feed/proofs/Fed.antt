@@ -8,10 +8,13 @@ use native.Mathlib.Omega.{arith}
 use lib.ListN.{length, getD}
 use Rattle.word.specs.Limits.{wordsInBlock, placeCount, coreMost}
 use Rattle.word.specs.Lists.{every}
-use Rattle.word.specs.Fault.{fault}
+use Rattle.word.specs.Fault.{fault, halfNumber}
 use Rattle.word.specs.Sorts.{absoluteOf}
 use Rattle.word.specs.declared.Area.{Area}
 use Rattle.word.specs.declared.Fault.{Fault}
+use Rattle.word.specs.declared.Half.the-variants.{Left, Right}
+use Rattle.word.specs.declared.Side.{Side}
+use Rattle.word.specs.declared.Side.the-variants.{Whole, In}
 use Rattle.word.specs.declared.Absolute.{Absolute}
 use Rattle.word.specs.Word.{isWord}
 use Rattle.word.proofs.Cases.{when}
@@ -38,14 +41,16 @@ use Rattle.desk.specs.Sound.{sound, givenIn, listsHeld}
 use Rattle.desk.proofs.Facts.{core-small}
 use Rattle.desk.proofs.Replaced.{stage-written-sound}
 use Rattle.calls.specs.declared.Answer.the-variants.{Refused, More, Done}
-use Rattle.calls.specs.Answer.{Small}
+use Rattle.calls.specs.Answer.{SmallFault, Small}
 use Rattle.calls.specs.Outcome.{Outcome, refused}
 use Rattle.calls.proofs.Entry.{entered-cases}
+use Rattle.calls.proofs.Packed.{small-fault}
 use Rattle.feed.specs.Block.{blockStep}
 use Rattle.lists.specs.Load.{Load}
 use Rattle.sections.specs.Waits.{Waits}
 use Rattle.sections.specs.Program.{StepMeets}
 use Rattle.feed.specs.Feed.{loadIn, wiped, staged, settledOf, takenOf, checkedOf, heldOf, feedOf}
+use Rattle.feed.proofs.Laws.{OfBlock}
 use Rattle.feed.proofs.Blocked.{block-laws}
 use Rattle.feed.proofs.Wiped.{settled-same}
 use Rattle.feed.proofs.Held.{held-inside, held-fit, fit-waiting}
@@ -111,6 +116,15 @@ settled-cases d core p area (step-refused f) after P m e b = b f refl
 start-small : (area : Area) (block : List ℕ) → area .at .0 ≤ coreMost → absoluteOf area (startOf block) .0 < 2 ^ 32
 start-small area block h = omega (arith, part-below 0 16 (getD block 1 0))
 
+-- and so does a fault of a block
+half-most : (s : Side) → halfNumber s ≤ 2
+half-most Whole = omega arith
+half-most (In Left) = omega arith
+half-most (In Right) = omega arith
+
+of-block-small : (block : List ℕ) (f : Fault) → OfBlock block f → SmallFault f
+of-block-small block f o = (omega (arith, o .most), omega (arith, half-most (f .half), o .place .inside))
+
 module _ (d core block : List ℕ) (r p : ℕ) where
   abbrev load : Load
   load = loadIn (placeIn d p)
@@ -155,12 +169,12 @@ module _ (d core block : List ℕ) (r p : ℕ) where
 
   -- the answer fits into one number
   pub feed-small : Small (feedOf d core r p block .answer)
-  feed-small = feed-cases (λ (o : Outcome). Small (o .answer)) (λ n k h. omega arith)
+  feed-small = feed-cases (λ (o : Outcome). Small (o .answer)) (λ n k h. small-fault n (omega arith))
       (λ t s e h q. tt)
       (λ a s e h q. let k = holds-place d r p h in
       rw (block-laws .starts load due block core a q)
       (start-small (load .area) block (omega (arith, held-inside d s p (k .0) (k .1), core-small d s))))
-      (λ f s e h q. omega (arith, block-laws .faults load due block core f q))
+      (λ f s e h q. of-block-small block f (block-laws .faults load due block core f q))
 
 -- a block that is taken, from what its step told and left
 pub taken-met : (d core block : List ℕ) (p : ℕ) (x : Load) (s : Stage) → Waits x s block core → (r : Step) (after : List ℕ)

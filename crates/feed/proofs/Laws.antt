@@ -12,6 +12,7 @@ use Rattle.word.specs.declared.Fault.{Fault}
 use Rattle.word.proofs.Stretch.{Beside}
 use Rattle.program.specs.Start.{startOf}
 use Rattle.lists.specs.Obey.{tableInside}
+use Rattle.group.specs.Places.{Placed}
 use Rattle.group.proofs.Acts.{Alike}
 use Rattle.group.proofs.Stored.{StoredWords}
 use Rattle.stage.specs.declared.Stage.{Stage}
@@ -29,11 +30,17 @@ pub record FitToFeed (x : Load) (s : Stage) : Type 0 where
 abbrev pub Holds : Load → List ℕ → Type 0
 Holds x core = x .area .at .0 + x .area .size ≤ length core
 
+-- a fault of a block
+pub record OfBlock (block : List ℕ) (f : Fault) : Type 0 where
+  pub least : 13 ≤ f .number
+  pub most : f .number ≤ 22
+  pub place : Placed block f
+
 pub record BlockLaws : Type 0 where
   pub fits : (x : Load) (s t : Stage) (block core : List ℕ) → FitToFeed x s → blockStep x s block core .step ≡ More t
       → stageFits (x .area) (x .tables) (length (x .ios)) t ≡ true
   pub faults : (x : Load) (s : Stage) (block core : List ℕ) (f : Fault) → blockStep x s block core .step ≡ Refused f
-      → (13 ≤ f .number) × (f .number ≤ 22)
+      → OfBlock block f
   pub long : (x : Load) (s : Stage) (block core : List ℕ) → FitToFeed x s → Holds x core
       → length (blockStep x s block core .core) ≡ length core
   pub beside : (x : Load) (s : Stage) (block core : List ℕ) → FitToFeed x s → Holds x core

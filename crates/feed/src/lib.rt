@@ -20,7 +20,9 @@ use lists::Given;
 use stage::Stage;
 use stage::Step;
 use word::Area;
-use word::Fault;
+use word::faults::FAULT_9;
+use word::faults::FAULT_10;
+use word::faults::FAULT_13;
 
 // A block for the load that the room has at the place.
 pub fn feed_block(
@@ -35,10 +37,10 @@ pub fn feed_block(
 {
     let n = calls::entry_refusal(desk, core.len() as u64, room);
     if n != 0 {
-        return Answer::Refused(Fault { number: n });
+        return Answer::Refused(word::fault_of(n));
     }
     if !layout::holds_place(desk, room, place) {
-        return Answer::Refused(Fault { number: 9 });
+        return Answer::Refused(FAULT_9);
     }
     feed_held(desk, core, place as usize, block)
 }
@@ -51,7 +53,7 @@ fn feed_held(desk: &mut [u64], core: &mut [u64], p: usize, block: &[u64]) -> Ans
 {
     let s = layout::stage_of(layout::place_at(desk, p));
     if stage::is_over(s) {
-        return Answer::Refused(Fault { number: 10 });
+        return Answer::Refused(FAULT_10);
     }
     match block::check_block(block, stage::record_due(s)) {
         Verdict::Pass => take_block(desk, core, p, s, block),
@@ -79,7 +81,7 @@ fn load_step(g: Given, lists: &[u64], s: Stage, block: &[u64], core: &mut [u64])
         r (now (core .exit)) ⌝ }
 {
     if !block::of_record(block, stage::record_due(s)) {
-        return Step::Refused(Fault { number: 13 });
+        return Step::Refused(FAULT_13);
     }
     due_step(g, lists, s, block, core)
 }

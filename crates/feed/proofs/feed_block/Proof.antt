@@ -13,12 +13,15 @@ use Rattle.feed.proofs.feed_block.Tie as tie
 entry-refusal-requires : tie.Need-entry-refusal-requires
 entry-refusal-requires c κs = search needs
 
+fault-of-requires : tie.Need-fault-of-requires
+fault-of-requires c κs = search needs
+
 same-length : tie.Need-same-length
 same-length c = search needs
 
 returns : tie.Need-returns
 unfolding feedOf
-returns c = entered-refused _ _ _ _ _ _ (c .before .entry-refusal .ensures) (c .if1 .taken)
+returns c = rw (c .fault-of .ensures) (entered-refused _ _ _ _ _ _ (c .before .before .entry-refusal .ensures) (c .before .if1 .taken))
 
 holds-place-requires : tie.Need-holds-place-requires
 holds-place-requires c κs =
@@ -64,6 +67,7 @@ feed-block-spec =
     tie.close
     (tie.spec
     entry-refusal-requires
+    fault-of-requires
     same-length
     returns
     holds-place-requires
