@@ -4,16 +4,16 @@ use mathlib.Core.Path.{_≡_, refl, _∙_}
 use native.Mathlib.Omega.{arith}
 use mathlib.Core.List.{List, _∷_, flatMap}
 use lib.ListN.{replicate, getD-replicate}
-use Rattle.word.specs.Lists.{every, everyTwo, range, tab}
+use Rattle.word.specs.Lists.{every, firstNot, range, tab}
 use Rattle.word.specs.Runs.{within, apart}
 use Rattle.block.specs.Fieldata.{characters, spelt}
-use Rattle.label.specs.Name.{isName, isRest, letterOrDigit}
-use Rattle.label.specs.Tables.{tableWordsIn, tableWords, tablesInOrder, entriesOf, countsOf, withinLimits}
+use Rattle.label.specs.Name.{isName, firstWrong, mayStand, letterOrDigit}
+use Rattle.label.specs.Tables.{tableWordsIn, tableWords, tablesStand, firstTable, tableStands, entriesOf, countsOf, withinLimits}
 use Rattle.label.specs.Label.{labelOf, finished, programWordFits}
 use Rattle.program.specs.Sections.{bankOf, segmentOf, tableSectionOf}
 use Rattle.program.specs.Groups.{groupOf}
 use Rattle.indicator.specs.Indicator.{bitsOf, indicatorBits, bitsBefore, numberAt, indicatorAt, afterField, afterWord, afterAll}
-use Rattle.field.specs.Field.{valued, movedField, becomes, putBack, fieldStep}
+use Rattle.field.specs.Field.{valued, movedField, becomes, putBack, fieldChange, fieldStep}
 use Rattle.group.specs.Group.{halfStep, wordStep, changedWords, groupStep, wordsLie, addressOf, indicatorsFit, groupFits}
 use Rattle.group.specs.Group.{refusedGroup, storedGroup, groupOutcome, readOutcome}
 use Rattle.demands.specs.Image.{headAt, piecesFrom, pieces, storeOf, groupsFrom, upToLast, storesFrom, reached, wordFrom}
@@ -37,10 +37,10 @@ use Rattle.demands.proofs.Imaged.{image-is}
 
 -- the one program word is 7, with the area's address added to its right field
 pub deck-image : imageOf (deckGiven .area) (deckGiven .tables) (deckGiven .ios) deckFile ≡ 519 ∷ replicate 63 0
-unfolding deckLabel deckProgram deckTermination withWords blank imageOf storesOf storesBeyond labelOf isName isRest letterOrDigit
-    every characters tableWordsIn tableWords tablesInOrder entriesOf countsOf withinLimits everyTwo range finished programWordFits
+unfolding deckLabel deckProgram deckTermination withWords blank imageOf storesOf storesBeyond labelOf isName firstWrong mayStand letterOrDigit
+    every characters tableWordsIn tableWords tablesStand firstTable tableStands entriesOf countsOf withinLimits firstNot range finished programWordFits
     pieces piecesFrom headAt groupOf tableSectionOf segmentOf bankOf groupsFrom upToLast storesFrom storeOf wordsLie addressOf
-    within changedWords wordStep halfStep fieldStep becomes movedField valued putBack bitsOf flatMap indicatorBits bitsBefore
+    within changedWords wordStep halfStep fieldStep fieldChange becomes movedField valued putBack bitsOf flatMap indicatorBits bitsBefore
     numberAt indicatorAt afterField afterWord wordFrom reached tab
 deck-image = refl
 
@@ -57,9 +57,9 @@ abbrev afterwards : List ℕ
 afterwards = blockStep deckGiven (Program (record { channels = 0; sections = 0 }) Segment) deckProgram core .core
 
 pub deck-taken : Takes deckGiven Label core deckFile Complete afterwards
-unfolding deckLabel deckProgram deckTermination withWords blank labelOf isName isRest letterOrDigit every characters tableWordsIn
-    tableWords tablesInOrder entriesOf countsOf withinLimits everyTwo tab range finished programWordFits groupOf tableSectionOf
-    segmentOf bankOf wordsLie addressOf within changedWords wordStep halfStep fieldStep becomes movedField valued putBack bitsOf
+unfolding deckLabel deckProgram deckTermination withWords blank labelOf isName firstWrong mayStand letterOrDigit every characters tableWordsIn
+    tableWords tablesStand firstTable tableStands entriesOf countsOf withinLimits firstNot tab range finished programWordFits groupOf tableSectionOf
+    segmentOf bankOf wordsLie addressOf within changedWords wordStep halfStep fieldStep fieldChange becomes movedField valued putBack bitsOf
     flatMap indicatorBits bitsBefore numberAt indicatorAt afterField afterWord Takes isOver blockStep dueStep recordDue labelStep
     withLabel afterLabel assignmentsFit programStep programFrom closes itemStep segmentStep withSegment banksFit bankFits apart
     afterGroup afterLast groupStep readOutcome groupOutcome groupFits indicatorsFit storedGroup refusedGroup afterAll

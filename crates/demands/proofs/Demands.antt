@@ -2,7 +2,7 @@
 use Rattle.feed.proofs.Blocked.{block-laws}
 use Rattle.feed.proofs.Fed.{feed-sound}
 use Rattle.demands.specs.Demands.{Demand1One, Demand1Number, Demand1Unchanged, Demand1Broken, Demand1Sound, Demand1Blind}
-use Rattle.demands.specs.Demands.{Demand1Words}
+use Rattle.demands.specs.Demands.{Demand1Words, Demand1Place}
 use Rattle.demands.specs.Demands.{Demand2, Demand2Zeros, Demand2Start, Demand2Alone, Demand2Area, Demand2Outside}
 use Rattle.demands.specs.Demands.{Demand3Orders}
 use Rattle.demands.specs.Demands.{Demand3Turns}
@@ -30,6 +30,9 @@ demand-1-unchanged = refused.unchanged
 
 pub demand-1-broken : Demand1Broken
 demand-1-broken = refused.broken
+
+pub demand-1-place : Demand1Place
+demand-1-place = refused.place
 
 pub demand-1-sound : Demand1Sound
 demand-1-sound = ready.sound-kept

@@ -1,5 +1,5 @@
 -- Demand 1: one outcome, told by one number; and what a refusal leaves.
-use Prim.Native.Nat.{ℕ, _+_, _≤_, _/_, _%_, _^_}
+use Prim.Native.Nat.{ℕ, _+_, _*_, _≤_, _/_, _%_, _^_}
 use mathlib.Core.Path.{_≡_, refl, sym, ap, ap₂, _∙_}
 use mathlib.Core.Bool.{true, false, cond}
 use mathlib.Core.List.{List, []}
@@ -7,22 +7,26 @@ use native.Mathlib.Omega.{arith}
 use lib.ListN.{length}
 use lib.Dec.{eqb, leb}
 use borrow.Author.Tests.{ne-eqb, eqb-false}
-use Rattle.word.specs.Fault.{fault}
+use Rattle.word.specs.Fault.{fault, halfNumber}
 use Rattle.word.specs.declared.Area.{Area}
 use Rattle.word.specs.declared.Fault.{Fault}
+use Rattle.word.specs.declared.Half.the-variants.{Left, Right}
+use Rattle.word.specs.declared.Side.{Side}
+use Rattle.word.specs.declared.Side.the-variants.{Whole, In}
 use Rattle.word.proofs.Cases.{both, when}
 use Rattle.word.proofs.Lists.{length-splice}
 use Rattle.word.proofs.Stretch.{length-cleared, getD-cleared-beside, getD-splice-beside}
 use Rattle.stage.specs.declared.Stage.the-variants.{Broken}
 use Rattle.stage.specs.Stage.{numbersOf}
 use Rattle.stage.proofs.Back.{stage-length}
+use Rattle.group.specs.Places.{Placed}
 use Rattle.map.specs.Map.{mapOf, mapObeys}
 use Rattle.rooms.specs.Rooms.{held, free, idle, placeRefusal}
 use Rattle.lists.specs.Obey.{listsObey}
 use Rattle.layout.specs.Layout.{stageAt, deskWords, coreLength, base, placeIn, ownOf, stageIn, holders, holds}
 use Rattle.desk.specs.Sound.{coreFits, sound}
 use Rattle.desk.proofs.Facts.{sound-long}
-use Rattle.calls.specs.Answer.{codeOf, valueOf, packed, Small}
+use Rattle.calls.specs.Answer.{codeOf, valueOf, packed, toldC, Small}
 use Rattle.calls.specs.declared.Answer.{Answer}
 use Rattle.calls.specs.declared.Answer.the-variants.{Refused, Made, Opened, More, Done, Released}
 use Rattle.calls.proofs.Packed.{packed-apart}
@@ -41,14 +45,34 @@ use Rattle.feed.proofs.Held.{held-inside}
 use Rattle.feed.proofs.Wiped.{getD-cleared-in}
 use Rattle.demands.specs.History.{State, Call, answerTo, call}
 use Rattle.demands.specs.History.Call.{Make, Open, Feed, Release}
-use Rattle.demands.specs.Demands.{BrokenOff, Demand1One, Demand1Number, Demand1Unchanged, Demand1Broken}
+use Rattle.demands.specs.Demands.{BrokenOff, Demand1One, Demand1Number, Demand1Unchanged, Demand1Broken, Demand1Place}
 use Rattle.demands.proofs.Views.{outside-area, outside-beside, staged-stage}
 use Rattle.demands.proofs.Reach.{leftBy}
 
 pub one : Demand1One
 one o r q d e core other p t = (p .number ∙ sym (t .number), (p .desk-left ∙ sym (t .desk-left), p .core-left ∙ sym (t .core-left)))
 
--- ---- the answer, read back from its code and value
+-- ---- the answer, read back from its code and value; of a refusal the value is its place
+abbrev sideOf : ℕ → Side
+sideOf n = cond (eqb n 1) (In Left) (cond (eqb n 2) (In Right) Whole)
+
+abbrev placed : ℕ → ℕ → Side → Fault
+placed n w s = record { number = n; word = w; half = s; bit = 0 }
+
+place-back : (n w : ℕ) (s : Side) → placed n ((w * 4 + halfNumber s) / 4) (sideOf ((w * 4 + halfNumber s) % 4)) ≡ placed n w s
+place-back n w Whole =
+    let q : (w * 4 + 0) / 4 ≡ w = omega arith in
+    let r : (w * 4 + 0) % 4 ≡ 0 = omega arith in
+    rw (q, r)
+place-back n w (In Left) =
+    let q : (w * 4 + 1) / 4 ≡ w = omega arith in
+    let r : (w * 4 + 1) % 4 ≡ 1 = omega arith in
+    rw (q, r)
+place-back n w (In Right) =
+    let q : (w * 4 + 2) / 4 ≡ w = omega arith in
+    let r : (w * 4 + 2) % 4 ≡ 2 = omega arith in
+    rw (q, r)
+
 abbrev answerOf : ℕ → ℕ → Answer
 answerOf c v =
     cond (eqb c 64) Made
@@ -56,19 +80,20 @@ answerOf c v =
     (cond (eqb c 66) More
     (cond (eqb c 67) (Done (record { 0 = v }))
     (cond (eqb c 68) Released
-    (Refused (fault c))))))
+    (Refused (placed c (v / 4) (sideOf (v % 4))))))))
 
-answer-back : (a : Answer) → Small a → answerOf (codeOf a) (valueOf a) ≡ a
+answer-back : (a : Answer) → Small a → answerOf (codeOf a) (valueOf a) ≡ toldC a
 answer-back (Refused f) h =
-    let ne : (n : ℕ) → 64 ≤ n → eqb (f .number) n ≡ false = λ n k. ne-eqb (f .number) n (λ z. omega arith) in
+    let ne : (n : ℕ) → 64 ≤ n → eqb (f .number) n ≡ false = λ n k. ne-eqb (f .number) n (λ z. omega (arith, h .0)) in
     rw (ne 64 (omega arith), ne 65 (omega arith), ne 66 (omega arith), ne 67 (omega arith), ne 68 (omega arith))
+    (ap Refused (place-back (f .number) (f .word) (f .half)))
 answer-back Made h = refl
 answer-back (Opened p) h = refl
 answer-back More h = refl
 answer-back (Done a) h = refl
 answer-back Released h = refl
 
-one-number : (a b : Answer) → Small a → Small b → packed a ≡ packed b → a ≡ b
+one-number : (a b : Answer) → Small a → Small b → packed a ≡ packed b → toldC a ≡ toldC b
 one-number a b h k e =
     let x = packed-apart a h in
     let y = packed-apart b k in
@@ -86,17 +111,34 @@ each-small (Release n r p) s = release-small (s .desk) n r p
 pub number : Demand1Number
 number = (each-small, one-number)
 
--- ---- an outcome that, where it is refused, is refused with a number from 1 to n, and leaves desk and core as they were
+-- ---- an outcome that, where it is refused, is refused with a number from 1 to n and without a place, and leaves desk and core as they
+-- were
+pub record Denied (n : ℕ) (d core : List ℕ) (o : Outcome) (f : Fault) : Type 0 where
+  pub least : 1 ≤ f .number
+  pub most : f .number ≤ n
+  pub bare : f ≡ fault (f .number)
+  pub desk-left : o .desk ≡ d
+  pub core-left : o .core ≡ core
+
 abbrev Refuses : ℕ → List ℕ → List ℕ → Outcome → Type 0
-Refuses n d core o = (f : Fault) → o .answer ≡ Refused f → (1 ≤ f .number) × (f .number ≤ n) × ((o .desk ≡ d) × (o .core ≡ core))
+Refuses n d core o = (f : Fault) → o .answer ≡ Refused f → Denied n d core o f
 
 -- the number of a refusal
 same-fault : {m : ℕ} {f : Fault} → _≡_ {A = Answer} (Refused (fault m)) (Refused f) → m ≡ f .number
 same-fault q = ap codeOf q
 
+no-place : {m : ℕ} {f : Fault} → _≡_ {A = Answer} (Refused (fault m)) (Refused f) → f ≡ fault (f .number)
+no-place {m} {f} q = let e : fault m ≡ f = cc in rw (← e)
+
 refuses : (n m : ℕ) (d core : List ℕ) → 1 ≤ m → m ≤ n
     → Refuses n d core (record { answer = Refused (fault m); desk = d; core = core })
-refuses n m d core l h f q = (omega (arith, same-fault q), omega (arith, same-fault q), (refl, refl))
+refuses n m d core l h f q = record {
+  least = omega (arith, same-fault q);
+  most = omega (arith, same-fault q);
+  bare = no-place q;
+  desk-left = refl;
+  core-left = refl;
+}
 
 make-refuses : (d : List ℕ) (n : ℕ) (m : List ℕ) → Refuses 3 d [] (makeOf d n m)
 unfolding makeOf
@@ -149,14 +191,26 @@ module _ (s : State) (r p : ℕ) (block : List ℕ) where
   abbrev area : Area
   area = ownOf (placeIn (s .desk) p) .given .area
 
+  pub record Broke (o : Outcome) (f : Fault) : Type 0 where
+    pub least : 1 ≤ f .number
+    pub most : f .number ≤ 22
+    pub same : f .number ≤ 12 → leftBy o ≡ s
+    pub bare : f .number ≤ 12 → f ≡ fault (f .number)
+    pub off : 13 ≤ f .number → BrokenOff p area s (leftBy o)
+    pub place : 13 ≤ f .number → Placed block f
+
   abbrev Breaks : Outcome → Type 0
-  Breaks o =
-      (f : Fault) → o .answer ≡ Refused f
-      → ((1 ≤ f .number) × (f .number ≤ 22) × (f .number ≤ 12 → leftBy o ≡ s)) × (13 ≤ f .number → BrokenOff p area s (leftBy o))
+  Breaks o = (f : Fault) → o .answer ≡ Refused f → Broke o f
 
   none-breaks : (n : ℕ) → 1 ≤ n → n ≤ 12 → Breaks (record { answer = Refused (fault n); desk = s .desk; core = s .core })
-  none-breaks n l h f q =
-      ((omega (arith, same-fault q), omega (arith, same-fault q), λ k. refl), λ k. absurd (omega (arith, same-fault q)))
+  none-breaks n l h f q = record {
+    least = omega (arith, same-fault q);
+    most = omega (arith, same-fault q);
+    same = λ k. refl;
+    bare = λ k. no-place q;
+    off = λ k. absurd (omega (arith, same-fault q));
+    place = λ k. absurd (omega (arith, same-fault q));
+  }
 
   module _ (ok : sound (s .desk) ≡ true) (e : length (s .core) ≡ coreLength (s .desk)) (h : holds (s .desk) r p ≡ true) where
     in-core : area .at .0 + area .size ≤ length (s .core)
@@ -187,21 +241,39 @@ module _ (s : State) (r p : ℕ) (block : List ℕ) where
       (λ t ok e h q f z. let y : _≡_ {A = ℕ} 0 1 = cc in absurd (omega arith))
       (λ a ok e h q f z. let y : _≡_ {A = ℕ} 0 1 = cc in absurd (omega arith))
       (λ g ok e h q f z.
-      let w = block-laws .faults (loadIn (placeIn (s .desk) p)) (stageIn (placeIn (s .desk) p)) block (s .core) g q in
-      let i : g .number ≡ f .number = ap codeOf z in
-      ((omega arith, omega arith, λ k. absurd (omega arith)), λ k. broken-off ok e h))
+      let y : g ≡ f = cc in
+      let w = rw y at (block-laws .faults (loadIn (placeIn (s .desk) p)) (stageIn (placeIn (s .desk) p)) block (s .core) g q) in
+      record {
+        least = omega (arith, w .least);
+        most = w .most;
+        same = λ k. absurd (omega (arith, w .least));
+        bare = λ k. absurd (omega (arith, w .least));
+        off = λ k. broken-off ok e h;
+        place = λ k. w .place;
+      })
 
 -- ---- the statements
 pub unchanged : Demand1Unchanged
 unfolding answerTo call
 unchanged (Make n m) s f q =
-    let k = make-refuses (s .desk) n m f q in (k .0, k .1, λ h. same-state s _ (k .2 .0) refl)
+    let k = make-refuses (s .desk) n m f q in (k .least, k .most, λ h. same-state s _ (k .desk-left) refl)
 unchanged (Open r a ios tables) s f q =
-    let k = open-refuses (s .desk) (s .core) r a ios tables f q in (k .0, k .1, λ h. same-state s _ (k .2 .0) (k .2 .1))
-unchanged (Feed r p block) s f q = feed-breaks s r p block f q .0
+    let k = open-refuses (s .desk) (s .core) r a ios tables f q in (k .least, k .most, λ h. same-state s _ (k .desk-left) (k .core-left))
+unchanged (Feed r p block) s f q = let k = feed-breaks s r p block f q in (k .least, k .most, k .same)
 unchanged (Release n r p) s f q =
-    let k = release-refuses (s .desk) n r p f q in (k .0, k .1, λ h. same-state s _ (k .2 .0) refl)
+    let k = release-refuses (s .desk) n r p f q in (k .least, k .most, λ h. same-state s _ (k .desk-left) refl)
 
 pub broken : Demand1Broken
 unfolding answerTo call
-broken s r p block f q h = feed-breaks s r p block f q .1 h
+broken s r p block f q h = feed-breaks s r p block f q .off h
+
+bare : (c : Call) (s : State) (f : Fault) → answerTo c s ≡ Refused f → f .number ≤ 12 → f ≡ fault (f .number)
+unfolding answerTo call
+bare (Make n m) s f q h = make-refuses (s .desk) n m f q .bare
+bare (Open r a ios tables) s f q h = open-refuses (s .desk) (s .core) r a ios tables f q .bare
+bare (Feed r p block) s f q h = feed-breaks s r p block f q .bare h
+bare (Release n r p) s f q h = release-refuses (s .desk) n r p f q .bare
+
+pub place : Demand1Place
+unfolding answerTo call
+place = (bare, λ s r p block f q h. feed-breaks s r p block f q .place h)

@@ -11,7 +11,7 @@ use Rattle.word.specs.Lists.{every, splice}
 use Rattle.word.specs.declared.Absolute.{Absolute}
 use Rattle.word.specs.declared.Area.{Area}
 use Rattle.word.specs.declared.Fault.{Fault}
-use Rattle.word.specs.Fault.{fault}
+use Rattle.word.specs.Fault.{fault, further}
 use Rattle.word.proofs.Cases.{when, and-left, and-right}
 use Rattle.word.proofs.Says.{says-within}
 use Rattle.word.proofs.Every.{every-place}
@@ -43,7 +43,7 @@ use Rattle.stage.specs.declared.Stage.the-variants.{Label, Entry, Program, Term
 use Rattle.stage.specs.Ranges.{bankFits, sectionFits}
 use Rattle.stage.specs.declared.Step.the-variants.{More, Refused}
 use Rattle.sections.specs.declared.Item.{Item}
-use Rattle.sections.specs.declared.Item.the-variants.{Go, Stop}
+use Rattle.sections.specs.declared.Item.the-variants.{Go, Last}
 use Rattle.lists.specs.Load.{Load}
 use Rattle.sections.specs.Waits.{assignments}
 use Rattle.sections.specs.Heads.{banksFit, withSegment, segmentStep, withSection, sectionStep}
@@ -145,7 +145,7 @@ module _ (x : Load) (channels : ℕ) (tables : every (tableInside (x .area)) (x 
       → LeadsTo (programFrom n x d u block p core′)
       (Reads x channels after (Program d u) core′ (piecesFrom n block p ++ rest))) where
     abbrev then : Item → List ℕ → StepOutcome
-    then item core′ = followed item core′ (λ d u p core″. programFrom n x d u block p core″)
+    then item core′ = followed i item core′ (λ d u p core″. programFrom n x d u block p core″)
 
     abbrev ps : List Piece
     ps = piecesFrom (suc n) block i ++ rest
@@ -159,7 +159,7 @@ module _ (x : Load) (channels : ℕ) (tables : every (tableInside (x .area)) (x 
       Goes p core′ m item = LeadsTo (then item core′)
           (Comes (x .area) core′ (storesFrom a m section (piecesFrom n block p ++ rest)) after)
 
-      over : (p : ℕ) (core′ : List ℕ) → c .sections ≡ 0 → Goes p core′ (c .sections) (Stop (More (Termination ibank)))
+      over : (p : ℕ) (core′ : List ℕ) → c .sections ≡ 0 → Goes p core′ (c .sections) (Last ibank)
       over p core′ z e k =
           rw (z, no-stores a section (piecesFrom n block p ++ rest))
           (rw (no-stores a section rest) at (stays (Termination ibank) core′ e k section tt))
@@ -205,8 +205,8 @@ module _ (x : Load) (channels : ℕ) (tables : every (tableInside (x .area)) (x 
           group-outcomes (assignments x c) section block i core
           (λ (o : GroupOutcome). LeadsTo (then (afterGroup c same least ibank (o .answer)) (o .core))
           (Comes (x .area) core (storesFrom a (suc (c .sections)) section ps) after))
-          (λ f. refuses _ f _)
-          (λ g to f h. refuses _ f _)
+          (λ f. refuses _ (further i f) _)
+          (λ g to f h. refuses _ (further i f) _)
           (λ g to vs h t e. stored-leads g to vs h e)
 
     -- ---- the segment's head
@@ -223,15 +223,15 @@ module _ (x : Load) (channels : ℕ) (tables : every (tableInside (x .area)) (x 
           rw (stores-segment block i a (c .sections) section n rest more g (head-segment block i g e))
           (ih c (SegmentGroup g) (i + 4) core r k (InSegment g)
           (record { count = st; same = refl; room = banks-room (x .area) (x .tables) g f })))
-          (λ f. refuses _ (fault 17) core)
-      segment-read-leads (no-segment f) e = refuses _ f core
+          (λ f. refuses _ (further i (fault 17)) core)
+      segment-read-leads (no-segment f) e = refuses _ (further i f) core
 
       segment-leads : Heads (segmentStep (x .area) (x .tables) c block i)
       unfolding segmentStep
       segment-leads =
           when Heads (leb (i + 3) lastWord)
           (λ _. segment-read-leads (segmentOf (getD block i 0) (getD block (i + 1) 0)) refl)
-          (λ _. refuses _ (fault 17) core)
+          (λ _. refuses _ (further i (fault 17)) core)
 
     -- ---- a table section's head
     module _ (c : LabelCounts) (least : ℕ) (ibank : Bank) where
@@ -249,9 +249,9 @@ module _ (x : Load) (channels : ℕ) (tables : every (tableInside (x .area)) (x 
           (ih (record { channels = c .channels; sections = c .sections - 1 }) (SectionGroup s ibank) (i + 1) core r k
           (tableSection (x .tables) s)
           (record { count = st; same = refl; room = table-room (x .area) (x .tables) s tables f })))
-          (λ f. refuses _ (fault 17) core))
-          (λ _. refuses _ (fault 17) core)
-      section-read-leads (no-section f) e = refuses _ f core
+          (λ f. refuses _ (further i (fault 17)) core))
+          (λ _. refuses _ (further i (fault 17)) core)
+      section-read-leads (no-section f) e = refuses _ (further i f) core
 
       section-leads : Tables (sectionStep (x .tables) c least ibank block i)
       unfolding sectionStep

@@ -13,13 +13,14 @@ use Rattle.word.specs.Word.{wordLimit}
 use Rattle.word.specs.declared.Absolute.{Absolute}
 use Rattle.word.specs.declared.Area.{Area}
 use Rattle.word.specs.declared.Fault.{Fault}
+use Rattle.group.specs.Places.{Placed}
 use Rattle.map.specs.Map.{mapOf, none}
 use Rattle.rooms.specs.Rooms.{lowestFree}
 use Rattle.lists.specs.Obey.{listsObey}
 use Rattle.stage.specs.declared.Stage.the-variants.{Broken}
 use Rattle.layout.specs.Layout.{stageAt, listsAt, base, placeIn, ownOf, stageIn}
 use Rattle.desk.specs.Sound.{areaIn, sound}
-use Rattle.calls.specs.Answer.{packed, Small}
+use Rattle.calls.specs.Answer.{packed, toldC, Small}
 use Rattle.calls.specs.declared.Answer.{Answer}
 use Rattle.calls.specs.declared.Answer.the-variants.{Refused, Made, Opened, Released}
 use Rattle.calls.specs.Outcome.{Outcome}
@@ -45,11 +46,12 @@ Demand1One =
     (o : Outcome) (r q : ℕ) (d e core other : List ℕ) → Returned o r d core → Returned o q e other
     → (r ≡ q) × ((d ≡ e) × (core ≡ other))
 
--- the number that C is told tells the answer: each call's answer is small, and two small answers with one number are one
+-- the number that C is told tells the answer, all of it but the bit of a fault: each call's answer is small, and two small answers with
+-- one number are told as one
 abbrev pub Demand1Number : Type 0
 Demand1Number =
     ((c : Call) (s : State) → Small (answerTo c s))
-    × ((a b : Answer) → Small a → Small b → packed a ≡ packed b → a ≡ b)
+    × ((a b : Answer) → Small a → Small b → packed a ≡ packed b → toldC a ≡ toldC b)
 
 -- "Refusals 1 to 12 change nothing", and no call is refused with a number over its greatest one
 abbrev pub mostOf : Call → ℕ
@@ -78,6 +80,16 @@ abbrev pub Demand1Broken : Type 0
 Demand1Broken =
     (s : State) (r p : ℕ) (block : List ℕ) (f : Fault) → answerTo (Feed r p block) s ≡ Refused f → 13 ≤ f .number
     → BrokenOff p (ownOf (placeIn (s .desk) p) .given .area) s (call (Feed r p block) s)
+
+-- the place of a refusal (02, #105). "Refusals 1 to 12 still return 0": of no word, no half and no bit. Of 13 to 22 the word lies in
+-- the block; a half is told for 19 to 21 and for no other, and then the word is a program word of a group of this block, and the bit
+-- one of that group's indicator bits (`Placed`). Which word it is, the definitions say that say which refusal it is: the contract
+-- is one equation for both.
+abbrev pub Demand1Place : Type 0
+Demand1Place =
+    ((c : Call) (s : State) (f : Fault) → answerTo c s ≡ Refused f → f .number ≤ 12 → f ≡ fault (f .number))
+    × ((s : State) (r p : ℕ) (block : List ℕ) (f : Fault) → answerTo (Feed r p block) s ≡ Refused f → 13 ≤ f .number
+    → Placed block f)
 
 -- "A fresh desk is sound, and each call keeps it so", whatever core it is lent. A made desk has the core length and the map that
 -- make was given; no other call changes them, and none the length of the core.
