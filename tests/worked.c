@@ -1,5 +1,6 @@
-/* worked.c: the files of crates/worked_file through the library and the second loader. Answers and cores must be those that the
-   theorems of that crate say. tests/worked writes worked_words.h, the words of the definitions, and runs this. */
+/* worked.c: the files of crates/worked_file through the library and the second loader. Answers, with the word and half of each
+   refusal, and cores must be those that the theorems of that crate say. tests/worked writes worked_words.h, the words of the
+   definitions, and runs this. */
 
 #include <stdio.h>
 #include <string.h>
@@ -8,9 +9,9 @@
 #include "reader.h"
 #include "worked_file.h"
 
-/* The refusal's number, the block that is refused, and the words of it that are not the worked file's. */
+/* The refusal's number, its word and half, the block that is refused, and the words of it that are not the worked file's. */
 struct faulty {
-  unsigned number, block;
+  unsigned number, word, half, block;
   struct file_word words[4];
 };
 
@@ -18,7 +19,7 @@ struct faulty {
 
 #define COUNT(array) (sizeof(array) / sizeof(array)[0])
 
-enum { CORE_WORDS = 4096, OLD_WORD = 5, FAULTS = 51, BLOCKS = 5, IDENTIFIER_WORD = 0, CHECKSUM_WORD = 255 };
+enum { CORE_WORDS = 4096, OLD_WORD = 5, FAULTS = 55, BLOCKS = 5, IDENTIFIER_WORD = 0, CHECKSUM_WORD = 255 };
 
 /* The file with 85 core tables; what the blocks are that the definitions name one after another. */
 enum { SPLIT_AREA = 02000, SPLIT_TABLES = 85, SPLIT_IBANK = 2, SPLIT_SIZE = SPLIT_IBANK + SPLIT_TABLES + 1 };
@@ -100,13 +101,13 @@ static void check_file(const struct given *given, const block_words *blocks, uin
 /* Every block before this one is accepted, and it is refused: then the area is zeros and what comes after it is refused too; but with
    11 and 12 nothing has changed, and the file goes on with the block as it should be. */
 static void check_refused(const struct given *given, const block_words *blocks, unsigned which, const uint64_t *block,
-                          unsigned number) {
+                          uint64_t answer) {
   static const uint64_t zeros[WORKED_SIZE];
   open_both(given);
   for (unsigned i = 0; i < which; i++)
     feed_both(blocks[i], told(MORE, 0), i);
-  feed_both(block, told(number, 0), which);
-  if (number < REFUSED_RECORD) {
+  feed_both(block, answer, which);
+  if (changes_nothing(CLAMP_CODE(answer))) {
     for (unsigned i = which; i + 1 < BLOCKS; i++)
       feed_both(blocks[i], told(MORE, 0), i);
     return;
@@ -144,7 +145,7 @@ static void check_worked_files(void) {
     memcpy(block, blocks[faulty->block], sizeof block);
     for (unsigned k = 0; k < COUNT(faulty->words) && faulty->words[k].value != 0; k++)
       block[faulty->words[k].at] = faulty->words[k].value;
-    check_refused(&worked, blocks, faulty->block, block, faulty->number);
+    check_refused(&worked, blocks, faulty->block, block, told(faulty->number, where(faulty->word, faulty->half)));
   }
 }
 
@@ -177,7 +178,7 @@ static void check_split_file(void) {
   memcpy(other, blocks[2], sizeof other);
   other[1] = named[SPLIT_OTHER_ENTRIES][1];
   other[CHECKSUM_WORD] = named[SPLIT_OTHER_ENTRIES][CHECKSUM_WORD];
-  check_refused(&split, blocks, 2, other, REFUSED_ASSIGNMENTS);
+  check_refused(&split, blocks, 2, other, REFUSED_AT(ASSIGNMENTS, 1)); /* the third word of the last entry, in the second block */
 }
 
 int main(void) {

@@ -2,14 +2,14 @@
 -- words, by computing alone.
 use mathlib.Core.Path.{_≡_, refl}
 use mathlib.Core.List.{List, [], _∷_, flatMap}
-use Rattle.word.specs.Lists.{every, everyTwo, range, tab, splice, cleared}
+use Rattle.word.specs.Lists.{every, everyTwo, firstNot, range, tab, splice, cleared}
 use Rattle.word.specs.Runs.{within, apart}
 use Rattle.block.specs.Fieldata.{characters, spelt}
 use Rattle.block.specs.Records.{modification, program, termination}
 use Rattle.block.specs.Checksum.{sumOf, checksum}
 use Rattle.block.specs.Block.{wholeBlock, sealVerdict, verdict}
-use Rattle.label.specs.Name.{isName, isRest, letterOrDigit}
-use Rattle.label.specs.Tables.{tableWordsIn, tableWords, tablesInOrder, entriesOf, countsOf, withinLimits}
+use Rattle.label.specs.Name.{isName, firstWrong, mayStand, letterOrDigit}
+use Rattle.label.specs.Tables.{tableWordsIn, tableWords, tablesStand, firstTable, tableStands, entriesOf, countsOf, withinLimits}
 use Rattle.label.specs.Label.{labelOf, finished, programWordFits}
 use Rattle.modification.specs.Assignments.{assignmentsFit}
 use Rattle.program.specs.Sections.{bankOf, segmentOf, tableSectionOf}
@@ -22,7 +22,7 @@ use Rattle.sorting.specs.Sorted.{sorted}
 use Rattle.lists.specs.HowKept.{numbersIn, tablesIn}
 use Rattle.lists.specs.Load.{iosIn, wordsIn, ranksIn, coreTables, ioNumbers, keptLists}
 use Rattle.lists.specs.HowChain.{chain, chainFrom}
-use Rattle.field.specs.Field.{valued, movedField, becomes, putBack, fieldStep}
+use Rattle.field.specs.Field.{valued, movedField, becomes, putBack, fieldChange, fieldStep}
 use Rattle.group.specs.Group.{halfStep, wordStep, changedWords, wordsLie, addressOf, indicatorsFit, groupFits, refusedGroup}
 use Rattle.group.specs.Group.{storedGroup, groupOutcome, readOutcome, groupStep}
 use Rattle.stage.specs.Stage.{numbersOf, stageOf}
@@ -54,11 +54,11 @@ use Rattle.demands.proofs.Demands.{demand-2, demand-2-start}
 
 -- a history, with every definition that computing it opens; a proof that unfolds it opens them all
 computed : List Event → List Told
-unfolding every everyTwo range tab splice cleared within apart characters spelt modification program termination sumOf checksum
-    wholeBlock sealVerdict verdict isName isRest letterOrDigit tableWordsIn tableWords tablesInOrder entriesOf countsOf
+unfolding every everyTwo firstNot range tab splice cleared within apart characters spelt modification program termination sumOf checksum
+    wholeBlock sealVerdict verdict isName firstWrong mayStand letterOrDigit tableWordsIn tableWords tablesStand firstTable tableStands entriesOf countsOf
     withinLimits labelOf finished programWordFits assignmentsFit bankOf segmentOf tableSectionOf groupOf inBank bitsOf flatMap
     indicatorBits bitsBefore numberAt indicatorAt afterField afterWord afterAll listsObey tablesObey tablesOf numbersKept
-    wordsKept ranksKept wordsFrom sorted ranked numbersIn tablesIn chain chainFrom valued movedField becomes putBack fieldStep
+    wordsKept ranksKept wordsFrom sorted ranked numbersIn tablesIn chain chainFrom valued movedField becomes putBack fieldStep fieldChange
     halfStep wordStep changedWords wordsLie addressOf indicatorsFit groupFits refusedGroup storedGroup groupOutcome readOutcome
     groupStep numbersOf stageOf labelCountsFit bankFits dueFits stageFits recordDue isOver afterLabel withLabel labelStep
     terminationStep banksFit withSegment segmentStep afterLast afterGroup itemStep closes programFrom programStep stretchOf mapOf

@@ -1,14 +1,14 @@
 -- What computing of files opens, once: a proof that unfolds `opens` opens all of these.
 use Prim.Native.Nat.{ℕ}
 use mathlib.Core.List.{flatMap}
-use Rattle.word.specs.Lists.{every, everyTwo, range, tab, splice, cleared}
+use Rattle.word.specs.Lists.{every, everyTwo, firstNot, range, tab, splice, cleared}
 use Rattle.word.specs.Runs.{within, apart}
 use Rattle.block.specs.Fieldata.{characters, spelt}
 use Rattle.block.specs.Records.{modification, program, termination}
 use Rattle.block.specs.Checksum.{sumOf, checksum}
 use Rattle.block.specs.Block.{wholeBlock, sealVerdict, verdict}
-use Rattle.label.specs.Name.{isName, isRest, letterOrDigit}
-use Rattle.label.specs.Tables.{tableWordsIn, tableWords, isCarried, tablesInOrder, entriesOf, countsOf, withinLimits}
+use Rattle.label.specs.Name.{isName, firstWrong, mayStand, letterOrDigit}
+use Rattle.label.specs.Tables.{tableWordsIn, tableWords, isCarried, tablesStand, firstTable, tableStands, entriesOf, countsOf, withinLimits}
 use Rattle.label.specs.Label.{labelOf, finished, programWordFits}
 use Rattle.modification.specs.Assignments.{assignmentsFit}
 use Rattle.program.specs.Sections.{bankOf, segmentOf, tableSectionOf}
@@ -16,13 +16,13 @@ use Rattle.program.specs.Groups.{groupOf}
 use Rattle.program.specs.Start.{inBank}
 use Rattle.indicator.specs.Indicator.{bitsOf, indicatorBits, bitsBefore, numberAt, indicatorAt, afterField, afterWord, afterAll}
 use Rattle.field.specs.Field.{valued, plusOrMinus, movedField, table, referred, pair, minusZero, short, long, constant, switch}
-use Rattle.field.specs.Field.{unit, becomes, putBack, fieldStep}
+use Rattle.field.specs.Field.{unit, becomes, putBack, fieldChange, fieldStep}
 use Rattle.group.specs.Group.{halfStep, wordStep, changedWords, wordsLie, addressOf, indicatorsFit, groupFits, refusedGroup}
 use Rattle.group.specs.Group.{storedGroup, groupOutcome, readOutcome, groupStep}
 use Rattle.stage.specs.Ranges.{labelCountsFit, bankFits, sectionFits, dueFits, stageFits}
 use Rattle.stage.specs.Record.{recordDue, isOver}
 use Rattle.records.specs.Label.{afterLabel, withLabel, labelStep}
-use Rattle.records.specs.Entries.{entryFits, entriesFit, afterEntries, entryStep}
+use Rattle.records.specs.Entries.{entryFits, firstEntry, entriesFit, afterEntries, entryStep}
 use Rattle.records.specs.Termination.{terminationStep}
 use Rattle.sections.specs.Heads.{besideTable, banksFit, withSegment, segmentStep, withSection, sectionStep}
 use Rattle.sections.specs.Program.{afterLast, afterGroup, itemStep, closes, programFrom, programStep}
@@ -57,13 +57,13 @@ use Rattle.worked_file.specs.Split.{splitLabel, firstEntries, lastEntrie
 use Rattle.worked_file.specs.Split.{splitImage}
 
 unfoldable pub opens : ℕ
-unfolding flatMap every everyTwo range tab splice cleared within apart characters spelt modification program termination sumOf
-    checksum wholeBlock sealVerdict verdict isName isRest letterOrDigit tableWordsIn tableWords isCarried tablesInOrder entriesOf
+unfolding flatMap every everyTwo firstNot range tab splice cleared within apart characters spelt modification program termination sumOf
+    checksum wholeBlock sealVerdict verdict isName firstWrong mayStand letterOrDigit tableWordsIn tableWords isCarried tablesStand firstTable tableStands entriesOf
     countsOf withinLimits labelOf finished programWordFits assignmentsFit bankOf segmentOf tableSectionOf groupOf inBank bitsOf
     indicatorBits bitsBefore numberAt indicatorAt afterField afterWord afterAll valued plusOrMinus movedField table referred
-    pair minusZero short long constant switch unit becomes putBack fieldStep halfStep wordStep changedWords wordsLie addressOf
+    pair minusZero short long constant switch unit becomes putBack fieldStep fieldChange halfStep wordStep changedWords wordsLie addressOf
     indicatorsFit groupFits refusedGroup storedGroup groupOutcome readOutcome groupStep labelCountsFit bankFits sectionFits
-    dueFits stageFits recordDue isOver afterLabel withLabel labelStep entryFits entriesFit afterEntries entryStep
+    dueFits stageFits recordDue isOver afterLabel withLabel labelStep entryFits firstEntry entriesFit afterEntries entryStep
     terminationStep besideTable banksFit withSegment segmentStep withSection sectionStep afterLast afterGroup itemStep closes
     programFrom programStep dueStep blockStep listsObey tablesObey tablesOf tableInside tablesApart fourFrom numbersKept
     foursKept hasRoom hasWords wordsFrom wordsKept awayRank ranked ranksKept insert sorted numberIn numbersIn tableOf emptyIn

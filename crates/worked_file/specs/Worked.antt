@@ -3,7 +3,7 @@
 use mathlib.Core.Path.{_≡_}
 use mathlib.Core.List.{List, [], _∷_, _++_, map}
 use lib.ListN.{length, replicate}
-use Rattle.word.specs.Fault.{fault}
+use Rattle.word.specs.Fault.{fault, further}
 use Rattle.word.specs.Lists.{splice, cleared}
 use Rattle.stage.specs.declared.Stage.the-variants.{Label, Complete}
 use Rattle.stage.specs.declared.Step.the-variants.{Refused as RefusedStep}
@@ -15,7 +15,7 @@ use Rattle.demands.specs.Examples.{oldCore, old}
 use Rattle.worked_file.specs.Blocks.{workedIos, workedTables, workedGiven, workedFile}
 use Rattle.worked_file.specs.Image.{workedImage}
 use Rattle.worked_file.specs.Lives.{life, answersTo, coreLeft, statesFrom, Waiting, waitsFrom}
-use Rattle.worked_file.specs.Refused.{answerIn, coreIn, stepIn, faultOf, faultyFiles, edgeFiles}
+use Rattle.worked_file.specs.Refused.{answerIn, coreIn, stepIn, faultyFiles, edgeFiles}
 use Rattle.worked_file.specs.Split.{splitTables, splitGiven, splitLabel, firstEntries, otherEntries, splitFile, splitImage}
 
 -- ---- the worked file
@@ -49,7 +49,7 @@ workedStates = statesFrom workedLife old
 
 -- each is refused in the block that has the fault, with its number
 abbrev pub FaultyAnswers : Type 0
-FaultyAnswers = map (answerIn workedStates) faultyFiles ≡ map (λ f. Refused (faultOf f)) faultyFiles
+FaultyAnswers = map (answerIn workedStates) faultyFiles ≡ map (λ f. Refused (f .fault)) faultyFiles
 
 -- and then the whole area is zero, and every other word of the core as it was
 abbrev pub FaultyCores : Type 0
@@ -60,7 +60,7 @@ abbrev pub workedWaits : List Waiting
 workedWaits = waitsFrom workedGiven (record { stage = Label; core = replicate 0o2200 0 }) workedFile
 
 abbrev pub EdgeSteps : Type 0
-EdgeSteps = map (stepIn workedWaits) edgeFiles ≡ map (λ f. RefusedStep (faultOf f)) edgeFiles
+EdgeSteps = map (stepIn workedWaits) edgeFiles ≡ map (λ f. RefusedStep (f .fault)) edgeFiles
 
 -- ---- the file whose last entry is split across two blocks
 
@@ -75,4 +75,4 @@ SplitTaken = Takes splitGiven Label (replicate 0o2130 0) splitFile Complete (rep
 abbrev pub SplitAnswers : Type 0
 SplitAnswers =
     answersTo (life (splitGiven .area) [] splitTables (splitLabel ∷ firstEntries ∷ otherEntries ∷ []))
-    ≡ Made ∷ Opened 0 ∷ More ∷ More ∷ Refused (fault 16) ∷ []
+    ≡ Made ∷ Opened 0 ∷ More ∷ More ∷ Refused (further 1 (fault 16)) ∷ []
