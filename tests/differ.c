@@ -8,7 +8,8 @@
 
    It ends with a line 'N passed, M failed', N being the calls compared. The first difference ends it, and tells the seed of its
    round: differ SEED 1 does that round again. An answer or a kind of fault that was never seen is a failure too, and so is it where
-   blocks were never seen in whose sum no carry arises, or one, or several, or where a kind of block was never given to reseal. */
+   blocks were never seen in whose sum no carry arises, or one, or several, where a kind of block was never given to reseal, or
+   where a refusal was seen at too few words or not in both halves (where.c). */
 
 #include <inttypes.h>
 #include <stdio.h>
@@ -19,6 +20,7 @@
 #include "differ/deck.h"
 #include "differ/reseal.h"
 #include "differ/steps.h"
+#include "differ/where.h"
 
 enum { STEPS_IN_ROUND = 300, RUSH = 40 };
 
@@ -94,6 +96,7 @@ static bool print_table(void) {
   printf("blocks with no carry in the sum: %" PRIu64 ", with one: %" PRIu64 ", with several: %" PRIu64 "\n", carries_seen[0],
          carries_seen[1], carries_seen[2]);
   printf("desks with one number changed: %" PRIu64 ", refused %" PRIu64 "\n", changed_desks, changed_desks_refused);
+  all = print_where() && all;
   return print_reseals() && all;
 }
 

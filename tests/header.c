@@ -1,6 +1,6 @@
-/* header.c: what clamp.h says beside its calls: versions, the desk's length, names and words of the codes, and that a desk is plain
-   numbers that may be copied, saved and brought back; and the hand deck resealed. C99, C11 and C++; tests/header builds it as each,
-   and runs it with the hand deck on standard input. */
+/* header.c: what clamp.h says beside its calls: versions, the desk's length, names and words of the codes, where a fault is, and
+   that a desk is plain numbers that may be copied, saved and brought back; and the hand deck resealed. C99, C11 and C++:
+   tests/header builds it as each, and runs it with the hand deck on standard input. */
 #include <stdio.h>
 #include <string.h>
 
@@ -85,6 +85,27 @@ static void check_codes(void) {
   check(CLAMP_VALUE(counted(7)) + CLAMP_CODE(counted(7)) == 7 && calls == 3, "the macros evaluate their argument once");
 }
 
+/* ---- where a fault is */
+
+/* Every word and half, put together as the header says; and the codes that tell them. */
+static void check_faults(void) {
+  static const uint64_t halves[] = {CLAMP_HALF_NONE, CLAMP_HALF_LEFT, CLAMP_HALF_RIGHT};
+  uint64_t code, word, half;
+  for (half = 0; half < 3; half++) {
+    check(halves[half] == half, "each half has its number");
+    for (word = 0; word < 256; word++) {
+      uint64_t answer = ((uint64_t)CLAMP_REFUSED_FORM << 32) + 4 * word + half;
+      check(CLAMP_FAULT_WORD(answer) == word && CLAMP_FAULT_HALF(answer) == half, "word and half taken apart");
+      check(CLAMP_CODE(answer) == 19 && CLAMP_TELLS_FAULT(answer), "and the number with them");
+    }
+  }
+  for (code = 0; code < 200; code++)
+    check((CLAMP_TELLS_FAULT((code << 32) + 25) != 0) == (code >= 13 && code <= 22), "refusals 13 to 22 tell where the fault is");
+  calls = 0;
+  check(CLAMP_FAULT_WORD(counted(25)) == 6 && CLAMP_FAULT_HALF(counted(25)) == CLAMP_HALF_LEFT && calls == 2, "25 is word 6, left");
+  check(CLAMP_TELLS_FAULT(counted((uint64_t)22 << 32)) && calls == 3, "these macros evaluate their argument once, too");
+}
+
 /* ---- a desk that is saved and brought back */
 
 struct state {
@@ -130,6 +151,31 @@ static void check_saved(void) {
   }
 }
 
+/* ---- a fault, told by the library */
+
+/* The hand deck's program block, with other indicators of word 6 in word 7, and so another checksum: type 011, which is not carried,
+   for the left half or for the right half. */
+static void check_told_fault(void) {
+  static const struct {
+    uint64_t indicators, checksum, half;
+  } faults[] = {{UINT64_C(0540000000000), 01506451, CLAMP_HALF_LEFT}, {UINT64_C(0260000000000), 01226451, CLAMP_HALF_RIGHT}};
+  uint64_t map[16] = {0, 4096}, block[256], answer;
+  unsigned i;
+  for (i = 0; i < 2; i++) {
+    memcpy(block, deck[1], sizeof block);
+    block[7] = faults[i].indicators;
+    block[255] = faults[i].checksum;
+    clamp_make(first.desk, CLAMP_DESK_WORDS, 4096, map, 16);
+    clamp_open(first.desk, CLAMP_DESK_WORDS, first.core, 4096, 0, 512, 64, NULL, 0, NULL, 0);
+    fed(&first, 0);
+    answer = clamp_feed(first.desk, CLAMP_DESK_WORDS, first.core, 4096, 0, 0, block, 256);
+    check(CLAMP_CODE(answer) == CLAMP_REFUSED_FORM && CLAMP_TELLS_FAULT(answer), "a type that is not carried");
+    check(CLAMP_FAULT_WORD(answer) == 6 && CLAMP_FAULT_HALF(answer) == faults[i].half, "at word 6, in its half");
+    answer = fed(&first, 1);
+    check(answer == (uint64_t)CLAMP_REFUSED_ENDED << 32 && !CLAMP_TELLS_FAULT(answer), "then the load has ended");
+  }
+}
+
 /* ---- the call that needs no desk */
 
 /* By the rule before request #104 the hand deck's program block ended 000001146450. No carry arises in the other blocks, which are
@@ -154,7 +200,9 @@ int main(void) {
   read_deck();
   check_numbers();
   check_codes();
+  check_faults();
   check_saved();
+  check_told_fault();
   check_resealed();
   printf("%lu passed, %lu failed\n", passed, failed);
   return failed != 0;

@@ -28,7 +28,7 @@ enum {
 };
 
 /* "table types carried are 0 (jump switch), 2 (channel), 3 (unit) and 12 (core)" */
-enum { JUMP_SWITCH = 0, CHANNEL = 2, UNIT = 3, CORE = 12, TYPES = 16, TYPES_CARRIED = 4 };
+enum { JUMP_SWITCH = 0, CHANNEL = 2, UNIT = 3, CORE = 12, TYPES = 16 };
 
 /* "two words for types 0, 2 and 3, three for type 12"; "Segment section, first and once, four words" */
 enum { IO_ENTRY = 2, CORE_ENTRY = 3, SEGMENT = 4 };
@@ -88,9 +88,19 @@ static bool any_shares_with(struct run one, const struct run *runs, uint64_t cou
   return false;
 }
 
-/* "A refusal returns its number and the value 0." */
+/* Request #105: "Refusals 1 to 12 still return 0." */
 static uint64_t refused(uint64_t number) {
   return told(number, 0);
+}
+
+/* A fault in a block is the whole answer that it draws, and 0 where there is none. Request #105: "For 13 to 22 the answer's value
+   becomes the word number times 4, plus 1 for a left half, 2 for a right half, 0 otherwise." */
+static uint64_t fault_at(unsigned number, uint64_t word) {
+  return told(number, word * 4);
+}
+
+static uint64_t half_fault(unsigned number, uint64_t word, bool left) {
+  return told(number, word * 4 + (left ? 1 : 2));
 }
 
 /* ---- make */
@@ -209,45 +219,49 @@ static bool letter_or_digit(uint64_t character) {
   return (character >= LETTER_A && character <= LETTER_Z) || (character >= DIGIT_0 && character <= DIGIT_9);
 }
 
-/* "The first is a letter or digit; spaces only at the end." */
-static bool name_is_right(const uint64_t *block) {
+/* "The first is a letter or digit; spaces only at the end." The word at fault is that of the first character that may not stand
+   where it does: after a space that is the next one that is no space. */
+static uint64_t read_name(const uint64_t *block) {
   bool ended = false;
   for (unsigned i = 0; i < NAME_LENGTH; i++) {
-    unsigned low = BITS_IN_WORD - CHARACTER_BITS * (i % IN_WORD + 1);
-    uint64_t character = part(block[i / IN_WORD], low + CHARACTER_BITS - 1, low);
+    unsigned word = i / IN_WORD, low = BITS_IN_WORD - CHARACTER_BITS * (i % IN_WORD + 1);
+    uint64_t character = part(block[word], low + CHARACTER_BITS - 1, low);
     bool named = letter_or_digit(character) || (i > 0 && character == HYPHEN);
     if (i > 0 && character == SPACE)
       ended = true;
     else if (ended || !named)
-      return false;
+      return fault_at(REFUSED_LABEL, word);
   }
-  return true;
+  return 0;
 }
 
-/* "table types carried are 0 (jump switch), 2 (channel), 3 (unit) and 12 (core), in rising order, none twice, none with 0 entries."
-   Word 3 counts tables in bits 28-18 and entries in bits 10-0; a table's word has its type in bits 35-32, its entries in bits 8-0.
-   Gives the entries of each type. */
-static bool read_label_tables(const uint64_t *block, uint64_t entries[TYPES]) {
-  uint64_t tables = part(block[COUNTS], 28, 18), total = 0, type_least = 0;
-  if (tables > TYPES_CARRIED) /* four types, none twice */
-    return false;
-  for (uint64_t i = 0; i < tables; i++) {
-    uint64_t type = part(block[FIRST_TABLE + i], 35, 32), count = part(block[FIRST_TABLE + i], 8, 0);
-    if (type != JUMP_SWITCH && type != CHANNEL && type != UNIT && type != CORE)
-      return false;
-    if (type < type_least || count == 0)
-      return false;
-    entries[type] = count;
-    type_least = type + 1;
-    total += count;
-  }
-  return total == part(block[COUNTS], 10, 0); /* "The entry total must agree" */
+static bool is_carried(uint64_t type) {
+  return type == JUMP_SWITCH || type == CHANNEL || type == UNIT || type == CORE;
 }
 
 /* "Types 0 and 2 together have at most 16 entries, with type 3 at most 128; type 12 has at most 128." */
 static bool entries_in_bounds(const uint64_t entries[TYPES]) {
   uint64_t channels = entries[JUMP_SWITCH] + entries[CHANNEL];
   return channels <= CHANNELS_MOST && channels + entries[UNIT] <= ENTRIES_MOST && entries[CORE] <= ENTRIES_MOST;
+}
+
+/* "table types carried are 0 (jump switch), 2 (channel), 3 (unit) and 12 (core), in rising order, none twice, none with 0 entries."
+   Word 3 counts tables in bits 28-18 and entries in bits 10-0; a table's word has its type in bits 35-32, its entries in bits 8-0.
+   The bounds are tested at each word, for the entries up to there; "a wrong entry total (tested after the table words)" is word 3's
+   (#105). Four types rise, so that a fifth word is at fault whatever it says. Gives the entries of each type. */
+static uint64_t read_label_tables(const uint64_t *block, uint64_t entries[TYPES]) {
+  uint64_t tables = part(block[COUNTS], 28, 18), total = 0, type_least = 0;
+  for (uint64_t at = FIRST_TABLE; at < FIRST_TABLE + tables; at++) {
+    uint64_t type = part(block[at], 35, 32), count = part(block[at], 8, 0);
+    if (!is_carried(type) || type < type_least || count == 0)
+      return fault_at(REFUSED_LABEL, at);
+    entries[type] = count;
+    if (!entries_in_bounds(entries))
+      return fault_at(REFUSED_LABEL, at);
+    type_least = type + 1;
+    total += count;
+  }
+  return total == part(block[COUNTS], 10, 0) ? 0 : fault_at(REFUSED_LABEL, COUNTS); /* "The entry total must agree" */
 }
 
 /* "Word 253: bits 33-18 segments, bits 15-0 table sections, rest zero"; "the segment count is 1, and table sections are no more
@@ -266,24 +280,31 @@ static bool lists_suit(const struct load *load, const uint64_t entries[TYPES]) {
   return true;
 }
 
-/* The label. Gives the fault's number, or 0. */
-static unsigned read_label(struct load *load, const uint64_t *block) {
-  uint64_t entries[TYPES] = {0};
-  if (!name_is_right(block))
-    return REFUSED_LABEL;
+/* What the label says by itself, and how many entries of each type it tells of. */
+static uint64_t read_label_words(const uint64_t *block, uint64_t entries[TYPES]) {
+  uint64_t fault = read_name(block);
+  if (fault != 0)
+    return fault;
   if (part(block[TYPE_FLAG], 35, 33) != 1)
-    return REFUSED_TYPE_FLAG;
-  if (!read_label_tables(block, entries) || !entries_in_bounds(entries))
-    return REFUSED_LABEL;
+    return fault_at(REFUSED_TYPE_FLAG, TYPE_FLAG);
+  fault = read_label_tables(block, entries);
+  if (fault != 0)
+    return fault;
   if (!counts_are_right(block[SEGMENTS_AND_SECTIONS], entries[CORE]))
-    return REFUSED_LABEL;
-  if (block[NAME_AGAIN] != block[0]) /* "Word 255 repeats word 0." */
-    return REFUSED_LABEL;
+    return fault_at(REFUSED_LABEL, SEGMENTS_AND_SECTIONS);
+  return block[NAME_AGAIN] == block[0] ? 0 : fault_at(REFUSED_LABEL, NAME_AGAIN); /* "Word 255 repeats word 0." */
+}
+
+/* The label, and whether it suits the lists: "word 3 for the label's 16" (#105). */
+static uint64_t read_label(struct load *load, const uint64_t *block) {
+  uint64_t entries[TYPES] = {0}, fault = read_label_words(block, entries);
+  if (fault != 0)
+    return fault;
   load->no_longer_tables = bit(block[COUNTS], 35);
   load->channels = entries[JUMP_SWITCH] + entries[CHANNEL];
   load->sections = part(block[SEGMENTS_AND_SECTIONS], 15, 0);
   if (!lists_suit(load, entries))
-    return REFUSED_ASSIGNMENTS;
+    return fault_at(REFUSED_ASSIGNMENTS, COUNTS);
   /* "With no entries there is no modification block." */
   load->stage = load->io_count + load->table_count == 0 ? SEGMENT_DUE : ENTRIES_DUE;
   return 0;
@@ -298,14 +319,14 @@ static bool length_suits(const struct load *load, uint64_t table, uint64_t minim
 }
 
 /* "Words 1 to 254 hold entries, split across blocks where needed": "two words for types 0, 2 and 3, three for type 12"; "only the
-   third word's bits 15-0 matter, the minimum length." */
-static unsigned read_entries(struct load *load, const uint64_t *block) {
+   third word's bits 15-0 matter, the minimum length." That word is the one at fault, in the block where it stands. */
+static uint64_t read_entries(struct load *load, const uint64_t *block) {
   uint64_t io_words = IO_ENTRY * load->io_count, words = io_words + CORE_ENTRY * load->table_count;
   for (unsigned at = FIRST; at <= LAST && load->entry_words < words; at++) {
     uint64_t core_word = load->entry_words - io_words; /* among the words of the core entries, once those are reached */
     bool third = load->entry_words >= io_words && core_word % CORE_ENTRY == CORE_ENTRY - 1;
     if (third && !length_suits(load, core_word / CORE_ENTRY, part(block[at], 15, 0)))
-      return REFUSED_ASSIGNMENTS;
+      return fault_at(REFUSED_ASSIGNMENTS, at);
     load->entry_words++;
   }
   if (load->entry_words == words)
@@ -328,14 +349,15 @@ static bool bank_lies_right(const struct load *load, struct run bank) {
 }
 
 /* "Segment section, first and once, four words: IBANK, DBANK, two disregarded." A zero word or the end closes a block before it,
-   so that it always heads a block: its four words are never split. */
-static unsigned read_segment(struct load *load, const uint64_t *block, unsigned *at) {
+   so that it always heads a block: its four words are never split. The word at fault is "the identifier's first for 17 and 18"
+   (#105), the DBANK's faults too. */
+static uint64_t read_segment(struct load *load, const uint64_t *block, unsigned *at) {
   if (!read_bank(block[*at], &load->ibank) || !read_bank(block[*at + 1], &load->dbank))
-    return REFUSED_SECTION;
+    return fault_at(REFUSED_SECTION, *at);
   if (load->ibank.length == 0) /* "IBANK count at least 1; DBANK may be 0." */
-    return REFUSED_SECTION;
+    return fault_at(REFUSED_SECTION, *at);
   if (!bank_lies_right(load, load->ibank) || !bank_lies_right(load, load->dbank) || share(load->ibank, load->dbank))
-    return REFUSED_SECTION;
+    return fault_at(REFUSED_SECTION, *at);
   load->in_table = false;
   load->stage = GROUP_DUE;
   *at += SEGMENT;
@@ -344,14 +366,14 @@ static unsigned read_segment(struct load *load, const uint64_t *block, unsigned 
 
 /* "Table section, one word: bits 35-34 are 01, bits 33-18 a count from 1 to the assigned length, bits 17-8 zero, bits 7-0 the
    table's number, rising from section to section. All other words, and a number with no table, are 17." */
-static unsigned read_table_section(struct load *load, const uint64_t *block, unsigned *at) {
+static uint64_t read_table_section(struct load *load, const uint64_t *block, unsigned *at) {
   uint64_t word = block[*at], count = part(word, 33, 18), table = part(word, 7, 0);
   if (part(word, 35, 34) != TABLE_SECTION || part(word, 17, 8) != 0)
-    return REFUSED_SECTION;
+    return fault_at(REFUSED_SECTION, *at);
   if (table < load->table_least || table >= load->table_count)
-    return REFUSED_SECTION;
+    return fault_at(REFUSED_SECTION, *at);
   if (count == 0 || count > load->tables[table].length)
-    return REFUSED_SECTION;
+    return fault_at(REFUSED_SECTION, *at);
   load->in_table = true;
   load->table = table;
   load->section_words = count;
@@ -362,7 +384,7 @@ static unsigned read_table_section(struct load *load, const uint64_t *block, uns
   return 0;
 }
 
-/* ---- program blocks: fields */
+/* ---- program blocks: fields. Of a fault these give the number, or 0: which word and half it is, store_words knows. */
 
 /* Type 001: "table address plus or minus a table length". "type 001 has bit 15 zero, bit 14 set for minus, bits 13-7 the address's
    number, bits 6-0 the length's." */
@@ -452,6 +474,7 @@ static unsigned change_half(const struct load *load, bool left, uint64_t type, u
 /* The words of a group after its identifier. "The program words come first." */
 struct group {
   const uint64_t *words;
+  uint64_t first_word; /* the number of the first of them in its block */
   uint64_t program_words;
   uint64_t indicator_bits; /* of the words after those */
   const uint64_t *last;    /* its last word */
@@ -495,8 +518,9 @@ static bool indicators_fit(const struct group *group) {
 }
 
 /* "Each program word has a left indicator, then a right": changes the words and stores them from `to` on. Words stored before a
-   fault do not matter, since the fault has the whole area set to zero. */
-static unsigned store_words(const struct load *load, const struct group *group, uint64_t *to) {
+   fault do not matter, since the fault has the whole area set to zero. The word at fault is "the program word for 19 to 21" (#105),
+   and the half is told. */
+static uint64_t store_words(const struct load *load, const struct group *group, uint64_t *to) {
   uint64_t at = 0;
   for (uint64_t i = 0; i < group->program_words; i++) {
     uint64_t word = group->words[i];
@@ -506,7 +530,7 @@ static unsigned store_words(const struct load *load, const struct group *group, 
       if (length > NO_CHANGE)
         fault = change_half(load, half == 0, indicator(group, at + 1, 3), nine, &word);
       if (fault != 0)
-        return fault;
+        return half_fault(fault, group->first_word + i, half == 0);
       at += length;
     }
     to[i] = word;
@@ -539,17 +563,16 @@ static void end_section(struct load *load) {
 
 /* "Group: bits 35-34 are 10, bits 33-26 the words after the identifier, bits 25-18 the program words (at least 1), bit 17 set on
    the section's last group, .. bits 15-0 the relative address." It stays in one block, "Otherwise 18, tested before any field". */
-static unsigned read_group(struct load *load, uint64_t *core, const uint64_t *block, unsigned *at) {
-  uint64_t word = block[*at], words = part(word, 33, 26), program_words = part(word, 25, 18), relative = part(word, 15, 0);
+static uint64_t read_group(struct load *load, uint64_t *core, const uint64_t *block, unsigned *at) {
+  uint64_t word = block[*at], words = part(word, 33, 26), program_words = part(word, 25, 18), relative = part(word, 15, 0), fault;
   struct home home;
-  unsigned fault;
   if (part(word, 35, 34) != GROUP || program_words == 0 || program_words > words || *at + words > LAST)
-    return REFUSED_GROUP;
+    return fault_at(REFUSED_GROUP, *at);
   if (!find_home(load, bit(word, 16), &home) || !inside((struct run){relative, program_words}, home.run))
-    return REFUSED_GROUP;
-  struct group group = {block + *at + 1, program_words, BITS_IN_WORD * (words - program_words), block + *at + words};
+    return fault_at(REFUSED_GROUP, *at);
+  struct group group = {block + *at + 1, *at + 1, program_words, BITS_IN_WORD * (words - program_words), block + *at + words};
   if (!indicators_fit(&group))
-    return REFUSED_GROUP;
+    return fault_at(REFUSED_GROUP, *at);
   fault = store_words(load, &group, core + home.zero + relative);
   if (bit(word, 17))
     end_section(load);
@@ -558,8 +581,9 @@ static unsigned read_group(struct load *load, uint64_t *core, const uint64_t *bl
 }
 
 /* "where an identifier's first word is due, a zero word or the end at word 254 closes the block." */
-static unsigned read_program(struct load *load, uint64_t *core, const uint64_t *block) {
-  unsigned at = FIRST, fault = 0;
+static uint64_t read_program(struct load *load, uint64_t *core, const uint64_t *block) {
+  unsigned at = FIRST;
+  uint64_t fault = 0;
   while (fault == 0 && load->stage != TERMINATION_DUE && at <= LAST && block[at] != 0) {
     if (load->stage == SEGMENT_DUE)
       fault = read_segment(load, block, &at);
@@ -574,10 +598,10 @@ static unsigned read_program(struct load *load, uint64_t *core, const uint64_t *
 /* ---- the termination block */
 
 /* "Termination: word 1 bits 15-0 give the start, relative to the Program Name." Refusal 22: "start not in the IBANK". */
-static unsigned read_termination(struct load *load, const uint64_t *block) {
+static uint64_t read_termination(struct load *load, const uint64_t *block) {
   uint64_t start = part(block[FIRST], 15, 0);
   if (!inside((struct run){start, 1}, load->ibank))
-    return REFUSED_START;
+    return fault_at(REFUSED_START, FIRST);
   load->start = load->area.start + start;
   load->stage = COMPLETE;
   return 0;
@@ -617,16 +641,17 @@ static bool is_sealed(const struct load *load, const uint64_t *block) {
 
 /* "Order: one label, modification blocks, program blocks, one termination block. A label is known by its place alone and never
    gives 13." */
-static unsigned read_block(struct load *load, uint64_t *core, const uint64_t *block) {
+static uint64_t read_block(struct load *load, uint64_t *core, const uint64_t *block) {
+  const uint64_t wrong_record = fault_at(REFUSED_RECORD, IDENTIFIER);
   switch (load->stage) {
   case LABEL_DUE:
     return read_label(load, block);
   case ENTRIES_DUE:
-    return block[IDENTIFIER] == MODRC ? read_entries(load, block) : REFUSED_RECORD;
+    return block[IDENTIFIER] == MODRC ? read_entries(load, block) : wrong_record;
   case TERMINATION_DUE:
-    return block[IDENTIFIER] == TRMRC ? read_termination(load, block) : REFUSED_RECORD;
+    return block[IDENTIFIER] == TRMRC ? read_termination(load, block) : wrong_record;
   default:
-    return block[IDENTIFIER] == PRORC ? read_program(load, core, block) : REFUSED_RECORD;
+    return block[IDENTIFIER] == PRORC ? read_program(load, core, block) : wrong_record;
   }
 }
 
@@ -647,9 +672,9 @@ static unsigned not_theirs(const struct reader *desk, uint64_t core_length, uint
 uint64_t reader_feed(struct reader *desk, uint64_t *core, uint64_t core_length, uint64_t room, uint64_t place,
                      const uint64_t *block, uint64_t block_length) {
   struct load *load;
-  unsigned fault = not_theirs(desk, core_length, room, place);
-  if (fault != 0)
-    return refused(fault);
+  uint64_t fault, number = not_theirs(desk, core_length, room, place);
+  if (number != 0)
+    return refused(number);
   load = &desk->places[place];
   if (load->stage == COMPLETE || load->stage == BROKEN)
     return refused(REFUSED_ENDED);
@@ -661,7 +686,7 @@ uint64_t reader_feed(struct reader *desk, uint64_t *core, uint64_t core_length, 
   if (fault != 0) { /* "Refusals 13 to 22 set the whole area to zero and mark the load broken." */
     clear_area(load, core);
     load->stage = BROKEN;
-    return refused(fault);
+    return fault;
   }
   /* "An accepted block answers more, and the termination block answers done with the absolute start." */
   return load->stage == COMPLETE ? told(DONE, load->start) : told(MORE, 0);
@@ -671,9 +696,9 @@ uint64_t reader_feed(struct reader *desk, uint64_t *core, uint64_t core_length, 
 
 /* "frees the place and its area, which serve again, and writes no core word" */
 uint64_t reader_release(struct reader *desk, uint64_t core_length, uint64_t room, uint64_t place) {
-  unsigned fault = not_theirs(desk, core_length, room, place);
-  if (fault != 0)
-    return refused(fault);
+  unsigned number = not_theirs(desk, core_length, room, place);
+  if (number != 0)
+    return refused(number);
   desk->places[place].stage = FREE;
   return told(RELEASED, 0);
 }

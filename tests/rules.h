@@ -58,12 +58,26 @@ static inline uint64_t told(uint64_t code, uint64_t value) {
   return code << 32 | value;
 }
 
-/* "A refusal returns its number and the value 0": REFUSED(AREA) is the answer of refusal 7. */
+/* Where a fault is, the value of refusals 13 to 22 (request #105): "the word number times 4, plus 1 for a left half, 2 for a right
+   half, 0 otherwise". The word is counted in its block. */
+enum { NO_HALF = 0, LEFT_HALF = 1, RIGHT_HALF = 2, HALVES = 3 };
+
+static inline uint64_t where(uint64_t word, unsigned half) {
+  return 4 * word + half;
+}
+
+/* "Refusals 1 to 12 still return 0" (#105): REFUSED(AREA) is the answer of refusal 7. REFUSED_AT(START, 1) is that of refusal 22,
+   which is at word 1. */
 #define REFUSED(why) told(REFUSED_##why, 0)
+#define REFUSED_AT(why, word) told(REFUSED_##why, where(word, NO_HALF))
 
 /* "Refusals 1 to 12 change nothing." */
 static inline bool changes_nothing(uint64_t code) {
   return code <= REFUSED_CHECKSUM;
+}
+
+static inline bool tells_where(uint64_t code) {
+  return REFUSED_RECORD <= code && code <= REFUSED_START;
 }
 
 #endif

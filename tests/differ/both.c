@@ -12,6 +12,7 @@
 #include <unistd.h>
 
 #include "guarded.h"
+#include "where.h"
 
 enum { FENCE = 8 };
 
@@ -173,11 +174,16 @@ uint64_t both_open(uint64_t length, uint64_t room, struct run area, const struct
 }
 
 uint64_t both_feed(uint64_t length, uint64_t room, uint64_t place, const struct numbers *block, uint64_t answer) {
+  const struct load *load = &reader.places[place < PLACES ? place : 0]; /* a place that there is not is refused with 9 at most */
+  enum stage due = load->stage;
+  bool later = load->entry_words > 0;
   uint64_t proved = clamp_feed(lent_desk.start, desk_words, core_of(length), length, room, place,
                                lend_copy(&lent_first, block->at, block->count), block->count);
   uint64_t plain = reader_feed(&reader, mirror, length, room, place, block->at, block->count);
   compare("feed", proved, plain, answer);
   check_other_core("feed", length, proved);
+  if (tells_where(CLAMP_CODE(proved)) && !note_where(due, later, proved))
+    fail("feed", "a refusal that cannot be at that word and half", proved, plain, answer);
   return proved;
 }
 

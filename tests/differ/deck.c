@@ -95,9 +95,11 @@ static void check_printed_deck(void) {
 /* "area at 5000", "table 0 at 40,000, length 120" */
 enum { AREA_START = 5000, AREA_SIZE = 60000, TABLE_START = 40000, TABLE_LENGTH = 120 };
 
+/* A program block with one group of one word, as the load printer's: where its words are. */
+enum { IBANK_WORD = 1, GROUP_WORD = 5, PROGRAM_WORD = 6, INDICATOR_WORD = 7 };
+
 /* Feeds a file with one core table of at least that length, and a program of this one word, whose indicators stand in one word. */
 static void feed_word(uint64_t word, uint64_t indicators, uint64_t answer) {
-  enum { IBANK = FIRST_WORD, GROUP = FIRST_WORD + SEGMENT_WORDS };
   const uint64_t name = fieldata("P     "), spaces = fieldata("      ");
   const struct at label[] = {{NAME_WORD, name},
                              {NAME_WORD + 1, spaces},
@@ -108,8 +110,8 @@ static void feed_word(uint64_t word, uint64_t indicators, uint64_t answer) {
                              {NAME_AGAIN_WORD, name},
                              {0, 0}};
   const struct at entry[] = {{IDENTIFIER_WORD, MODRC}, {CORE_ENTRY_WORDS, TABLE_LENGTH}, {0, 0}};
-  const struct at program[] = {{IDENTIFIER_WORD, PRORC}, {IBANK, put(0, 33, 18, 1)}, {GROUP, 0401001400000},
-                               {GROUP + 1, word},        {GROUP + 2, indicators},    {0, 0}};
+  const struct at program[] = {{IDENTIFIER_WORD, PRORC}, {IBANK_WORD, put(0, 33, 18, 1)}, {GROUP_WORD, 0401001400000},
+                               {PROGRAM_WORD, word},     {INDICATOR_WORD, indicators},    {0, 0}};
   struct numbers blocks[3] = {deck_block(label), deck_block(entry), deck_block(program)};
   for (int i = 0; i < 3; i++)
     seal(blocks[i].at, i == 0);
@@ -118,16 +120,17 @@ static void feed_word(uint64_t word, uint64_t indicators, uint64_t answer) {
   both_feed(CORE_MOST, 0, 0, &blocks[2], answer);
 }
 
-/* A field in either half, whose indicator has zeros after the type: what it becomes, or the refusal. Every bit of the word outside
-   the field is set, and is to stay so. */
+/* A field in either half, whose indicator has zeros after the type: what it becomes, or the refusal, which tells this word and half.
+   Every bit of the word outside the field is set, and is to stay so. */
 static void check_field(uint64_t type, uint64_t field, unsigned refusal, uint64_t becomes) {
   struct numbers none = {.count = 0}, tables = {.at = {TABLE_START, TABLE_LENGTH}, .count = 2};
   for (unsigned half = 0; half < 2; half++) {
     unsigned low = half == 0 ? 18 : 0,
              indicator_low = BITS_IN_WORD - half - CHANGE_BITS; /* before a right indicator stands the left one, 0 */
+    uint64_t refused = told(refusal, where(PROGRAM_WORD, half == 0 ? LEFT_HALF : RIGHT_HALF));
     uint64_t all = bit_at(BITS_IN_WORD) - 1, before = put(all, low + 15, low, field), after = put(all, low + 15, low, becomes);
     both_open(CORE_MOST, 0, (struct run){AREA_START, AREA_SIZE}, &none, &tables, told(OPENED, 0));
-    feed_word(before, (bit_at(CHANGE_BITS - 1) | type) << indicator_low, refusal != 0 ? told(refusal, 0) : told(MORE, 0));
+    feed_word(before, (bit_at(CHANGE_BITS - 1) | type) << indicator_low, refusal != 0 ? refused : told(MORE, 0));
     check(lent_core.start[AREA_START] == (refusal != 0 ? 0 : after), "the word of a field");
     both_release(CORE_MOST, 0, 0, told(RELEASED, 0));
   }

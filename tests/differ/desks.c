@@ -4,6 +4,7 @@
 #include <string.h>
 
 #include "steps.h"
+#include "where.h"
 
 uint64_t changed_desks, changed_desks_refused;
 
@@ -64,7 +65,9 @@ void step_any_desk(void) {
 /* Whether the call can give such an answer at all. */
 static bool is_answer_of(uint64_t which, uint64_t answer) {
   uint64_t code = CLAMP_CODE(answer), value = CLAMP_VALUE(answer);
-  if (code >= REFUSED_DESK && code <= (which == OPEN ? REFUSED_LISTS : which == FEED ? REFUSED_START : REFUSED_PLACE))
+  if (which == FEED && tells_where(code))
+    return can_be(answer);
+  if (code >= REFUSED_DESK && code <= (which == OPEN ? REFUSED_LISTS : which == FEED ? REFUSED_CHECKSUM : REFUSED_PLACE))
     return value == 0;
   if (which == OPEN)
     return code == OPENED && value < PLACES;

@@ -4,6 +4,8 @@
 
 #include <string.h>
 
+#include "where.h"
+
 uint64_t faults_seen[FAULT_KINDS], carries_seen[3];
 
 /* What is fed to each place, and whether what comes of it is still foretold. */
@@ -163,7 +165,7 @@ static uint64_t foretell(unsigned place) {
   if (!foretold[place])
     return 0;
   if (file->faulty && block >= file->fault_block)
-    return file->fault_answer == NOT_FORETOLD ? 0 : told(file->fault_answer, 0);
+    return file->fault_answer == NOT_FORETOLD ? 0 : told(file->fault_answer, file->fault_where);
   return block == file->termination ? told(DONE, file->start) : told(MORE, 0);
 }
 
@@ -181,6 +183,7 @@ static void feed(unsigned place) {
   carries_seen[carries < 2 ? carries : 2]++;
   if (foretold[place] && file->faulty && next_block[place] == file->fault_block) {
     faults_seen[file->wanted]++;
+    note_fault(file->wanted, answer);
     if (file->fault_answer == REFUSED_CHECKSUM) { /* it has changed nothing: the file goes on with this block, sealed by the rule */
       seal(file->blocks[file->fault_block], label);
       file->faulty = false;

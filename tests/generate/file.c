@@ -8,25 +8,39 @@
 
 /* ---- modification blocks */
 
+/* Whether a table is to be too short for the entry whose third word is written next. */
+static bool is_short(struct writer *writer) {
+  enum { FIRST_BLOCK = 1 }; /* the label is block 0 */
+  bool later = writer->file->count - 1 > FIRST_BLOCK;
+  return fires_sometime(writer, LENGTH_SHORT) || fires_again(writer, LENGTH_SHORT) ||
+         (later && fires_sometime(writer, LENGTH_LATER)) || fires_again(writer, LENGTH_LATER);
+}
+
 /* What the third word of a core entry tells as the least length. */
 static uint64_t least_length(struct writer *writer, uint64_t length) {
   struct chance *chance = writer->chance;
-  if (length < VALUE_MOST && fires_sometime(writer, LENGTH_SHORT))
+  if (length < VALUE_MOST && is_short(writer))
     return one_in(chance, 2) ? length + 1 : between(chance, length + 1, VALUE_MOST);
-  if (length > 0 && fires_sometime(writer, LENGTH_STRICT))
+  if (length > 0 && (fires_sometime(writer, LENGTH_STRICT) || fires_again(writer, LENGTH_STRICT)))
     return one_in(chance, 2) ? length - 1 : below(chance, length);
   if (writer->file->no_longer_tables || one_in(chance, 3))
     return smaller(length, VALUE_MOST);
   return below(chance, smaller(length, VALUE_MOST) + 1);
 }
 
-/* One word of an entry, in this block or the next. */
-static void write_entry_word(struct writer *writer, uint64_t word) {
+/* The next word of the entries is to stand in this block or, where it is full, in another. */
+static void make_entry_room(struct writer *writer) {
   if (writer->at > LAST_WORD) {
     end_block(writer);
     begin_block(writer, MODRC);
   }
-  write_word(writer, word);
+}
+
+static void write_any(struct writer *writer, uint64_t words) {
+  while (words-- > 0) {
+    make_entry_room(writer);
+    write_word(writer, any_word(writer->chance));
+  }
 }
 
 void write_entries(struct writer *writer) {
@@ -34,13 +48,12 @@ void write_entries(struct writer *writer) {
   if (file->io_count + file->table_count == 0)
     return;
   begin_block(writer, MODRC);
-  for (uint64_t i = 0; i < IO_ENTRY_WORDS * file->io_count; i++)
-    write_entry_word(writer, any_word(writer->chance));
+  write_any(writer, IO_ENTRY_WORDS * file->io_count);
   for (uint64_t table = 0; table < file->table_count; table++) {
-    for (int i = 0; i < CORE_ENTRY_WORDS; i++)
-      write_entry_word(writer, any_word(writer->chance));
-    uint64_t *third = &block_of(writer)[writer->at - 1]; /* a fault is marked in the block that it stands in */
-    *third = put(*third, 15, 0, least_length(writer, file->tables[table].length));
+    write_any(writer, CORE_ENTRY_WORDS - 1);
+    make_entry_room(writer); /* first: a fault is marked at the word that is written next */
+    uint64_t least = least_length(writer, file->tables[table].length);
+    write_word(writer, put(any_word(writer->chance), 15, 0, least));
   }
   end_block(writer);
 }
@@ -86,23 +99,23 @@ static void block_faults(struct chance *chance, struct file *file) {
   unsigned later = (unsigned)between(chance, 1, file->count - 1), one = (unsigned)below(chance, file->count);
   if (file->wanted == OLD_SEAL) {
     if (seal_as_before(file->blocks[one], one == 0))
-      mark(file, one);
+      mark(file, one, 0);
   } else if (file->wanted == RECORD) {
     file->blocks[later][IDENTIFIER_WORD] = other_identifier(chance, file->blocks[later][IDENTIFIER_WORD]);
     seal(file->blocks[later], false);
-    mark(file, later);
+    mark(file, later, where(IDENTIFIER_WORD, NO_HALF));
   } else if (file->wanted == WILD_BITS) {
     turn_bits(chance, file->blocks[one]);
     seal(file->blocks[one], one == 0);
-    mark(file, one);
+    mark(file, one, 0);
   } else if (file->wanted == BLOCK_SKIPPED) {
     memmove(file->blocks[one], file->blocks[one + 1], (file->count - one - 1) * sizeof file->blocks[0]);
     file->count--;
-    mark(file, one);
+    mark(file, one, 0);
   } else if (file->wanted == BLOCK_TWICE && file->count < BLOCKS_MOST) {
     memmove(file->blocks[one + 1], file->blocks[one], (file->count - one) * sizeof file->blocks[0]);
     file->count++;
-    mark(file, one + 1);
+    mark(file, one + 1, 0);
   }
 }
 

@@ -2,7 +2,8 @@
 
    A file is made for an area: banks and tables are laid out in it first, which gives the lists for open, then the blocks are
    written so that they fit. While it writes, the generator notes what each word of the area is to be in the end, and which block is
-   to be refused with which number. So each load has three opinions: the proved loader's, the reader's and the generator's. */
+   to be refused with which number, and at which word and half. So each load has three opinions: the proved loader's, the reader's
+   and the generator's. */
 
 #ifndef GENERATE_H
 #define GENERATE_H
@@ -38,9 +39,12 @@ enum { NOT_FORETOLD = 0 };
   X(TYPE_FLAG_THEN_LABEL, REFUSED_TYPE_FLAG, "another program type, and a later label fault") \
   X(LABEL_THEN_TYPE_FLAG, REFUSED_LABEL, "a fault in the name, and another program type")     \
   X(NAME_START, REFUSED_LABEL, "a name that begins with neither letter nor digit")            \
-  X(NAME_CHARACTER, REFUSED_LABEL, "a character that no name has")                            \
+  X(NAME_FIRST_WORD, REFUSED_LABEL, "a character that no name has, in word 0")                \
+  X(NAME_SECOND_WORD, REFUSED_LABEL, "a character that no name has, in word 1")               \
   X(NAME_GAP, REFUSED_LABEL, "a space inside the name")                                       \
-  X(TABLE_COUNT, REFUSED_LABEL, "a count of tables that is not theirs")                       \
+  X(NAME_GAP_ACROSS, REFUSED_LABEL, "a space in word 0, and the next character in word 1")    \
+  X(TABLES_FEWER, REFUSED_LABEL, "a count of fewer tables than there are")                    \
+  X(TABLES_MORE, REFUSED_LABEL, "a count of more tables than there are")                      \
   X(TABLE_TYPE, REFUSED_LABEL, "a table type that is not carried")                            \
   X(TABLE_ORDER, REFUSED_LABEL, "table types that do not rise")                               \
   X(TABLE_TWICE, REFUSED_LABEL, "a table type twice")                                         \
@@ -48,6 +52,7 @@ enum { NOT_FORETOLD = 0 };
   X(CHANNELS_MANY, REFUSED_LABEL, "over 16 entries of types 0 and 2")                         \
   X(IO_MANY, REFUSED_LABEL, "over 128 I/O entries")                                           \
   X(CORE_MANY, REFUSED_LABEL, "over 128 core entries")                                        \
+  X(MANY_THEN_ORDER, REFUSED_LABEL, "over 16 of types 0 and 2, then a type too low")          \
   X(ENTRY_TOTAL, REFUSED_LABEL, "an entry total that is not theirs")                          \
   X(SEGMENTS, REFUSED_LABEL, "not one segment")                                               \
   X(SECTIONS_MANY, REFUSED_LABEL, "more table sections than core entries")                    \
@@ -59,6 +64,7 @@ enum { NOT_FORETOLD = 0 };
   X(CHANNEL_OVER_15, REFUSED_ASSIGNMENTS, "a jump switch or channel number over 15")          \
   X(LENGTH_SHORT, REFUSED_ASSIGNMENTS, "a table shorter than the least length")               \
   X(LENGTH_STRICT, REFUSED_ASSIGNMENTS, "a longer table where none may be longer")            \
+  X(LENGTH_LATER, REFUSED_ASSIGNMENTS, "a table too short, in a later block")                 \
   X(BANK_BITS, REFUSED_SECTION, "a bit in a bank word that must be zero")                     \
   X(IBANK_EMPTY, REFUSED_SECTION, "an empty IBANK")                                           \
   X(BANK_LONG, REFUSED_SECTION, "a bank that ends past the area")                             \
@@ -131,7 +137,8 @@ struct file {
   enum fault wanted;     /* the kind of fault asked for, */
   bool faulty;           /* whether there was a place for it, */
   unsigned fault_block;  /* in which block, */
-  unsigned fault_answer; /* and which refusal it draws there */
+  unsigned fault_answer; /* which refusal it draws there, */
+  uint64_t fault_where;  /* and at which word and half, as that refusal's value tells it */
   unsigned termination;  /* with no fault: the block that completes the load, */
   uint64_t start;        /* the absolute start, */
   uint64_t *image;       /* and each word of the area once done */

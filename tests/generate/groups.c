@@ -30,12 +30,14 @@ static bool is_field_fault(enum fault fault) {
   return TYPE_NOT_CARRIED <= fault && fault <= LONG_OVER;
 }
 
-/* What this half is to be. False: it is not changed. */
-static bool choose_change(struct writer *writer, const struct group *group, bool left, struct change *change) {
+/* What this half is to be. False: it is not changed. The group's identifier is the word that is written next. After a fault the
+   rest of the group may be at fault too: the first one is given. */
+static bool choose_change(struct writer *writer, struct group *group, bool left, struct change *change) {
   struct chance *chance = writer->chance;
   struct file *file = writer->file;
   if (is_field_fault(file->wanted) && !file->faulty && one_in(chance, writer->rare) && faulty_change(chance, file, left, change)) {
-    mark(file, file->count - 1);
+    mark(file, file->count - 1, where(writer->at + 1 + group->words, left ? LEFT_HALF : RIGHT_HALF));
+    group->wild = one_in(chance, 2);
     return true;
   }
   if (group->wild) {
@@ -146,12 +148,12 @@ static bool write_past_254(struct writer *writer, const struct home *home) {
   if (home->run.length < WORDS_MOST || !wants(writer, GROUP_PAST_254) || one_in(writer->chance, 2))
     return false;
   make_room(writer, LEAST_GROUP);
-  fires(writer, GROUP_PAST_254);
   while (writer->at < LAST_WORD - WORDS_MOST) {
     write_plain_group(writer, home, 1);
     write_word(writer, any_word(writer->chance));
     write_word(writer, any_word(writer->chance) >> 2);
   }
+  fires(writer, GROUP_PAST_254);
   write_plain_group(writer, home, LAST_WORD - writer->at);
   writer->at = CHECKSUM_WORD;
   return true;

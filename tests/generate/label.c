@@ -14,6 +14,8 @@ static uint64_t table_word(struct chance *chance, uint64_t type, uint64_t entrie
   return put(put(any_word(chance), 35, 32, type), 8, 0, entries);
 }
 
+enum { TOTAL_BITS = 11 }; /* the entries in all are bits 10-0 of word 3 */
+
 /* The word with these counts of tables and entries. */
 static uint64_t with_counts(uint64_t word, uint64_t tables, uint64_t entries) {
   return put(put(word, 28, 18, tables), 10, 0, entries);
@@ -49,52 +51,20 @@ static void insert_table(struct writer *writer, uint64_t place, uint64_t type, u
   block[COUNTS_WORD] = with_counts(block[COUNTS_WORD], tables + 1, total + entries);
 }
 
-static void put_name(uint64_t *block, const unsigned characters[NAME_CHARACTERS]) {
-  uint64_t *name = block + NAME_WORD;
-  name[0] = name[1] = 0;
-  for (int i = 0; i < NAME_CHARACTERS; i++)
-    name[i / CHARACTERS_IN_WORD] = name[i / CHARACTERS_IN_WORD] << CHARACTER_BITS | characters[i];
-}
-
-static unsigned name_character(struct chance *chance) {
-  unsigned which = (unsigned)below(chance, LETTERS + DIGITS + 1);
-  return which == LETTERS + DIGITS ? HYPHEN : which < LETTERS ? FIRST_LETTER + which : FIRST_DIGIT + which - LETTERS;
-}
-
-/* A character that stands nowhere in a name. */
-static unsigned no_character(struct chance *chance) {
-  static const unsigned char gaps[4][2] = {
-      {000, SPACE - 1}, {LAST_LETTER + 1, HYPHEN - 1}, {HYPHEN + 1, FIRST_DIGIT - 1}, {LAST_DIGIT + 1, 077}};
-  unsigned which = (unsigned)below(chance, 4);
-  return (unsigned)between(chance, gaps[which][0], gaps[which][1]);
-}
-
-static void write_name(struct writer *writer) {
-  struct chance *chance = writer->chance;
-  enum { LAST = NAME_CHARACTERS - 1 };
-  unsigned characters[NAME_CHARACTERS], length = (unsigned)between(chance, 1, NAME_CHARACTERS);
-  unsigned space = (unsigned)between(chance, 1, LAST - 1), later = (unsigned)between(chance, 1, LAST);
-  unsigned after_space = (unsigned)between(chance, space + 1, LAST);
-  for (unsigned i = 0; i < NAME_CHARACTERS; i++)
-    characters[i] = i < length ? name_character(chance) : SPACE;
-  while (characters[0] == HYPHEN)
-    characters[0] = name_character(chance);
-  if (fires(writer, NAME_START))
-    characters[0] = one_in(chance, 3) ? SPACE : one_in(chance, 2) ? HYPHEN : no_character(chance);
-  if (fires(writer, NAME_CHARACTER) || fires(writer, LABEL_THEN_TYPE_FLAG))
-    characters[later] = no_character(chance);
-  if (fires(writer, NAME_GAP)) {
-    characters[space] = SPACE;
-    characters[after_space] = name_character(chance);
-  }
-  put_name(block_of(writer), characters);
-}
-
 static void write_type_flag(struct writer *writer) {
   static const uint64_t others[7] = {0, 2, 3, 4, 5, 6, 7}; /* but DIRECT_ROC */
-  bool other = fires(writer, TYPE_FLAG) || fires(writer, TYPE_FLAG_THEN_LABEL) || writer->file->wanted == LABEL_THEN_TYPE_FLAG;
+  bool other = fires_at(writer, TYPE_FLAG, TYPE_FLAG_WORD) || fires_at(writer, TYPE_FLAG_THEN_LABEL, TYPE_FLAG_WORD) ||
+               writer->file->wanted == LABEL_THEN_TYPE_FLAG;
   uint64_t flag = other ? others[below(writer->chance, 7)] : DIRECT_ROC;
   block_of(writer)[TYPE_FLAG_WORD] = put(any_word(writer->chance), 35, 33, flag);
+}
+
+/* The word that tells of this type, or would, where these are the entries. */
+static unsigned word_of_type(const uint64_t entries[TYPES], unsigned type) {
+  unsigned word = TABLES_WORD;
+  for (int i = 0; carried[i] != type; i++)
+    word += entries[carried[i]] != 0;
+  return word;
 }
 
 /* A type that is not carried, in the place of a table's or, where there is none, as the only one. */
@@ -110,58 +80,102 @@ static void other_type(struct writer *writer) {
     type = one_in(chance, 2) ? beside[below(chance, 4)] : between(chance, least, most);
   while (is_carried(type));
   *word = put(*word, 35, 32, type);
+  fires_at(writer, TABLE_TYPE, (unsigned)(TABLES_WORD + which));
+}
+
+/* A count of tables that is not theirs. With too few, the entries are not those in all. With too many, the word after the last is
+   at fault: no type rises a fifth time, and where there are fewer tables it does not rise or is not carried. */
+static void wrong_table_count(struct writer *writer) {
+  struct chance *chance = writer->chance;
+  uint64_t *block = block_of(writer), tables = tables_told(block), *after = &block[TABLES_WORD + tables];
+  if (tables > 0 && fires_at(writer, TABLES_FEWER, COUNTS_WORD))
+    block[COUNTS_WORD] = put(block[COUNTS_WORD], 28, 18, below(chance, tables));
+  if (fires_at(writer, TABLES_MORE, (unsigned)(TABLES_WORD + tables))) {
+    uint64_t more = one_in(chance, 2) ? 1 : bit_at((unsigned)between(chance, 3, 10));
+    uint64_t type = tables > 0 && one_in(chance, 2) ? type_told(after[-1]) : TYPE_CHANNEL - 1;
+    block[COUNTS_WORD] = put(block[COUNTS_WORD], 28, 18, tables + more);
+    if (tables < TYPES_CARRIED)
+      *after = table_word(chance, type, 1);
+  }
+}
+
+/* Entries in all that are not the tables': the count in all, or fewer in a table. */
+static void wrong_total(struct writer *writer) {
+  struct chance *chance = writer->chance;
+  uint64_t *block = block_of(writer), tables = tables_told(block), *word = &block[TABLES_WORD + below(chance, tables + 1)];
+  uint64_t entries = word < block + TABLES_WORD + tables ? part(*word, 8, 0) : 0;
+  if (entries > 1 && one_in(chance, 2))
+    *word = put(*word, 8, 0, between(chance, 1, entries - 1));
+  else
+    block[COUNTS_WORD] ^= any_bit(chance, TOTAL_BITS);
+}
+
+/* A table more, of a type that there is: as its second word does not rise, that is the one at fault. */
+static void same_type_twice(struct writer *writer, unsigned which) {
+  uint64_t word = block_of(writer)[TABLES_WORD + which];
+  insert_table(writer, which, type_told(word), between(writer->chance, 1, smaller(3, part(word, 8, 0))));
 }
 
 static void table_faults(struct writer *writer) {
   struct chance *chance = writer->chance;
-  uint64_t *block = block_of(writer), *words = block + TABLES_WORD, tables = tables_told(block), which = below(chance, tables + 1);
+  uint64_t *words = block_of(writer) + TABLES_WORD;
   const uint64_t *entries = writer->file->entries;
+  unsigned tables = (unsigned)tables_told(block_of(writer)), which = (unsigned)below(chance, tables + 1);
   unsigned absent = entries[TYPE_UNIT] == 0 ? TYPE_UNIT : entries[TYPE_CORE] == 0 ? TYPE_CORE : carried[below(chance, 2)];
-  if (fires(writer, TABLE_COUNT)) {
-    uint64_t far = bit_at((unsigned)between(chance, 3, 10)), others[4] = {tables + 1, tables - 1, tables ^ far, far};
-    block[COUNTS_WORD] = put(block[COUNTS_WORD], 28, 18, others[below(chance, 4)]);
-  }
-  if (fires(writer, TABLE_TYPE))
+  if (wants(writer, TABLE_TYPE))
     other_type(writer);
-  if (tables >= 2 && fires(writer, TABLE_ORDER)) {
-    uint64_t first = below(chance, tables - 1), word = words[first];
-    words[first] = words[first + 1];
-    words[first + 1] = word;
+  if (which + 1 < tables && fires_at(writer, TABLE_ORDER, TABLES_WORD + which + 1)) {
+    uint64_t word = words[which];
+    words[which] = words[which + 1];
+    words[which + 1] = word;
   }
-  if (which < tables && fires(writer, TABLE_TWICE))
-    insert_table(writer, which, type_told(words[which]), between(chance, 1, 3));
-  if (entries[absent] == 0 && fires(writer, TABLE_EMPTY)) {
-    uint64_t place = 0;
-    while (place < tables && type_told(words[place]) < absent)
-      place++;
-    insert_table(writer, place, absent, 0);
+  if (which < tables && fires_at(writer, TABLE_TWICE, TABLES_WORD + which + 1))
+    same_type_twice(writer, which);
+  if (entries[absent] == 0 && wants(writer, TABLE_EMPTY)) {
+    unsigned at = word_of_type(entries, absent);
+    fires_at(writer, TABLE_EMPTY, at);
+    insert_table(writer, at - TABLES_WORD, absent, 0);
   }
-  if (fires(writer, ENTRY_TOTAL) || writer->file->wanted == TYPE_FLAG_THEN_LABEL) {
-    if (which < tables && one_in(chance, 2))
-      words[which] ^= any_bit(chance, 9); /* its entries, bits 8-0 */
-    else
-      block[COUNTS_WORD] ^= any_bit(chance, 11); /* the entries in all, bits 10-0 */
-  }
+  if (fires_at(writer, ENTRY_TOTAL, COUNTS_WORD) || writer->file->wanted == TYPE_FLAG_THEN_LABEL)
+    wrong_total(writer);
 }
 
-/* Counts of entries that are too many in one way only. */
+/* Over 16 entries of types 0 and 2. Gives the type at whose word they first are. */
+static unsigned too_many_channels(struct chance *chance, uint64_t entries[TYPES], uint64_t more) {
+  const uint64_t channels = CHANNELS_MOST + 1;
+  entries[TYPE_JUMP_SWITCH] = one_in(chance, 3) ? channels : below(chance, channels);
+  entries[TYPE_CHANNEL] = channels - entries[TYPE_JUMP_SWITCH] + more;
+  entries[TYPE_UNIT] = smaller(entries[TYPE_UNIT], ENTRIES_MOST - channels - more);
+  return entries[TYPE_JUMP_SWITCH] == channels ? TYPE_JUMP_SWITCH : TYPE_CHANNEL;
+}
+
+/* Counts of entries that are too many in one way only: the fault is at the word by which they are. */
 static void too_many_entries(struct writer *writer) {
   struct chance *chance = writer->chance;
   uint64_t entries[TYPES], more = one_in(chance, 2) ? 0 : below(chance, 60);
+  bool then_order = wants(writer, MANY_THEN_ORDER);
+  unsigned over;
   memcpy(entries, writer->file->entries, sizeof entries);
-  if (fires(writer, CHANNELS_MANY)) {
-    const uint64_t channels = CHANNELS_MOST + 1;
-    entries[TYPE_JUMP_SWITCH] = below(chance, channels + 1);
-    entries[TYPE_CHANNEL] = channels - entries[TYPE_JUMP_SWITCH] + more;
-    entries[TYPE_UNIT] = smaller(entries[TYPE_UNIT], ENTRIES_MOST - channels - more);
-  } else if (fires(writer, IO_MANY)) {
+  if (wants(writer, CHANNELS_MANY) || then_order) {
+    over = too_many_channels(chance, entries, more);
+  } else if (wants(writer, IO_MANY)) {
     entries[TYPE_UNIT] = ENTRIES_MOST + 1 - entries[TYPE_JUMP_SWITCH] - entries[TYPE_CHANNEL] + more;
-  } else if (fires(writer, CORE_MANY)) {
+    over = TYPE_UNIT;
+  } else if (wants(writer, CORE_MANY)) {
     entries[TYPE_CORE] = ENTRIES_MOST + 1 + more;
+    over = TYPE_CORE;
   } else {
     return;
   }
   put_tables(writer, entries);
+  mark(writer->file, 0, where(word_of_type(entries, over), NO_HALF));
+  if (then_order)
+    insert_table(writer, tables_told(block_of(writer)), TYPE_JUMP_SWITCH, between(chance, 1, 3));
+}
+
+/* Whether the I/O entries are to be more or fewer than the list has; a fault of the label itself comes before that. */
+static bool other_io_count(struct writer *writer) {
+  return fires_at(writer, IO_COUNT, COUNTS_WORD) || fires_at(writer, LABEL_THEN_LISTS, SECTIONS_WORD);
 }
 
 /* Counts of entries that a label may have, but that are not the lists'. */
@@ -172,13 +186,13 @@ static void other_entries(struct writer *writer) {
   unsigned type = carried[below(chance, 3)];
   bool fewer = one_in(chance, 2);
   memcpy(entries, file->entries, sizeof entries);
-  if (fewer && entries[type] > 0 && (fires(writer, IO_COUNT) || fires(writer, LABEL_THEN_LISTS)))
+  if (fewer && entries[type] > 0 && other_io_count(writer))
     entries[type]--;
-  else if (file->io_count < ENTRIES_MOST && (fires(writer, IO_COUNT) || fires(writer, LABEL_THEN_LISTS)))
+  else if (file->io_count < ENTRIES_MOST && other_io_count(writer))
     entries[TYPE_UNIT]++;
-  else if (!fewer && entries[TYPE_CORE] < ENTRIES_MOST && fires(writer, CORE_COUNT))
+  else if (!fewer && entries[TYPE_CORE] < ENTRIES_MOST && fires_at(writer, CORE_COUNT, COUNTS_WORD))
     entries[TYPE_CORE]++;
-  else if (entries[TYPE_CORE] > file->sections && fires(writer, CORE_COUNT))
+  else if (entries[TYPE_CORE] > file->sections && fires_at(writer, CORE_COUNT, COUNTS_WORD))
     entries[TYPE_CORE]--;
   else
     return;
@@ -187,7 +201,7 @@ static void other_entries(struct writer *writer) {
 
 static uint64_t segments_told(struct writer *writer) {
   uint64_t told = writer->file->wanted == LABEL_THEN_LISTS && writer->file->faulty ? 2 : 1;
-  if (fires(writer, SEGMENTS))
+  if (fires_at(writer, SEGMENTS, SECTIONS_WORD))
     do
       told = one_in(writer->chance, 2) ? below(writer->chance, 4) : below(writer->chance, VALUE_MOST + 1);
     while (told == 1);
@@ -196,11 +210,28 @@ static uint64_t segments_told(struct writer *writer) {
 
 static uint64_t sections_told(struct writer *writer) {
   const struct file *file = writer->file;
-  if (fires(writer, SECTIONS_MANY))
+  if (fires_at(writer, SECTIONS_MANY, SECTIONS_WORD))
     return one_in(writer->chance, 2) ? file->table_count + 1 : between(writer->chance, file->table_count + 1, VALUE_MOST);
   if (file->sections < file->table_count && fires(writer, SECTIONS_PROMISED))
     return file->sections + 1;
   return file->sections;
+}
+
+/* A label at fault may be at fault in words that are read later, too: the first is given. The entries in all, in word 3, are read
+   after the tables. */
+static void spoil_later(struct writer *writer) {
+  static const unsigned order[] = {0, 1, 2, 4, 5, 6, 7, 8, COUNTS_WORD, SECTIONS_WORD, NAME_AGAIN_WORD};
+  enum { WORDS = sizeof order / sizeof order[0] };
+  const struct file *file = writer->file;
+  bool by_itself = file->fault_answer == REFUSED_TYPE_FLAG || file->fault_answer == REFUSED_LABEL;
+  unsigned fault = 0;
+  if (!file->faulty || !by_itself || one_in(writer->chance, 2))
+    return;
+  while (where(order[fault], NO_HALF) != file->fault_where)
+    fault++;
+  for (unsigned i = fault + 1; i < WORDS; i++)
+    if (one_in(writer->chance, 3))
+      block_of(writer)[order[i]] ^= any_bit(writer->chance, order[i] == COUNTS_WORD ? TOTAL_BITS : BITS_IN_WORD);
 }
 
 void write_label(struct writer *writer) {
@@ -210,17 +241,19 @@ void write_label(struct writer *writer) {
   write_name(writer);
   write_type_flag(writer);
   put_tables(writer, writer->file->entries);
+  wrong_table_count(writer);
   table_faults(writer);
   too_many_entries(writer);
   other_entries(writer);
   block[SECTIONS_WORD] = put(0, 33, 18, segments_told(writer));
   block[SECTIONS_WORD] = put(block[SECTIONS_WORD], 15, 0, sections_told(writer));
-  if (fires(writer, WORD_253))
+  if (fires_at(writer, WORD_253, SECTIONS_WORD))
     block[SECTIONS_WORD] |= any_zero_bit(writer->chance);
   block[NAME_AGAIN_WORD] = block[NAME_WORD];
-  if (fires(writer, WORD_255))
+  if (fires_at(writer, WORD_255, NAME_AGAIN_WORD))
     block[NAME_AGAIN_WORD] ^= any_bit(writer->chance, BITS_IN_WORD);
-  if (writer->file->channels > 0 && wants(writer, CHANNEL_OVER_15))
-    mark(writer->file, 0);
+  if (writer->file->channels > 0)
+    fires_at(writer, CHANNEL_OVER_15, COUNTS_WORD); /* the list has it */
+  spoil_later(writer);
   close_block(writer, SECTIONS_WORD - 1, true);
 }

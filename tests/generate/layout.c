@@ -88,6 +88,8 @@ void lay_out(struct chance *chance, struct file *file) {
   struct run pieces[ENTRIES_MOST + BANKS] = {{0, 0}};
   unsigned tables = (unsigned)few(chance, ENTRIES_MOST);
   lay_out_io(chance, file);
+  if (file->wanted == LENGTH_LATER) /* as many entries as take more than one block */
+    tables = (unsigned)between(chance, WORDS_BETWEEN / CORE_ENTRY_WORDS + 1, ENTRIES_MOST);
   if (tables < 3 && (file->wanted == WHOLE_TABLE || file->wanted == PAIR_OVER || is_section_fault(file->wanted)))
     tables += 3;
   if (file->wanted == PAIR_OVER) /* a long table, so that it can be taken from an address to give less than 0 */

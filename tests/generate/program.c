@@ -42,8 +42,7 @@ static void bank_faults(struct writer *writer, struct run *ibank, struct run *db
     bank->start -= file->area.start;
     *bank = as_bank(*bank);
   }
-  if (wants(writer, WHOLE_TABLE))
-    mark(file, file->count - 1);
+  fires(writer, WHOLE_TABLE); /* the list has it */
 }
 
 static void write_segment(struct writer *writer) {
@@ -51,12 +50,11 @@ static void write_segment(struct writer *writer) {
   struct run ibank = writer->file->ibank, dbank = writer->file->dbank;
   make_room(writer, SEGMENT_WORDS);
   bank_faults(writer, &ibank, &dbank);
-  write_word(writer, bank_word(ibank));
-  write_word(writer, bank_word(dbank));
-  if (fires(writer, BANK_BITS)) {
-    uint64_t which = between(chance, writer->at - 2, writer->at - 1);
-    block_of(writer)[which] |= any_zero_bit(chance);
-  }
+  uint64_t words[2] = {bank_word(ibank), bank_word(dbank)}, *either = &words[below(chance, 2)];
+  if (fires(writer, BANK_BITS))
+    *either |= any_zero_bit(chance);
+  write_word(writer, words[0]);
+  write_word(writer, words[1]);
   write_word(writer, one_in(chance, 3) ? 0 : any_word(chance));
   write_word(writer, one_in(chance, 3) ? 0 : any_word(chance));
 }

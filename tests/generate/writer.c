@@ -128,25 +128,34 @@ const char *fault_text(enum fault fault) {
   return texts[fault];
 }
 
-void mark(struct file *file, unsigned block) {
+void mark(struct file *file, unsigned block, uint64_t there) {
   file->faulty = true;
   file->fault_block = block;
   file->fault_answer = fault_answers[file->wanted];
+  file->fault_where = there;
 }
 
 bool wants(const struct writer *writer, enum fault fault) {
   return writer->file->wanted == fault && !writer->file->faulty;
 }
 
-bool fires(struct writer *writer, enum fault fault) {
+bool fires_at(struct writer *writer, enum fault fault, unsigned word) {
   if (!wants(writer, fault))
     return false;
-  mark(writer->file, writer->file->count - 1);
+  mark(writer->file, writer->file->count - 1, where(word, NO_HALF));
   return true;
+}
+
+bool fires(struct writer *writer, enum fault fault) {
+  return fires_at(writer, fault, writer->at);
 }
 
 bool fires_sometime(struct writer *writer, enum fault fault) {
   return wants(writer, fault) && one_in(writer->chance, writer->rare) && fires(writer, fault);
+}
+
+bool fires_again(const struct writer *writer, enum fault fault) {
+  return writer->file->wanted == fault && writer->file->faulty && one_in(writer->chance, 3);
 }
 
 uint64_t *block_of(const struct writer *writer) {

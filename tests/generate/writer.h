@@ -20,16 +20,20 @@ uint64_t smaller(uint64_t one, uint64_t other);
 
 /* ---- faults */
 
-/* The wanted fault stands in this block: what comes from here on is foretold no longer. */
-void mark(struct file *file, unsigned block);
+/* The wanted fault stands in this block, and where() says at which word and half: what comes from here on is foretold no longer. */
+void mark(struct file *file, unsigned block, uint64_t there);
 
 /* Whether the file still wants this fault. */
 bool wants(const struct writer *writer, enum fault fault);
 
-/* Whether this fault is to be put in here, in the block that is written; it is marked then. Asked only where it can be: for what a
-   file has once, and for what it has often. */
+/* Whether this fault is to be put in here, in the block that is written; it is marked then, at the word said or at the one that is
+   written next. Asked only where it can be: for what a file has once, and for what it has often. */
+bool fires_at(struct writer *writer, enum fault fault, unsigned word);
 bool fires(struct writer *writer, enum fault fault);
 bool fires_sometime(struct writer *writer, enum fault fault);
+
+/* Whether this fault was put in before, and is to be put in here once more: the first one is given. */
+bool fires_again(const struct writer *writer, enum fault fault);
 
 /* ---- blocks */
 
@@ -54,6 +58,7 @@ uint64_t any_zero_bit(struct chance *chance);
 
 void lay_out(struct chance *chance, struct file *file); /* layout.c: banks, tables and I/O numbers */
 void write_label(struct writer *writer);                /* label.c */
+void write_name(struct writer *writer);                 /* name.c: the label's words 0 and 1 */
 void write_entries(struct writer *writer);              /* file.c: modification blocks */
 void write_program(struct writer *writer);              /* program.c */
 void write_termination(struct writer *writer);          /* file.c */
