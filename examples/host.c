@@ -1,7 +1,8 @@
 /* host.c: a small host with tapes. Two rooms hold two loads each, of one program at four addresses, and the host feeds the four in
    turn, block by block. One tape is misread once and read again. One load is assigned a channel that does not exist, and is
    refused. One tape is cut off. The host says how each load ended, and why, and prints the areas of those that are complete. Then
-   room 0 loads another program, the worked file of worked_file.h, which has something of all that the loader carries.
+   room 0 loads another program, the worked file of worked_file.h, which has something of all that the loader carries. Last, room 1
+   loads the first program once more, from a tape with a fault in it, and the host says in which word and half.
 
    Build it with the header and the library that `make lib` puts into build/:
 
@@ -91,7 +92,7 @@ struct load {
   int held, ended;
 };
 
-static uint64_t squares[BLOCKS][BLOCK_WORDS], worked[WORKED_BLOCKS][BLOCK_WORDS];
+static uint64_t squares[BLOCKS][BLOCK_WORDS], worked[WORKED_BLOCKS][BLOCK_WORDS], faulty[BLOCKS][BLOCK_WORDS];
 static uint64_t core[CORE_WORDS];
 static uint64_t *desk;
 
@@ -117,6 +118,8 @@ static struct load another = {
     .tape = {WORKED_BLOCKS, worked, 0, WORKED_BLOCKS},
 };
 
+static struct load last = {.room = 1, .area = 05000, .size = AREA_WORDS, LISTS(14, 05010), .tape = {BLOCKS, faulty, 0, BLOCKS}};
+
 /* The checksum: the sum of the other words, each carry out of bit 35 added back at bit 0; then its upper half added to its lower. It
    is word 254 of a label and word 255 elsewhere. */
 static void seal(uint64_t *block, unsigned at) {
@@ -139,6 +142,9 @@ static void write_files(void) {
   for (unsigned i = 0; i < BLOCKS; i++)
     seal(squares[i], i == 0 ? 254 : 255);
   write_words(worked, worked_file, COUNT(worked_file)); /* which has its checksums */
+  memcpy(faulty, squares, sizeof faulty);
+  faulty[2][10] = 0561412220000; /* the indicators of words 6 to 9: the left half of word 6 has type 011, which is not carried */
+  seal(faulty[2], 255);
 }
 
 /* The next block of the tape; 0 at the tape's end. */
@@ -156,11 +162,23 @@ static int read_block(struct tape *tape, uint64_t *block) {
 
 static void back_up(struct tape *tape) { tape->next--; }
 
-/* A refusal has its number and its reason; to other answers that have one the value is added. */
+/* The word of a fault, and the half where there is one. */
+static void print_fault(uint64_t answer) {
+  printf(", word %" PRIu64, CLAMP_FAULT_WORD(answer));
+  if (CLAMP_FAULT_HALF(answer) == CLAMP_HALF_LEFT)
+    printf(", left half");
+  if (CLAMP_FAULT_HALF(answer) == CLAMP_HALF_RIGHT)
+    printf(", right half");
+}
+
+/* A refusal has its number and its reason, and where the fault is if it tells that; to other answers that have one the value is
+   added. */
 static void print_answer(uint64_t answer) {
   if (CLAMP_IS_REFUSAL(answer))
     printf("refused %" PRIu64 ": ", CLAMP_CODE(answer));
   printf("%s", clamp_text(CLAMP_CODE(answer)));
+  if (CLAMP_TELLS_FAULT(answer))
+    print_fault(answer);
   if (CLAMP_CODE(answer) == CLAMP_OPENED)
     printf(", place %" PRIu64, CLAMP_VALUE(answer));
   if (CLAMP_CODE(answer) == CLAMP_DONE)
@@ -257,6 +275,7 @@ int main(void) {
   }
   run_loads(loads, LOADS);
   run_loads(&another, 1);
+  run_loads(&last, 1);
   free(desk);
   return 0;
 }

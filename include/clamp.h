@@ -97,12 +97,12 @@ extern "C" {
 #endif
 
 /* The version of this header, and of the library that it came with. The last number rises with a correction, the one before it with
-   a new call or answer; the first where a program has to change, or a saved desk is of no use any more. */
+   a new call or answer, or one that tells more; the first where a program has to change, or a saved desk is of no use any more. */
 
 #define CLAMP_VERSION_MAJOR 1
-#define CLAMP_VERSION_MINOR 1
+#define CLAMP_VERSION_MINOR 2
 #define CLAMP_VERSION_PATCH 0
-#define CLAMP_VERSION_STRING "1.1.0"
+#define CLAMP_VERSION_STRING "1.2.0"
 #define CLAMP_VERSION_NUMBER (CLAMP_VERSION_MAJOR * 10000 + CLAMP_VERSION_MINOR * 100 + CLAMP_VERSION_PATCH)
 
 /* How many numbers a desk has, 29,224 bytes: what clamp_desk_words() answers. Where the two differ, the program was compiled with
@@ -116,9 +116,22 @@ extern "C" {
 #define CLAMP_CODE(answer) ((uint64_t)(answer) >> 32)
 #define CLAMP_VALUE(answer) ((uint64_t)(answer) & 0xffffffffu)
 
-/* Whether an answer is a refusal: a code from 1 to 63, which is the refusal's number. The value is 0. */
+/* Whether an answer is a refusal: a code from 1 to 63, which is the refusal's number. The value of refusals 1 to 12 is 0; that of
+   13 to 22 tells where the fault is. */
 
 #define CLAMP_IS_REFUSAL(answer) (CLAMP_CODE(answer) - 1u < 63u)
+
+/* Whether an answer tells where a fault is, as refusals 13 to 22 do; and of one that does, the word and the half. The word is its
+   number in the block that was refused, 0 to 255. The half is the left one (bits 33-18), the right one (bits 15-0) or none. The
+   value is the word's number times 4, plus the half's; before version 1.2 it was 0. At clamp_feed stands which word is told. */
+
+#define CLAMP_TELLS_FAULT(answer) (CLAMP_CODE(answer) - 13u < 10u)
+#define CLAMP_FAULT_WORD(answer) (CLAMP_VALUE(answer) >> 2)
+#define CLAMP_FAULT_HALF(answer) (CLAMP_VALUE(answer) & 3u)
+
+#define CLAMP_HALF_NONE 0u
+#define CLAMP_HALF_LEFT 1u
+#define CLAMP_HALF_RIGHT 2u
 
 /* Refusals 1 to 12 change nothing: desk and core are left as they were. Of several that are due the lowest is given. */
 
@@ -137,7 +150,7 @@ extern "C" {
 #define CLAMP_REFUSED_CHECKSUM 12u    /* the block's checksum word differs */
 
 /* Refusals 13 to 22 are feed's alone. They set the area to zero and break the load. The first fault in reading order is given, and
-   of several at one word or field the lowest. */
+   of several at one word or field the lowest. The value tells where it is. */
 
 #define CLAMP_REFUSED_RECORD 13u      /* the block is of the wrong record */
 #define CLAMP_REFUSED_TYPE_FLAG 14u   /* the label's program type flag is not 001 */
@@ -181,7 +194,7 @@ static inline const char *clamp_text(uint64_t code) {
   case CLAMP_REFUSED_ASSIGNMENTS: return "the assigned numbers and tables do not fit the file";
   case CLAMP_REFUSED_SECTION: return "a section is at fault";
   case CLAMP_REFUSED_GROUP: return "a group is at fault";
-  case CLAMP_REFUSED_FORM: return "a modification type is not carried, or a field has the wrong form";
+  case CLAMP_REFUSED_FORM: return "field form or type";
   case CLAMP_REFUSED_REFERENCE: return "a field refers to an entry that does not exist";
   case CLAMP_REFUSED_VALUE: return "a field's value would be outside 0 to 65,535";
   case CLAMP_REFUSED_START: return "the start is not in the IBANK";
@@ -284,16 +297,31 @@ uint64_t clamp_open(uint64_t *desk, uint64_t desk_len,
      11, 0                block_len is not 256, or a word is 2^36 or more
      12, 0                the checksum word differs. The same block may be read and fed again. A block that a writer of before
                           version 1.1 has sealed may need to be resealed first (clamp_reseal).
-     13, 0                the block is of the wrong record
-     14, 0                the label's program type flag is not 001
-     15, 0                the label is at fault
-     16, 0                the lists that were given to open do not fit the file
-     17, 0                a section is at fault
-     18, 0                a group is at fault
-     19, 0                a modification type that is not carried, or a field of the wrong form
-     20, 0                a field refers to an entry that does not exist
-     21, 0                a field's value would be outside 0 to 65,535
-     22, 0                the start is not in the IBANK
+     13, fault            the block is of the wrong record
+     14, fault            the label's program type flag is not 001
+     15, fault            the label is at fault
+     16, fault            the lists that were given to open do not fit the file
+     17, fault            a section is at fault
+     18, fault            a group is at fault
+     19, fault            a modification type that is not carried, or a field of the wrong form
+     20, fault            a field refers to an entry that does not exist
+     21, fault            a field's value would be outside 0 to 65,535
+     22, fault            the start is not in the IBANK
+
+   The value `fault` tells a word of this block, and with 19 to 21 a half of it (CLAMP_FAULT_WORD, CLAMP_FAULT_HALF):
+
+     13   word 0, the identifier
+     14   word 2, which has the type flag
+     15   word 0 or 1: it has the name's first character that may not stand there (after a space, the next that is no space);
+          words 4 to 8: the first table word that breaks a rule, or by which the entries counted so far are too many; word 3: the
+          entry total is wrong; word 253: the segments, the table sections, or the rest; word 255: it does not repeat word 0
+     16   word 3 of the label; or, in the modification block where it stands, the third word of the first entry that does not fit
+     17   the section's first word, also where its second is at fault, or the word that stands where a section is due
+     18   the group's first word, or the word that stands where a group is due
+     19   the program word, and the half that has the wrong form or type
+     20   the program word, and the half that refers to what does not exist
+     21   the program word, and the half whose value would be outside
+     22   word 1, which has the start
 
    Refused with 1 to 12, desk and core are as they were: the load still waits for the same block. Refused with 13 to 22, every word
    of the area is zero and the load is broken; it holds its place and area until released. In every case no core word outside the
@@ -375,6 +403,8 @@ uint64_t clamp_reseal(uint64_t *block, uint64_t block_len, uint64_t index);
      }
      if (CLAMP_CODE(answer) == CLAMP_DONE)
        run_from(CLAMP_VALUE(answer));
+     else if (CLAMP_TELLS_FAULT(answer))
+       say_where(clamp_text(CLAMP_CODE(answer)), CLAMP_FAULT_WORD(answer), CLAMP_FAULT_HALF(answer));
      else if (CLAMP_IS_REFUSAL(answer))
        say(clamp_text(CLAMP_CODE(answer)));
      else
