@@ -75,7 +75,7 @@
    loads, and bring both back together: a load that goes on over another core ends in another image, and no call can tell. A desk
    is for the library that made it: save CLAMP_VERSION_STRING beside it.
 
-   Stack. Measured, the most of many calls: 2,624 bytes in open, 848 in feed, 336 in release, 64 in make, 16 in reseal
+   Stack. Measured, the most of many calls: 2,624 bytes in open, 1,008 in feed, 336 in release, 64 in make, 16 in reseal
    (docs/PERFORMANCE.md). The tests fail where open takes over 3,072 or another call over 1,024. The first call that copies or
    clears memory may take some 3 KB more, where the dynamic linker then looks for memcpy or memset. No call is recursive.
 
