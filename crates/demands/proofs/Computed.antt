@@ -12,11 +12,12 @@ use Rattle.label.specs.Tables.{tableWordsIn, tableWords, tablesStand, firstTabl
 use Rattle.label.specs.Label.{labelOf, finished, programWordFits}
 use Rattle.program.specs.Sections.{bankOf, segmentOf, tableSectionOf}
 use Rattle.program.specs.Groups.{groupOf}
+use Rattle.program.specs.Pieces.{closes, headAt, piecesFrom}
 use Rattle.indicator.specs.Indicator.{bitsOf, indicatorBits, bitsBefore, numberAt, indicatorAt, afterField, afterWord, afterAll}
 use Rattle.field.specs.Field.{valued, movedField, becomes, putBack, fieldChange, fieldStep}
 use Rattle.group.specs.Group.{halfStep, wordStep, changedWords, groupStep, wordsLie, addressOf, indicatorsFit, groupFits}
 use Rattle.group.specs.Group.{refusedGroup, storedGroup, groupOutcome, readOutcome}
-use Rattle.demands.specs.Image.{headAt, piecesFrom, pieces, storeOf, groupsFrom, upToLast, storesFrom, reached, wordFrom}
+use Rattle.demands.specs.Image.{pieces, storeOf, groupsFrom, upToLast, storesFrom, reached, wordFrom}
 use Rattle.demands.specs.Image.{storesBeyond, storesOf, imageOf, fileStart}
 use Rattle.hand_deck.specs.Blocks.{withWords, blank, deckLabel, deckProgram, deckTermination, deckFile}
 use Rattle.demands.specs.HandDeck.{deckGiven}
@@ -30,7 +31,7 @@ use Rattle.stage.specs.Record.{recordDue, isOver}
 use Rattle.records.specs.Label.{afterLabel, withLabel, labelStep}
 use Rattle.records.specs.Termination.{terminationStep}
 use Rattle.sections.specs.Heads.{banksFit, withSegment, segmentStep}
-use Rattle.sections.specs.Program.{afterLast, afterGroup, itemStep, closes, programFrom, programStep}
+use Rattle.sections.specs.Program.{afterLast, afterGroup, itemStep, programFrom, programStep}
 use Rattle.feed.specs.Block.{dueStep, blockStep}
 use Rattle.demands.specs.Taking.{Takes}
 use Rattle.demands.proofs.Imaged.{image-is}
@@ -39,7 +40,7 @@ use Rattle.demands.proofs.Imaged.{image-is}
 pub deck-image : imageOf (deckGiven .area) (deckGiven .tables) (deckGiven .ios) deckFile ≡ 519 ∷ replicate 63 0
 unfolding deckLabel deckProgram deckTermination withWords blank imageOf storesOf storesBeyond labelOf isName firstWrong mayStand letterOrDigit
     every characters tableWordsIn tableWords tablesStand firstTable tableStands entriesOf countsOf withinLimits firstNot range finished programWordFits
-    pieces piecesFrom headAt groupOf tableSectionOf segmentOf bankOf groupsFrom upToLast storesFrom storeOf wordsLie addressOf
+    pieces piecesFrom closes headAt groupOf tableSectionOf segmentOf bankOf groupsFrom upToLast storesFrom storeOf wordsLie addressOf
     within changedWords wordStep halfStep fieldStep fieldChange becomes movedField valued putBack bitsOf flatMap indicatorBits bitsBefore
     numberAt indicatorAt afterField afterWord wordFrom reached tab
 deck-image = refl

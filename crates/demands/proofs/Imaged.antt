@@ -18,6 +18,7 @@ use Rattle.label.specs.Label.{labelOf, channelCount, ioCount}
 use Rattle.modification.specs.Assignments.{assignmentsFit}
 use Rattle.modification.specs.Entries.{entryBlocks}
 use Rattle.program.specs.declared.Bank.{Bank}
+use Rattle.program.specs.Pieces.{Piece}
 use Rattle.program.specs.Start.{startOf, inBank}
 use Rattle.lists.specs.Obey.{tableInside}
 use Rattle.group.specs.declared.Section.{Section}
@@ -36,10 +37,10 @@ use Rattle.lists.specs.Load.{Load}
 use Rattle.sections.specs.Program.{StepOutcome, programStep}
 use Rattle.sections.proofs.Blocks.{program-not-done}
 use Rattle.feed.specs.Block.{storesNothing, dueStep, blockStep}
-use Rattle.demands.specs.Image.{Piece, pieces, noSection, storesFrom, storesBeyond, storesOf, imageOf}
+use Rattle.demands.specs.Image.{pieces, noSection, storesFrom, storesBeyond, storesOf, imageOf}
 use Rattle.demands.specs.Taking.{TakesBy, Takes}
 use Rattle.demands.proofs.Stores.{storeAll, AllInside, stores-image}
-use Rattle.demands.proofs.Heads.{no-stores}
+use Rattle.demands.proofs.FromHeads.{no-stores}
 use Rattle.demands.proofs.Running.{Comes, given, Awaits, Reads, program-leads}
 
 -- a list without its first element

@@ -7,7 +7,7 @@ pub mod Counting
 pub mod Holding
 pub mod Served
 pub mod Stores
-pub mod Heads
+pub mod FromHeads
 pub mod Running
 pub mod Imaged
 pub mod Computed

@@ -25,6 +25,9 @@ use Rattle.program.specs.declared.TableSectionRead.{TableSectionRead}
 use Rattle.program.specs.declared.TableSectionRead.the-variants.{Good as section-read, Bad as no-section}
 use Rattle.program.specs.declared.Group.{Group}
 use Rattle.program.specs.Sections.{lastWord, segmentOf, tableSectionOf}
+use Rattle.program.specs.Pieces.{closes, Piece, piecesFrom}
+use Rattle.program.proofs.Heads.{head-group, head-table, head-segment}
+use Rattle.program.proofs.Pieces.{no-fuel, no-pieces}
 use Rattle.lists.specs.declared.Table.{Table as CoreTable}
 use Rattle.lists.specs.Obey.{noTable, tableInside}
 use Rattle.field.specs.Field.{Assignments}
@@ -47,11 +50,10 @@ use Rattle.sections.specs.declared.Item.the-variants.{Go, Last}
 use Rattle.lists.specs.Load.{Load}
 use Rattle.sections.specs.Waits.{assignments}
 use Rattle.sections.specs.Heads.{banksFit, withSegment, segmentStep, withSection, sectionStep}
-use Rattle.sections.specs.Program.{afterLast, afterGroup, itemStep, closes, followed, StepOutcome, programFrom}
-use Rattle.demands.specs.Image.{Piece, piecesFrom, Store, storeOf, tableSection, storesFrom}
+use Rattle.sections.specs.Program.{afterLast, afterGroup, itemStep, followed, StepOutcome, programFrom}
+use Rattle.demands.specs.Image.{Store, storeOf, tableSection, storesFrom}
 use Rattle.demands.proofs.Stores.{storeAll, Inside, AllInside}
-use Rattle.demands.proofs.Heads.{head-group, head-table, head-segment, stores-segment, stores-table, stores-group, no-fuel}
-use Rattle.demands.proofs.Heads.{no-pieces, no-stores}
+use Rattle.demands.proofs.FromHeads.{stores-segment, stores-table, stores-group, no-stores}
 
 -- the core comes to be `after` by stores that lie in the area
 pub record Comes (area : Area) (core : List ℕ) (stores : List Store) (after : List ℕ) : Type 0 where

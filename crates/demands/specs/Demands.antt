@@ -46,8 +46,8 @@ Demand1One =
     (o : Outcome) (r q : ℕ) (d e core other : List ℕ) → Returned o r d core → Returned o q e other
     → (r ≡ q) × ((d ≡ e) × (core ≡ other))
 
--- the number that C is told tells the answer, all of it but the bit of a fault: each call's answer is small, and two small answers with
--- one number are told as one
+-- the number that C is told tells the answer, all of it but the bit of a fault: each call's answer is small, and two small answers
+-- with one number are told as one
 abbrev pub Demand1Number : Type 0
 Demand1Number =
     ((c : Call) (s : State) → Small (answerTo c s))
@@ -81,10 +81,10 @@ Demand1Broken =
     (s : State) (r p : ℕ) (block : List ℕ) (f : Fault) → answerTo (Feed r p block) s ≡ Refused f → 13 ≤ f .number
     → BrokenOff p (ownOf (placeIn (s .desk) p) .given .area) s (call (Feed r p block) s)
 
--- the place of a refusal (02, #105). "Refusals 1 to 12 still return 0": of no word, no half and no bit. Of 13 to 22 the word lies in
--- the block; a half is told for 19 to 21 and for no other, and then the word is a program word of a group of this block, and the bit
--- one of that group's indicator bits (`Placed`). Which word it is, the definitions say that say which refusal it is: the contract
--- is one equation for both.
+-- the place of a refusal (02, #105). "Refusals 1 to 12 still return 0": no word, no half and no bit. Of 13 to 22 the word lies in
+-- the block; a half is told for 19 to 21 and for no other, and then the word is a program word of one of this block's groups, and
+-- the bit the one of that group's indicator bits at which the half's indicator starts (`Placed`). Which word it is, the definitions
+-- say that say which refusal it is: the contract is one equation for both.
 abbrev pub Demand1Place : Type 0
 Demand1Place =
     ((c : Call) (s : State) (f : Fault) → answerTo c s ≡ Refused f → f .number ≤ 12 → f ≡ fault (f .number))

@@ -2,7 +2,7 @@
 -- cut into pieces, the stores in order, and of each word the last store that reaches it. No loader, no desk and no stage in it. Of
 -- the modification blocks only the number matters here: their words hold the lengths of the tables, and a file whose lengths are
 -- not met is refused with 16.
-use Prim.Native.Nat.{ℕ, zero, suc, _+_, _-_}
+use Prim.Native.Nat.{ℕ, _+_, _-_}
 use mathlib.Core.Bool.{Bool, false, cond, _&&_, _||_}
 use mathlib.Core.List.{List, [], _∷_, _++_, map}
 use lib.ListN.{length, getD, drop}
@@ -16,17 +16,10 @@ use Rattle.label.specs.declared.LabelRead.{LabelRead}
 use Rattle.label.specs.declared.LabelRead.the-variants.{Good as label-read, Bad as no-label}
 use Rattle.label.specs.Label.{labelOf, channelCount, ioCount}
 use Rattle.modification.specs.Entries.{entryBlocks}
-use Rattle.program.specs.declared.Segment.{Segment}
-use Rattle.program.specs.declared.SegmentRead.{SegmentRead}
-use Rattle.program.specs.declared.SegmentRead.the-variants.{Good as segment-read, Bad as no-segment}
 use Rattle.program.specs.declared.TableSection.{TableSection}
-use Rattle.program.specs.declared.TableSectionRead.{TableSectionRead}
-use Rattle.program.specs.declared.TableSectionRead.the-variants.{Good as section-read, Bad as no-section}
 use Rattle.program.specs.declared.Group.{Group}
-use Rattle.program.specs.declared.GroupRead.{GroupRead}
-use Rattle.program.specs.declared.GroupRead.the-variants.{Good as group-read, Bad as no-group}
-use Rattle.program.specs.Sections.{segmentOf, tableSectionOf, lastWord}
-use Rattle.program.specs.Groups.{groupOf}
+use Rattle.program.specs.Pieces.{Head, Piece, piecesOf}
+use Rattle.program.specs.Pieces.Head.{SegmentHead, TableHead, GroupHead, NoHead}
 use Rattle.program.specs.Start.{startOf}
 use Rattle.lists.specs.declared.Table.{Table as CoreTable}
 use Rattle.lists.specs.Obey.{noTable}
@@ -36,63 +29,10 @@ use Rattle.group.specs.declared.Section.the-variants.{Segment as InSegment, Tab
 use Rattle.group.specs.Group.{Words, changedWords, programWords, indicatorBitsIn, wordsLie, addressOf}
 use Rattle.group.specs.Group.Words.{Become, Refuse}
 
--- ---- the pieces of a program block. A word says by its bits 35-34 what it heads: 10 a group, 01 a table section, zeros the
--- segment section, of four words.
-pub data Head : Type 0 where
-  SegmentHead : Segment → Head
-  TableHead : TableSection → Head
-  GroupHead : Group → Head
-  NoHead : Head
-
-abbrev pub byGroup : GroupRead → Head → Head
-byGroup (group-read g) else = GroupHead g
-byGroup (no-group f) else = else
-
-abbrev pub bySection : TableSectionRead → Head → Head
-bySection (section-read t) else = TableHead t
-bySection (no-section f) else = else
-
-abbrev pub bySegment : SegmentRead → Head
-bySegment (segment-read g) = SegmentHead g
-bySegment (no-segment f) = NoHead
-
-unfoldable pub headAt : List ℕ → ℕ → Head
-headAt block i =
-    byGroup (groupOf (getD block i 0))
-    (bySection (tableSectionOf (getD block i 0))
-    (bySegment (segmentOf (getD block i 0) (getD block (i + 1) 0))))
-
--- the head that stands at a place of a block
-pub record Piece : Type 0 where
-  pub block : List ℕ
-  pub at : ℕ
-  pub head : Head
-
--- the place after it
-abbrev pub after : ℕ → Head → ℕ
-after i (SegmentHead g) = i + 4
-after i (TableHead t) = i + 1
-after i (GroupHead g) = i + 1 + g .words
-after i NoHead = i
-
-abbrev pub pieceThen : List ℕ → ℕ → Head → List Piece → List Piece
-pieceThen block i (SegmentHead g) rest = record { block = block; at = i; head = SegmentHead g } ∷ rest
-pieceThen block i (TableHead t) rest = record { block = block; at = i; head = TableHead t } ∷ rest
-pieceThen block i (GroupHead g) rest = record { block = block; at = i; head = GroupHead g } ∷ rest
-pieceThen block i NoHead rest = []
-
--- "where an identifier's first word is due, a zero word or the end at word 254 closes the block"; n pieces at most, from place i on
-unfoldable pub piecesFrom : ℕ → List ℕ → ℕ → List Piece
-piecesFrom zero block i = []
-piecesFrom (suc n) block i =
-    cond (leb (lastWord + 1) i || eqb (getD block i 0) 0)
-    []
-    (pieceThen block i (headAt block i) (piecesFrom n block (after i (headAt block i))))
-
--- from word 1 on; each piece takes a word or more, so 254 are all there can be
+-- ---- the pieces of the program blocks, one block after another
 unfoldable pub pieces : List (List ℕ) → List Piece
 pieces [] = []
-pieces (block ∷ blocks) = piecesFrom lastWord block 1 ++ pieces blocks
+pieces (block ∷ blocks) = piecesOf block ++ pieces blocks
 
 -- ---- the stores
 pub record Store : Type 0 where

@@ -43,9 +43,9 @@ then-later k v (Become vs) = refl
 then-later k v (Refuse f) = further-twice k 1 f
 
 -- the word of a refusal is one of the words
-or-below : (n from end : ℕ) (r : Words) → ofWords n from end r → faultOr r .word ≤ n
-or-below n from end (Become vs) o = omega arith
-or-below n from end (Refuse f) o = omega (arith, o .word)
+or-below : (bits : List ℕ) (p : ℕ) (ws : List ℕ) (r : Words) → ofWords bits p ws r → faultOr r .word ≤ length ws
+or-below bits p ws (Become vs) o = omega arith
+or-below bits p ws (Refuse f) o = omega (arith, o .word)
 
 pub first-below : (a : Assignments) (words : List ℕ) (n : ℕ) → n ≤ length words → firstFault a words n .word ≤ n
 unfolding firstFault
@@ -53,7 +53,7 @@ first-below a words n h =
     let e : length (range words 0 n) ≡ n = length-range words 0 n (omega arith) in
     omega (
       arith,
-      or-below _ _ _ (changedWords a (groupBits words n) 0 (range words 0 n))
+      or-below (groupBits words n) 0 (range words 0 n) (changedWords a (groupBits words n) 0 (range words 0 n))
           (words-fault a (groupBits words n) 0 (range words 0 n)),
     )
 
@@ -130,7 +130,7 @@ module _ (a : Assignments) (words : List ℕ) (n : ℕ) where
         -- it is told of the one word
         pub look-word : (f : Fault) → r ≡ RefusedWord f → f .word < 1
         look-word f q =
-            (rw (step ∙ q) at (word-fault a (groupBits words n) at (getD words k 0))) .word
+            omega (arith, (rw (step ∙ q) at (word-fault a (groupBits words n) at (getD words k 0))) .in-half .word)
 
         pub look-stops : (f : Fault) → r ≡ RefusedWord f → further k f ≡ firstFault a words n
         look-stops f q = sym (turned ∙ rw (step ∙ q)) ∙ t .same

@@ -1,6 +1,7 @@
 pub mod Acts
 pub mod Both
 pub mod Examples
+pub mod FieldFaults
 pub mod Faults
 pub mod Group
 pub mod Loop

@@ -1,6 +1,6 @@
 // The program words of a group, changed word after word: read from the lent block, and each stored into the core once. A group
 // without any change is seen by its indicator words alone, words without change are passed many at once, and the commonest change
-// has a way of its own. Where a field is refused, nothing here says why (refusals.rt does), so that no number of a fault is carried
+// has a way of its own. Where a field is refused, nothing here says why (refusals.rt does), so that nothing of a fault is carried
 // through the loop.
 ghost use mathlib.Core.Path.{_≡_};
 ghost use Prim.Native.Nat.{_/_, _<_, _^_};

@@ -1,3 +1,4 @@
 pub mod Sections
 pub mod Groups
 pub mod Start
+pub mod Pieces

@@ -7,6 +7,8 @@ use mathlib.Core.Bool.{true}
 use mathlib.Core.List.{List}
 use lib.ListN.{length, getD}
 use Rattle.program.specs.Sections.{lastWord}
+use Rattle.program.specs.Pieces.{closes, Piece, piecesFrom, piecesOf, OneOf}
+use Rattle.program.proofs.Pieces.{group-here, later-piece}
 use Rattle.word.specs.declared.Absolute.{Absolute}
 use Rattle.word.specs.declared.Fault.{Fault}
 use Rattle.word.specs.Lists.{every}
@@ -14,6 +16,7 @@ use Rattle.word.specs.Word.{isWord}
 use Rattle.word.proofs.Cases.{by-test}
 use Rattle.word.proofs.Stretch.{Beside}
 use Rattle.group.proofs.Acts.{Alike, group-same, group-alike}
+use Rattle.group.proofs.Faults.{Stands}
 use Rattle.group.proofs.Group.{group-area, group-words}
 use Rattle.group.proofs.Stored.{StoredWords, stored-none, stored-then}
 use Rattle.stage.specs.declared.LabelCounts.{LabelCounts}
@@ -26,10 +29,10 @@ use Rattle.sections.specs.declared.Item.{Item}
 use Rattle.sections.specs.declared.Item.the-variants.{Go, Last, Refused as item-refused}
 use Rattle.lists.specs.Load.{Load}
 use Rattle.sections.specs.Waits.{assignments}
-use Rattle.sections.specs.Program.{afterGroup, itemStep, ItemOutcome, StepOutcome, StepMeets, closes, followed, programFrom}
+use Rattle.sections.specs.Program.{afterGroup, itemStep, ItemOutcome, StepOutcome, StepMeets, followed, programFrom}
 use Rattle.sections.specs.Program.{programStep}
 use Rattle.sections.proofs.Ranges.{StageFits}
-use Rattle.sections.proofs.Leads.{OfProgram, StepTold, ItemLeads, item-leads}
+use Rattle.sections.proofs.Leads.{OfProgram, StepTold, GoesOn, ItemLeads, item-leads}
 use Rattle.sections.proofs.Turns.{item-cases, item-length, InPlace, item-in-place, open-place}
 
 -- two outcomes that meet the contract are equal
@@ -46,28 +49,31 @@ module _ (x : Load) (block : List ℕ) where
   told-through s t (Refused f) h k = k
 
   follow-told : (s : Stage) (i : ℕ) (it : Item) (core : List ℕ) (next : LabelCounts → Due → ℕ → List ℕ → StepOutcome)
-      → ItemLeads x block s i it
-      → ((d : LabelCounts) (t : Due) (p : ℕ) → StepTold x block (Program d t) (next d t p core .step))
+      → ItemLeads x block s i it → Stands block i
+      → ((d : LabelCounts) (t : Due) (p : ℕ) → GoesOn block i p → StepTold x block (Program d t) (next d t p core .step))
       → StepTold x block s (followed i it core next .step)
-  follow-told s i (Go d t p) core next l h = told-through s (Program d t) (next d t p core .step) (l .2) (h d t p)
-  follow-told s i (Last ibank) core next l h = l
-  follow-told s i (item-refused f) core next l h = l
+  follow-told s i (Go d t p) core next l g h = told-through s (Program d t) (next d t p core .step) (l .2) (h d t p (l .3))
+  follow-told s i (Last ibank) core next l g h = l
+  follow-told s i (item-refused f) core next l g h = (l .number, l .place g)
 
+  -- from place i on: the pieces that are left there are the block's
   from-told : (n : ℕ) (c : LabelCounts) (due : Due) (i : ℕ) (core : List ℕ)
+      → ((q : Piece) → OneOf q (piecesFrom n block i) → OneOf q (piecesOf block))
       → StepTold x block (Program c due) (programFrom n x c due block i core .step)
   unfolding programFrom
-  from-told zero c due i core = λ f. f
-  from-told (suc n) c due i core = by-test (closes block i)
+  from-told zero c due i core k = λ f. f
+  from-told (suc n) c due i core k = by-test (closes block i)
       (λ q. rw q (λ f. f))
       (λ q. rw q
       (follow-told (Program c due) i (itemStep x c due block i core .item) (itemStep x c due block i core .core) _
       (item-leads x block c due i core (open-place x block i q))
-      (λ d t p. from-told n d t p (itemStep x c due block i core .core))))
+      (λ g e. k _ (group-here block i n q g e))
+      (λ d t p on. from-told n d t p (itemStep x c due block i core .core) (λ r o. k r (later-piece (on n q) r o)))))
 
   module _ (c : LabelCounts) (due : Due) (core : List ℕ) where
     program-told : StepTold x block (Program c due) (programStep x c due block core .step)
     unfolding programStep
-    program-told = from-told lastWord c due 1 core
+    program-told = from-told lastWord c due 1 core (λ q o. o)
 
     pub program-fits : (t : Stage) → StageFits x (Program c due) → programStep x c due block core .step ≡ More t → StageFits x t
     program-fits t f e = (rw e at program-told) f

@@ -9,6 +9,7 @@ use lib.ListN.{length, getD}
 use lib.Dec.{leb}
 use borrow.Author.Tests.{le-leb, lt-leb, leb-false, eq-eqb, ne-eqb}
 use Rattle.program.specs.Sections.{lastWord}
+use Rattle.program.specs.Pieces.{closes}
 use Rattle.word.specs.declared.Fault.{Fault}
 use Rattle.word.specs.Fault.{further}
 use Rattle.word.specs.Limits.{wordsInBlock}
@@ -40,7 +41,7 @@ use Rattle.sections.specs.Waits.{assignments, Waits}
 use Rattle.sections.specs.declared.Turn.{Turn}
 use Rattle.sections.specs.HowTurns.{itemOf, turnOf, turnAfter}
 use Rattle.sections.specs.Program.{inSection, afterLast, afterGroup, grouped, headed, itemStep, ItemOutcome, ItemMeets, StepOutcome}
-use Rattle.sections.specs.Program.{StepMeets, closes, followed, programFrom}
+use Rattle.sections.specs.Program.{StepMeets, followed, programFrom}
 use Rattle.sections.proofs.Ranges.{StageFits, segment-room, table-there, table-room}
 use Rattle.sections.proofs.Leads.{item-leads, item-onward, item-fits}
 
@@ -227,7 +228,7 @@ module _ (x : Load) (block : List ℕ) where
 
       -- the word of the fault is in the block
       pub turn-place : (f : Fault) → it ≡ item-refused f → i + f .word < wordsInBlock
-      turn-place f e = (rw (sym (m .told) ∙ e) at (item-leads x block c due i core (omega arith))) .1 .inside
+      turn-place f e = (rw (sym (m .told) ∙ e) at (item-leads x block c due i core (omega arith))) .inside
 
       pub turn-waits : (d : LabelCounts) (t : Due) (p : ℕ) → it ≡ Go d t p → Waits x (Program c due) block core
           → Waits x (Program d t) block after

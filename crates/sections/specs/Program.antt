@@ -2,12 +2,13 @@
 -- A section runs on through as many blocks as it needs."
 use Prim.Native.Nat.{ℕ, zero, suc, _+_}
 use mathlib.Core.Path.{_≡_}
-use mathlib.Core.Bool.{Bool, cond, _||_}
+use mathlib.Core.Bool.{cond}
 use mathlib.Core.List.{List}
 use lib.ListN.{getD}
-use lib.Dec.{eqb, leb}
+use lib.Dec.{eqb}
 use Rattle.word.specs.Fault.{further}
 use Rattle.program.specs.Sections.{lastWord}
+use Rattle.program.specs.Pieces.{closes}
 use Rattle.program.specs.declared.Bank.{Bank}
 use Rattle.program.specs.declared.TableSection.{TableSection}
 use Rattle.lists.specs.Obey.{noTable}
@@ -84,10 +85,6 @@ pub record StepOutcome : Type 0 where
 pub record StepMeets (o : StepOutcome) (step : Step) (core : List ℕ) : Type 0 where
   pub told : step ≡ o .step
   pub left : core ≡ o .core
-
--- a zero word or the end at word 254 closes the block
-unfoldable pub closes : List ℕ → ℕ → Bool
-closes block i = leb (lastWord + 1) i || eqb (getD block i 0) 0
 
 -- after the item at place i; "the group, section and block steps pass this up, each adding its word number" (02, #105): a fault that
 -- was told from there is a fault of the block, i words on

@@ -14,6 +14,7 @@ use Rattle.label.specs.Label.{labelOf, finished, programWordFits}
 use Rattle.modification.specs.Assignments.{assignmentsFit}
 use Rattle.program.specs.Sections.{bankOf, segmentOf, tableSectionOf}
 use Rattle.program.specs.Groups.{groupOf}
+use Rattle.program.specs.Pieces.{closes}
 use Rattle.program.specs.Start.{inBank}
 use Rattle.indicator.specs.Indicator.{bitsOf, indicatorBits, bitsBefore, numberAt, indicatorAt, afterField, afterWord, afterAll}
 use Rattle.lists.specs.Obey.{listsObey, tablesObey, tablesOf}
@@ -31,7 +32,7 @@ use Rattle.stage.specs.Record.{recordDue, isOver}
 use Rattle.records.specs.Label.{afterLabel, withLabel, labelStep}
 use Rattle.records.specs.Termination.{terminationStep}
 use Rattle.sections.specs.Heads.{banksFit, withSegment, segmentStep}
-use Rattle.sections.specs.Program.{afterLast, afterGroup, itemStep, closes, programFrom, programStep}
+use Rattle.sections.specs.Program.{afterLast, afterGroup, itemStep, programFrom, programStep}
 use Rattle.map.specs.Map.{stretchOf, mapOf, inCore, stretchesApart, mapObeys}
 use Rattle.rooms.specs.Rooms.{hit, count, free, held, heldEach, idle, atMost, fair, placeRefusal, lowestFree}
 use Rattle.layout.specs.Layout.{mapNumbers, holders, places, placeIn, ownOf, stageIn, listsIn, holds}

@@ -13,6 +13,7 @@ use Rattle.label.specs.Label.{labelOf, finished, programWordFits}
 use Rattle.modification.specs.Assignments.{assignmentsFit}
 use Rattle.program.specs.Sections.{bankOf, segmentOf, tableSectionOf}
 use Rattle.program.specs.Groups.{groupOf}
+use Rattle.program.specs.Pieces.{closes, headAt, piecesFrom}
 use Rattle.program.specs.Start.{inBank}
 use Rattle.indicator.specs.Indicator.{bitsOf, indicatorBits, bitsBefore, numberAt, indicatorAt, afterField, afterWord, afterAll}
 use Rattle.field.specs.Field.{valued, plusOrMinus, movedField, table, referred, pair, minusZero, short, long, constant, switch}
@@ -25,7 +26,7 @@ use Rattle.records.specs.Label.{afterLabel, withLabel, labelStep}
 use Rattle.records.specs.Entries.{entryFits, firstEntry, entriesFit, afterEntries, entryStep}
 use Rattle.records.specs.Termination.{terminationStep}
 use Rattle.sections.specs.Heads.{besideTable, banksFit, withSegment, segmentStep, withSection, sectionStep}
-use Rattle.sections.specs.Program.{afterLast, afterGroup, itemStep, closes, programFrom, programStep}
+use Rattle.sections.specs.Program.{afterLast, afterGroup, itemStep, programFrom, programStep}
 use Rattle.feed.specs.Block.{dueStep, blockStep}
 use Rattle.lists.specs.Obey.{listsObey, tablesObey, tablesOf, tableInside, tablesApart}
 use Rattle.lists.specs.HowKeep.{fourFrom, numbersKept, foursKept, hasRoom, hasWords, wordsFrom, wordsKept, awayRank, ranked}
@@ -46,7 +47,7 @@ use Rattle.feed.specs.Feed.{loadIn, staged, settledOf, takenOf, checkedOf, held
 use Rattle.demands.specs.Orders.{run}
 use Rattle.demands.specs.History.{answerTo, call, event, told}
 use Rattle.demands.specs.Examples.{oldDesk, oldCore, old, answersIn}
-use Rattle.demands.specs.Image.{headAt, piecesFrom, pieces, storeOf, groupsFrom, upToLast, storesFrom, reached, wordFrom}
+use Rattle.demands.specs.Image.{pieces, storeOf, groupsFrom, upToLast, storesFrom, reached, wordFrom}
 use Rattle.demands.specs.Image.{storesBeyond, storesOf, imageOf}
 use Rattle.demands.specs.Taking.{Takes}
 use Rattle.hand_deck.specs.Blocks.{withWords, blank}

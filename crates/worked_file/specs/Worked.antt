@@ -47,7 +47,7 @@ WorkedCore = coreLeft workedLife ≡ splice oldCore 0o2000 workedImage
 abbrev pub workedStates : List State
 workedStates = statesFrom workedLife old
 
--- each is refused in the block that has the fault, with its number
+-- each is refused in the block that has the fault, with its number and place
 abbrev pub FaultyAnswers : Type 0
 FaultyAnswers = map (answerIn workedStates) faultyFiles ≡ map (λ f. Refused (f .fault)) faultyFiles
 
