@@ -63,12 +63,17 @@ static void all_make(void) {
              CLAMP_MADE);
 }
 
-/* A desk with this many loads, the first of them with its segment section read. */
-static void make_desk(unsigned loads, struct entries entries) {
+/* A desk with this many loads, all waiting for their labels; the block is the first one's. */
+static void open_desk(unsigned loads, struct entries entries) {
   all_make();
   for (unsigned load = 0; load < loads; load++)
     all_open(load, entries);
   write_label_block(block, entries);
+}
+
+/* The same with the first load's segment section read. */
+static void make_desk(unsigned loads, struct entries entries) {
+  open_desk(loads, entries);
   all_feed(CLAMP_MORE);
   for (unsigned i = entries_blocks(entries); i > 0; i--) {
     write_entries_block(block);
@@ -229,16 +234,53 @@ static bool begins(const char *text, const char *with) {
   return strncmp(text, with, strlen(with)) == 0;
 }
 
+/* Feeds a block that is taken but once: before it is fed again, to be counted, the desks are put back. */
+static void once_fed(unsigned by) {
+  static uint64_t kept[CLAMP_DESK_WORDS];
+  static struct reader kept_second;
+  memcpy(kept, desk, sizeof kept);
+  kept_second = second;
+  fed[by]();
+  memcpy(desk, kept, sizeof desk);
+  memcpy(peer_desk, kept, sizeof peer_desk);
+  second = kept_second;
+  begin_call();
+  fed[by]();
+  end_call();
+}
+
+/* Whether the call is the feed of a label, of the modification block after it, or of the termination block: then the load waits
+   for that, and the block is it. */
+static bool read_whole(const char *call, unsigned loads, struct entries entries) {
+  if (strcmp(call, "termination") == 0) {
+    write_last_block(block);
+    all_feed(CLAMP_MORE);
+    write_termination_block(block);
+    return true;
+  }
+  if (strcmp(call, "label") != 0 && strcmp(call, "entries") != 0)
+    return false;
+  open_desk(loads, entries);
+  if (strcmp(call, "entries") == 0) {
+    all_feed(CLAMP_MORE);
+    write_entries_block(block);
+  }
+  return true;
+}
+
 static int counted(const char *call, const char *where) {
   struct entries entries = strcmp(where, "full") == 0 ? full : few;
   unsigned by = begins(call, "reader-") ? READER : begins(call, "peer-") ? PEER : CLAMP;
+  unsigned loads = entries.tables == full.tables ? PLACES : 1;
   call += strcspn(call, "-") + 1;
-  make_desk(entries.tables == full.tables ? PLACES : 1, entries);
+  make_desk(loads, entries);
   write_group_block(block, MIXED, entries, strcmp(call, "groups") == 0 ? (unsigned)atoi(where) : 1);
   for (enum shape shape = PLAIN; shape < MIXED; shape++)
     if (strcmp(call, calls[shape]) == 0)
       write_group_block(block, shape, entries, 1);
-  if (strcmp(call, "open") == 0) {
+  if (read_whole(call, loads, entries))
+    once_fed(by);
+  else if (strcmp(call, "open") == 0) {
     make_desk(PLACES - 1, full);
     write_lists(io, tables, full, LAST_AREA, strcmp(where, "falling") == 0);
     once(opened[by]);
