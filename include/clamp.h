@@ -97,7 +97,8 @@ extern "C" {
 #endif
 
 /* The version of this header, and of the library that it came with. The last number rises with a correction, the one before it with
-   a new call or answer, or one that tells more; the first where a program has to change, or a saved desk is of no use any more. */
+   a new call or answer, or one that tells more; the first where a program that takes answers apart by the macros below has to
+   change, or a saved desk is of no use any more. */
 
 #define CLAMP_VERSION_MAJOR 1
 #define CLAMP_VERSION_MINOR 2

@@ -101,6 +101,7 @@ static void check_faults(void) {
   }
   for (code = 0; code < 200; code++)
     check((CLAMP_TELLS_FAULT((code << 32) + 25) != 0) == (code >= 13 && code <= 22), "refusals 13 to 22 tell where the fault is");
+  check(CLAMP_FAULT_WORD(code < 200 ? 30 : 25) == 6 && CLAMP_FAULT_HALF(24 | 1) == CLAMP_HALF_LEFT, "of any expression");
   calls = 0;
   check(CLAMP_FAULT_WORD(counted(25)) == 6 && CLAMP_FAULT_HALF(counted(25)) == CLAMP_HALF_LEFT && calls == 2, "25 is word 6, left");
   check(CLAMP_TELLS_FAULT(counted((uint64_t)22 << 32)) && calls == 3, "these macros evaluate their argument once, too");
