@@ -3,8 +3,9 @@
    bench/run.
 
      feed                     a line for each call, parted by tabs: its name, and the nanoseconds of library, peer, reader and copy
-     feed once LOADER-CALL N  one call between begin_call and end_call, for bench/run to count its instructions; N is few or full,
-                              or falling for open, or how many groups the block of a call of that name has */
+     feed once LOADER-CALL N  one call between begin_call and end_call, for bench/run to count its instructions; N is few or full, or
+                              the file's channels, units and tables, parted by commas; or falling for open, or how many groups the
+                              block of a call of that name has */
 #include <math.h>
 #include <string.h>
 
@@ -249,27 +250,45 @@ static void once_fed(unsigned by) {
   end_call();
 }
 
-/* Whether the call is the feed of a label, of the modification block after it, or of the termination block: then the load waits
-   for that, and the block is it. */
+/* Whether the call is the feed of a label, of the modification block after it, of the one after that, or of the termination block:
+   then the load waits for that, and the block is it. */
 static bool read_whole(const char *call, unsigned loads, struct entries entries) {
+  static const char *const in_order[] = {"label", "entries", "rest"};
+  enum { NAMES = sizeof in_order / sizeof in_order[0] };
+  unsigned fed_before = 0;
   if (strcmp(call, "termination") == 0) {
     write_last_block(block);
     all_feed(CLAMP_MORE);
     write_termination_block(block);
     return true;
   }
-  if (strcmp(call, "label") != 0 && strcmp(call, "entries") != 0)
+  while (fed_before < NAMES && strcmp(call, in_order[fed_before]) != 0)
+    fed_before++;
+  if (fed_before == NAMES)
     return false;
   open_desk(loads, entries);
-  if (strcmp(call, "entries") == 0) {
+  for (unsigned i = 0; i < fed_before; i++) {
     all_feed(CLAMP_MORE);
     write_entries_block(block);
   }
   return true;
 }
 
+static struct entries entries_named(const char *name) {
+  enum { NUMBERS = 3 };
+  struct entries entries = few;
+  if (strcmp(name, "full") == 0)
+    return full;
+  if (strchr(name, ',') != NULL &&
+      sscanf(name, "%" SCNu64 ",%" SCNu64 ",%" SCNu64, &entries.channels, &entries.units, &entries.tables) != NUMBERS) {
+    fprintf(stderr, "feed: %s: no three numbers\n", name);
+    exit(2);
+  }
+  return entries;
+}
+
 static int counted(const char *call, const char *where) {
-  struct entries entries = strcmp(where, "full") == 0 ? full : few;
+  struct entries entries = entries_named(where);
   unsigned by = begins(call, "reader-") ? READER : begins(call, "peer-") ? PEER : CLAMP;
   unsigned loads = entries.tables == full.tables ? PLACES : 1;
   call += strcspn(call, "-") + 1;

@@ -50,12 +50,13 @@ pub enum Side {
 }
 
 // Why a call is refused: the number that 01 gives it; and where: the word, the half of it where a field is at fault, and how many of
-// the group's indicator bits stand before that half's own. Outside a block all of these are 0.
+// the group's indicator bits stand before that half's own. Outside a block all of these are 0. They stand in the order in which a load
+// without fault costs least (docs/DECISIONS.md).
 pub struct Fault {
+    pub bit: u64,
     pub number: u64,
     pub word: u64,
     pub half: Side,
-    pub bit: u64,
 }
 
 // A fault of the first word that its reader was given: a reader says no more of its place.
