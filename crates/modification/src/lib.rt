@@ -1,7 +1,8 @@
 // Whether the assignments fit the file (16): the two lists against the label, and each table's length against the modification
 // record, with how many words and blocks its entries take and where each minimum length stands.
 ghost use mathlib.Core.Path.{_≡_};
-ghost use Prim.Native.Nat.{_≤_, _^_};
+ghost use Prim.Native.Nat.{_*_, _≤_, _^_};
+ghost use lib.ListN.{length};
 ghost use Rattle.word.specs.Lists.{every};
 ghost use Rattle.lists.specs.HowKept.{numbersIn};
 ghost use Rattle.lists.specs.Load.{ioNumbers, Readable};
@@ -41,6 +42,7 @@ pub fn assignments_fit(l: Label, g: Given, lists: &[u64]) -> bool
 
 // Whether each of the first m I/O numbers is one for a jump switch or a channel.
 fn channels_fit(ios: &[u64], m: u64) -> bool
+    requires { ⌜ m ≤ 4 * length (now ios) ⌝ }
     ensures { λ r. ⌜ r ≡ every isChannel (numbersIn (now (ios .entry)) m) ⌝ }
 {
     let mut k: u64 = 0;

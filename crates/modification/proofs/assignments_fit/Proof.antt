@@ -36,7 +36,7 @@ add-channels-fit : tie.Need-add-channels-fit
 add-channels-fit c = search needs
 
 channels-fit-requires : tie.Need-channels-fit-requires
-channels-fit-requires c κs = search needs
+channels-fit-requires c κs = simp length-take (omega arith)
 
 returns-3 : tie.Need-returns-3
 unfolding assignmentsFit ioNumbers iosIn range

@@ -2,7 +2,6 @@
 use Prim.Native.Nat.{_≤_, _-_}
 use mathlib.Core.Path.{_≡_, refl}
 use native.Mathlib.Omega.{arith}
-use borrow.Author.Needs.{needs}
 use lib.ListN.{drop}
 use Rattle.word.specs.Lists.{every}
 use Rattle.lists.specs.HowKept.{numbersIn}
@@ -21,7 +20,7 @@ loop-holds : tie.Need-loop-holds Inv-loop μ-loop
 loop-holds c = (omega arith, refl)
 
 io-number-requires : tie.Need-io-number-requires Inv-loop μ-loop
-io-number-requires c κs = search needs
+io-number-requires c κs = omega arith
 
 returns : tie.Need-returns Inv-loop μ-loop
 returns c =

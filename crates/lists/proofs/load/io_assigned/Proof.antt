@@ -5,7 +5,6 @@ use lib.ListN.{length-take}
 use Rattle.word.specs.Lists.{range}
 use Rattle.lists.specs.Load.{ioNumbers, iosIn}
 use Rattle.lists.proofs.Kept.{numbers-at, numbers-past}
-use borrow.Author.Needs.{needs}
 use Rattle.lists.proofs.load.io_assigned.Statement.{statement}
 use Rattle.lists.proofs.load.io_assigned.Tie as tie
 
@@ -13,7 +12,7 @@ slice-aggregate-io-number : tie.Need-slice-aggregate-io-number
 slice-aggregate-io-number c = simp length-take (omega arith)
 
 io-number-requires : tie.Need-io-number-requires
-io-number-requires c κs = search needs
+io-number-requires c κs = simp length-take (omega arith)
 
 returns : tie.Need-returns
 unfolding ioNumbers iosIn range
