@@ -1,6 +1,6 @@
 # make help lists the targets. What is proved already is not proved again: a target is made when a file of a crate that it needs is
 # newer.
-.PHONY: all help lib programs load deck reseal install test test-c fuzz check clean
+.PHONY: all help lib programs load deck reseal assign install test test-c fuzz check clean
 .DELETE_ON_ERROR:
 .NOTPARALLEL:
 
@@ -16,6 +16,7 @@ help:
 	@echo 'make load <FILE         the load printer on a file of octal lines'
 	@echo 'make deck      the load printer on the hand deck'
 	@echo 'make reseal <FILE       a file of octal lines whose blocks have the old checksum, with the checksum in force'
+	@echo 'make assign BOOK=FILE <FILE    the lists that a facility book gives a file of octal lines'
 	@echo 'make test      the tests outside Rattle: the library by programs in C, its stack, the header, the install, the programs'
 	@echo 'make fuzz SECONDS=60    the library and the second loader compared for this many seconds, with a seed from the clock'
 	@echo 'make check     the gate: every crate proved from nothing, every wrong loader refused, and the tests'
@@ -40,11 +41,12 @@ build/clamp.h: include/clamp.h
 	@mkdir -p build
 	@cp include/clamp.h build/
 
-programs: build/load_printer build/reseal
+programs: build/load_printer build/reseal build/assign
 
 build/load_printer: $(call sources,load_printer)
 build/reseal: $(call sources,reseal)
-build/load_printer build/reseal:
+build/assign: $(call sources,assign)
+build/load_printer build/reseal build/assign:
 	@tools/prove $(@F)
 	@mkdir -p build
 	@cp target/bin/$(@F) build/
@@ -61,6 +63,10 @@ load: build/load_printer
 
 reseal: build/reseal
 	$(run)
+
+# make hands BOOK on in the environment; where there is none the program says how it is used
+assign: build/assign
+	$(run) $${BOOK:+"$$BOOK"}
 
 deck:
 	@$(MAKE) -s load <crates/load_printer/stdin

@@ -5,7 +5,7 @@
 #include <ucontext.h>
 
 #include "block_layout.h"
-#include "file.h"
+#include "books.h"
 #include "reader.h"
 
 enum { STACK_BYTES = 65536, STACK_ALIGNMENT = 64, PATTERN = 0xa5 };
@@ -18,6 +18,8 @@ static ucontext_t here, there;
 static void (*called)(void);
 
 static uint64_t room, place, area, words_lent, number;
+static uint64_t front[FRONT_WORDS_MOST], front_words, book_bytes;
+static uint8_t book[BOOK_BYTES_MOST];
 
 static void make(void) { answer = clamp_make(desk, CLAMP_DESK_WORDS, CORE_MOST, map, MAP_LENGTH); }
 
@@ -29,6 +31,10 @@ static void feed(void) { answer = clamp_feed(desk, CLAMP_DESK_WORDS, core, CORE_
 static void release(void) { answer = clamp_release(desk, CLAMP_DESK_WORDS, CORE_MOST, room, place); }
 static void reseal(void) { answer = clamp_reseal(block, words_lent, number); }
 static void words(void) { answer = clamp_desk_words(); }
+static void needs(void) { answer = clamp_needs(front, words_lent); }
+static void assign(void) {
+  answer = clamp_assign(book, book_bytes, front, front_words, io, ENTRIES_MOST, tables, PAIRS_MOST);
+}
 
 static void run(void) {
   __asm__ volatile("mov %%rsp, %0" : "=r"(from));
@@ -50,7 +56,7 @@ static unsigned depth(void (*call)(void)) {
   return (unsigned)(from - (stack + untouched));
 }
 
-enum { MAKE, OPEN, FEED, RELEASE, RESEAL, WORDS, CALLS };
+enum { MAKE, OPEN, FEED, RELEASE, RESEAL, NEEDS_CALL, ASSIGN, WORDS, CALLS };
 
 static unsigned most[CALLS];
 
@@ -170,8 +176,70 @@ static void reseal_blocks(void) {
   }
 }
 
+/* A block of the full file is sealed anew. */
+static void seal_front(uint64_t block) {
+  unsigned at = block == 0 ? LABEL_CHECKSUM_WORD : CHECKSUM_WORD;
+  front[WORDS_IN_BLOCK * block + at] = reader_checksum(front + WORDS_IN_BLOCK * block, at);
+}
+
+/* Files that are refused: one word changed, and what is then due before the block is sealed anew, and after. */
+static const struct change {
+  unsigned word;
+  uint64_t value, code, sealed_code;
+} changes[] = {{TYPE_FLAG_WORD, 0, CLAMP_REFUSED_CHECKSUM, CLAMP_REFUSED_TYPE_FLAG},
+               {NAME_WORD, 0, CLAMP_REFUSED_CHECKSUM, CLAMP_REFUSED_LABEL},
+               {COUNTS_WORD, 1, CLAMP_REFUSED_CHECKSUM, CLAMP_REFUSED_LABEL},
+               {NAME_AGAIN_WORD, 0, CLAMP_REFUSED_CHECKSUM, CLAMP_REFUSED_LABEL},
+               {SECTIONS_WORD, UINT64_C(1) << BITS_IN_WORD, CLAMP_REFUSED_BLOCK, CLAMP_REFUSED_BLOCK},
+               {3 * WORDS_IN_BLOCK, PRORC, CLAMP_REFUSED_CHECKSUM, CLAMP_REFUSED_RECORD}};
+
+static void note_front(struct change change, uint64_t code) {
+  if (change.word < WORDS_IN_BLOCK)
+    note(NEEDS_CALL, needs, code);
+  note(ASSIGN, assign, code);
+}
+
+static void refuse_fronts(void) {
+  for (unsigned i = 0; i < sizeof changes / sizeof changes[0]; i++) {
+    front_words = write_front(front, full);
+    words_lent = WORDS_IN_BLOCK;
+    front[changes[i].word] = changes[i].value;
+    note_front(changes[i], changes[i].code);
+    seal_front(changes[i].word / WORDS_IN_BLOCK);
+    note_front(changes[i], changes[i].sealed_code);
+  }
+}
+
+/* The full file and its book of 384 records; then books that are refused, of up to 4,096 records, and files. */
+static void assign_books(void) {
+  front_words = write_front(front, full);
+  words_lent = WORDS_IN_BLOCK;
+  book_bytes = write_whole_book(book, full);
+  note(NEEDS_CALL, needs, CLAMP_NEEDS);
+  note(ASSIGN, assign, CLAMP_ASSIGNED);
+  book_bytes -= RECORD_BYTES;
+  note(ASSIGN, assign, CLAMP_REFUSED_TAG_MISSING);
+  for (uint64_t at = tags_in(full); at < RECORDS_MOST; at++)
+    write_record(book, at, at % tags_in(full), full);
+  book_bytes = BOOK_BYTES_MOST;
+  note(ASSIGN, assign, CLAMP_REFUSED_TAG_TWICE);
+  write_record(book, RECORDS_MOST - 1, tags_in(full), full);
+  note(ASSIGN, assign, CLAMP_REFUSED_TAG_UNKNOWN);
+  book[BOOK_BYTES_MOST - 1] = 0;
+  note(ASSIGN, assign, CLAMP_REFUSED_BOOK);
+  front_words--;
+  note(ASSIGN, assign, CLAMP_REFUSED_BLOCK);
+  front_words = WORDS_IN_BLOCK;
+  note(ASSIGN, assign, CLAMP_REFUSED_RECORD);
+  front_words = 0;
+  note(ASSIGN, assign, CLAMP_REFUSED_RECORD);
+  words_lent = 0;
+  note(NEEDS_CALL, needs, CLAMP_REFUSED_BLOCK);
+  refuse_fronts();
+}
+
 int main(void) {
-  static const char *const names[CALLS] = {"make", "open", "feed", "release", "reseal", "desk_words"};
+  static const char *const names[CALLS] = {"make", "open", "feed", "release", "reseal", "needs", "assign", "desk_words"};
   even_map(map);
   note(MAKE, make, CLAMP_MADE);
   for (unsigned load = 0; load < PLACES; load++) {
@@ -192,6 +260,7 @@ int main(void) {
   note(RELEASE, release, CLAMP_RELEASED);
   note(RELEASE, release, CLAMP_REFUSED_PLACE);
   reseal_blocks();
+  assign_books();
   note(WORDS, words, CLAMP_CODE(CLAMP_DESK_WORDS));
   for (unsigned i = 0; i < CALLS; i++)
     printf("%s\t%u\n", names[i], most[i]);

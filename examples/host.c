@@ -1,8 +1,9 @@
 /* host.c: a small host with tapes. Two rooms hold two loads each, of one program at four addresses, and the host feeds the four in
-   turn, block by block. One tape is misread once and read again. One load is assigned a channel that does not exist, and is
-   refused. One tape is cut off. The host says how each load ended, and why, and prints the areas of those that are complete. Then
-   room 0 loads another program, the worked file of worked_file.h, which has something of all that the loader carries. Last, room 1
-   loads the first program once more, from a tape with a fault in it, and the host says in which word and half.
+   turn, block by block. The first is assigned its channel and its table by a facility book, the others by lists. One tape is
+   misread once and read again. One load is assigned a channel that does not exist, and is refused. One tape is cut off. The host
+   says how each load ended, and why, and prints the areas of those that are complete. Then room 0 loads another program, the worked
+   file of worked_file.h, which has something of all that the loader carries. Last, room 1 loads the first program once more, from a
+   tape with a fault in it, and the host says in which word and half.
 
    Build it with the header and the library that `make lib` puts into build/:
 
@@ -70,6 +71,13 @@ static const struct file_word program[] = {
     {3, 1, 0000000000001},
 };
 
+/* The facility book of the first load: the channel CH is number 3, and the table SQ, whose length tag is LSQ, has 4 words at 520.
+   A record has 14 bytes: its kind, six Fieldata codes, here in octal, six digits and a newline. examples/book makes this book of the
+   lines `P CH 3`, `A SQ 520` and `L LSQ 4`. */
+static const char book[] = "P\010\015\005\005\005\005" "000003\n"
+                           "A\030\026\005\005\005\005" "000520\n"
+                           "L\021\030\026\005\005\005" "000004\n";
+
 /* A tape: how many blocks it has, where they stand, the next to be read, and which is misread the first time; where none is, one
    past the last. */
 struct tape {
@@ -96,12 +104,12 @@ static uint64_t squares[BLOCKS][BLOCK_WORDS], worked[WORKED_BLOCKS][BLOCK_WORDS]
 static uint64_t core[CORE_WORDS];
 static uint64_t *desk;
 
-/* Each has one channel, and its table in the last words of its area. */
+/* Each has one channel, and its table in the last words of its area. The first has its lists from the book. */
 #define LISTS(channel, table)                                                                                                      \
   .io = (const uint64_t[]){channel}, .io_length = 1, .tables = (const uint64_t[]){table, TABLE_WORDS}, .tables_length = 2
 
 static struct load loads[LOADS] = {
-    {.room = 0, .area = 01000, .size = AREA_WORDS, LISTS(3, 01010), .tape = {BLOCKS, squares, 0, 2}},
+    {.room = 0, .area = 01000, .size = AREA_WORDS, .tape = {BLOCKS, squares, 0, 2}},
     {.room = 1, .area = 05000, .size = AREA_WORDS, LISTS(14, 05010), .tape = {BLOCKS, squares, 0, BLOCKS}},
     {.room = 0, .area = 02000, .size = AREA_WORDS, LISTS(16, 02010), .tape = {BLOCKS, squares, 0, BLOCKS}},
     {.room = 1, .area = 06000, .size = AREA_WORDS, LISTS(5, 06010), .tape = {2, squares, 0, BLOCKS}},
@@ -183,6 +191,9 @@ static void print_answer(uint64_t answer) {
     printf(", place %" PRIu64, CLAMP_VALUE(answer));
   if (CLAMP_CODE(answer) == CLAMP_DONE)
     printf(", start %06" PRIo64, CLAMP_VALUE(answer));
+  if (CLAMP_CODE(answer) == CLAMP_NEEDS)
+    printf(", I/O references %" PRIu64 ", core tables %" PRIu64 ", modification blocks %" PRIu64, CLAMP_NEEDS_IO(answer),
+           CLAMP_NEEDS_TABLES(answer), CLAMP_NEEDS_BLOCKS(answer));
   printf("\n");
 }
 
@@ -191,6 +202,28 @@ static void print_area(uint64_t area, uint64_t size) {
   for (uint64_t at = area; at < area + size; at++)
     if (core[at] != 0)
       printf("%06" PRIo64 ": %012" PRIo64 "\n", at, core[at]);
+}
+
+/* Gives a load its lists by the book: the label, the tape's first block, tells how long they are, and how many modification blocks
+   come after it. 0 where label, blocks or book are refused. */
+static int assign_load(struct load *load) {
+  static uint64_t io[128], tables[256]; /* as long as they can be */
+  uint64_t blocks;
+  load->answer = clamp_needs(load->tape.blocks[0], BLOCK_WORDS);
+  print_answer(load->answer);
+  if (CLAMP_IS_REFUSAL(load->answer))
+    return 0;
+  load->io = io;
+  load->io_length = CLAMP_NEEDS_IO(load->answer);
+  load->tables = tables;
+  load->tables_length = 2 * CLAMP_NEEDS_TABLES(load->answer);
+  blocks = 1 + CLAMP_NEEDS_BLOCKS(load->answer);
+  if (blocks > load->tape.count) /* a tape that is cut off: assign will tell */
+    blocks = load->tape.count;
+  load->answer = clamp_assign((const uint8_t *)book, sizeof book - 1, load->tape.blocks[0], blocks * BLOCK_WORDS, io,
+                              load->io_length, tables, load->tables_length);
+  print_answer(load->answer);
+  return CLAMP_CODE(load->answer) == CLAMP_ASSIGNED;
 }
 
 /* Opens a load; one that is refused has ended. */
@@ -269,7 +302,7 @@ int main(void) {
   write_files();
   answer = clamp_make(desk, CLAMP_DESK_WORDS, CORE_WORDS, map, 16);
   print_answer(answer);
-  if (CLAMP_IS_REFUSAL(answer)) {
+  if (CLAMP_IS_REFUSAL(answer) || !assign_load(&loads[0])) {
     free(desk);
     return 1;
   }

@@ -7,8 +7,8 @@
 
    WHAT THE EMULATOR KEEPS
 
-   Everything is a uint64_t. The loader keeps nothing of its own between two calls, and allocates no memory: all that it knows
-   stands in a desk, which the emulator keeps and lends to each call.
+   Everything is a uint64_t, but for the bytes of a facility book. The loader keeps nothing of its own between two calls, and
+   allocates no memory: all that it knows stands in a desk, which the emulator keeps and lends to each call.
 
      desk     CLAMP_DESK_WORDS numbers. Make fills it, open, feed and release keep it. Do not write into it: they test the whole
               desk first, and answer one that cannot be right with refusal 1. Two desks have nothing to do with each other.
@@ -35,13 +35,17 @@
      IBANK, DBANK   the program's own two runs of words: its instructions and its data.
      section        a part of the program blocks: the segment section fills IBANK and DBANK, a table section fills one table.
      group          a run of program words with one address, and after them which of their fields are changed, and how.
+     tag            a word of an entry: the name, in six characters of Fieldata, that the program's source had for it.
+     book           a facility book: for tags, what is assigned to them (clamp_assign).
 
 
    WHAT IS TAKEN ON TRUST
 
-   A pointer and the number after it lend a call that many numbers. The loader cannot see whether that is so, and trusts that
+   A pointer and the number after it lend a call that many numbers, or that many bytes of a book. The loader cannot see whether that
+   is so, and trusts that
 
-     - lent memory is as long as said, aligned as a uint64_t is, and may be written where the pointer is not to const;
+     - lent memory is as long as said, aligned as a uint64_t is (a book may stand anywhere), and may be written where the pointer is
+       not to const;
      - no two slices lent to one call overlap. So do not lend make a map that lies inside the desk (copy it out first), nor feed a
        block that lies inside the core (read it into a buffer of its own);
      - nothing else reads or writes the desk and the core, or writes into the others, while the call runs.
@@ -76,8 +80,9 @@
    is for the library that made it: save CLAMP_VERSION_STRING beside it.
 
    Stack. Measured, the most of many calls: 2,624 bytes in open, 1,008 in feed, 336 in release, 64 in make, 16 in reseal
-   (docs/PERFORMANCE.md). The tests fail where open takes over 3,072 or another call over 1,024. The first call that copies or
-   clears memory may take some 3 KB more, where the dynamic linker then looks for memcpy or memset. No call is recursive.
+   (docs/PERFORMANCE.md). The tests fail where assign takes over 8,192, open over 3,072 or another call over 1,024. The first call
+   that copies or clears memory may take some 3 KB more, where the dynamic linker then looks for memcpy or memset. No call is
+   recursive.
 
    Cost. Open, feed and release test the whole desk: some 400 instructions with one load of few tables, 8,700 with twelve loads of
    128 tables each. To that a program block adds from 1,300 (no field changed) to 22,000 (every field), and open has the area to clear
@@ -101,9 +106,9 @@ extern "C" {
    change, or a saved desk is of no use any more. */
 
 #define CLAMP_VERSION_MAJOR 1
-#define CLAMP_VERSION_MINOR 2
+#define CLAMP_VERSION_MINOR 3
 #define CLAMP_VERSION_PATCH 0
-#define CLAMP_VERSION_STRING "1.2.0"
+#define CLAMP_VERSION_STRING "1.3.0"
 #define CLAMP_VERSION_NUMBER (CLAMP_VERSION_MAJOR * 10000 + CLAMP_VERSION_MINOR * 100 + CLAMP_VERSION_PATCH)
 
 /* How many numbers a desk has, 29,224 bytes: what clamp_desk_words() answers. Where the two differ, the program was compiled with
@@ -117,14 +122,15 @@ extern "C" {
 #define CLAMP_CODE(answer) ((uint64_t)(answer) >> 32)
 #define CLAMP_VALUE(answer) ((uint64_t)(answer) & 0xffffffffu)
 
-/* Whether an answer is a refusal: a code from 1 to 63, which is the refusal's number. The value of refusals 1 to 12 is 0; that of
-   13 to 22 tells where the fault is. */
+/* Whether an answer is a refusal: a code from 1 to 63, which is the refusal's number. The value of refusals 1 to 12 and 24 to 27 is
+   0; that of 13 to 22 tells where the fault is. */
 
 #define CLAMP_IS_REFUSAL(answer) (CLAMP_CODE(answer) - 1u < 63u)
 
 /* Whether an answer tells where a fault is, as refusals 13 to 22 do; and of one that does, the word and the half. The word is its
-   number in the block that was refused, 0 to 255. The half is the left one (bits 33-18), the right one (bits 15-0) or none. The
-   value is the word's number times 4, plus the half's; before version 1.2 it was 0. At clamp_feed stands which word is told. */
+   number in the block that was refused, 0 to 255; assign, which is lent several blocks at once, counts it through all of them. The
+   half is the left one (bits 33-18), the right one (bits 15-0) or none. The value is the word's number times 4, plus the half's;
+   before version 1.2 it was 0. At clamp_feed stands which word is told. */
 
 #define CLAMP_TELLS_FAULT(answer) (CLAMP_CODE(answer) - 13u < 10u)
 #define CLAMP_FAULT_WORD(answer) (CLAMP_VALUE(answer) >> 2)
@@ -133,6 +139,13 @@ extern "C" {
 #define CLAMP_HALF_NONE 0u
 #define CLAMP_HALF_LEFT 1u
 #define CLAMP_HALF_RIGHT 2u
+
+/* What CLAMP_NEEDS, the answer of needs, tells of a label's file: how many I/O references it has, how many core tables, and how many
+   modification blocks stand after its label. The value is the first, 2^10 times the second and 2^20 times the third. */
+
+#define CLAMP_NEEDS_IO(answer) (CLAMP_VALUE(answer) & 1023u)
+#define CLAMP_NEEDS_TABLES(answer) (CLAMP_VALUE(answer) >> 10 & 1023u)
+#define CLAMP_NEEDS_BLOCKS(answer) (CLAMP_VALUE(answer) >> 20)
 
 /* Refusals 1 to 12 change nothing: desk and core are left as they were. Of several that are due the lowest is given. */
 
@@ -150,10 +163,10 @@ extern "C" {
 #define CLAMP_REFUSED_BLOCK 11u       /* the block is not 256 words, or a word is 2^36 or more */
 #define CLAMP_REFUSED_CHECKSUM 12u    /* the block's checksum word differs */
 
-/* Refusals 13 to 22 are feed's alone. They set the area to zero and break the load. The first fault in reading order is given, and
-   of several at one word or field the lowest. The value tells where it is. */
+/* Refusals 13 to 22 are feed's; 13 to 15 are assign's too, and 14 and 15 are needs'. By feed they set the area to zero and break the
+   load. The first fault in reading order is given, and of several at one word or field the lowest. The value tells where it is. */
 
-#define CLAMP_REFUSED_RECORD 13u      /* the block is of the wrong record */
+#define CLAMP_REFUSED_RECORD 13u      /* the block is of the wrong record; by assign also: a block is missing or over */
 #define CLAMP_REFUSED_TYPE_FLAG 14u   /* the label's program type flag is not 001 */
 #define CLAMP_REFUSED_LABEL 15u       /* the label is at fault */
 #define CLAMP_REFUSED_ASSIGNMENTS 16u /* the lists that were given to open do not fit the file */
@@ -164,6 +177,13 @@ extern "C" {
 #define CLAMP_REFUSED_VALUE 21u       /* a field's value would be outside 0 to 65,535 */
 #define CLAMP_REFUSED_START 22u       /* the start is not in the IBANK */
 
+/* Refusals 24 to 27 are assign's alone. They change nothing, and of several that are due the lowest is given. 23 is none yet. */
+
+#define CLAMP_REFUSED_BOOK 24u        /* the book has a bad record or a part of one, or a list is not as long as the file needs */
+#define CLAMP_REFUSED_TAG_UNKNOWN 25u /* the book has a tag that the file does not have in its kind */
+#define CLAMP_REFUSED_TAG_TWICE 26u   /* the book has a tag twice in one kind */
+#define CLAMP_REFUSED_TAG_MISSING 27u /* the file has a tag that the book does not have in its kind */
+
 /* The codes from 64 on are the answers of a call that was accepted. The value is 0 except where noted. */
 
 #define CLAMP_MADE 64u     /* by make */
@@ -171,6 +191,8 @@ extern "C" {
 #define CLAMP_MORE 66u     /* by feed: the block is accepted, another is due */
 #define CLAMP_DONE 67u     /* by feed: the load is complete; the value is the absolute address of its start */
 #define CLAMP_RELEASED 68u /* by release */
+#define CLAMP_ASSIGNED 69u /* by assign */
+#define CLAMP_NEEDS 70u    /* by needs; the value is what CLAMP_NEEDS_IO and the two after it tell */
 #define CLAMP_RESEALED 72u /* by reseal */
 
 /* A code in words, for a person to read: what was refused and why, or what was accepted. It is never NULL. */
@@ -199,11 +221,17 @@ static inline const char *clamp_text(uint64_t code) {
   case CLAMP_REFUSED_REFERENCE: return "a field refers to an entry that does not exist";
   case CLAMP_REFUSED_VALUE: return "a field's value would be outside 0 to 65,535";
   case CLAMP_REFUSED_START: return "the start is not in the IBANK";
+  case CLAMP_REFUSED_BOOK: return "the book has a bad record or a part of one, or a list is not as long as the file needs";
+  case CLAMP_REFUSED_TAG_UNKNOWN: return "the book has a tag that the file does not have in its kind";
+  case CLAMP_REFUSED_TAG_TWICE: return "the book has a tag twice in one kind";
+  case CLAMP_REFUSED_TAG_MISSING: return "the file has a tag that the book does not have in its kind";
   case CLAMP_MADE: return "made";
   case CLAMP_OPENED: return "opened";
   case CLAMP_MORE: return "more";
   case CLAMP_DONE: return "done";
   case CLAMP_RELEASED: return "released";
+  case CLAMP_ASSIGNED: return "assigned";
+  case CLAMP_NEEDS: return "needs";
   case CLAMP_RESEALED: return "resealed";
   default: return "no answer of this version";
   }
@@ -353,6 +381,75 @@ uint64_t clamp_feed(uint64_t *desk, uint64_t desk_len,
 
 uint64_t clamp_release(uint64_t *desk, uint64_t desk_len,
                        uint64_t core_len, uint64_t room, uint64_t place);
+
+
+/* Needs: what a file's label says of the lists and blocks that its file needs. It needs no desk, and writes nothing.
+
+     label, label_len   the label, the first block of the file
+
+   Answers:
+
+     CLAMP_NEEDS, value   the label is without fault. CLAMP_NEEDS_IO is how many I/O references the file has, at most 128, and so how
+                          long open's list of I/O numbers is to be. CLAMP_NEEDS_TABLES is how many core tables it has, at most 128:
+                          the list of tables is to be twice as long. CLAMP_NEEDS_BLOCKS is how many modification blocks stand after
+                          the label, at most 3: none just where the file has neither.
+     11, 0                label_len is not 256, or a word is 2^36 or more
+     12, 0                the checksum word, word 254, differs
+     14, fault            the label's program type flag is not 001
+     15, fault            the label is at fault
+
+   14 and 15 and their words are those of clamp_feed. Whether lists fit the file (16) is not looked at. */
+
+uint64_t clamp_needs(const uint64_t *label, uint64_t label_len);
+
+
+/* Assign: open's two lists for a file, by the tags of its entries. It needs no desk.
+
+     book, book_len       the facility book: records of CLAMP_RECORD_BYTES bytes, in any order, and nothing else
+     blocks, blocks_len   the file's label and its modification blocks, one after the other: 256 words each
+     io, io_len           where the list of I/O numbers is to be: as many numbers as the file has I/O references
+     tables, tables_len   where the list of tables is to be: twice as many numbers as the file has core tables
+
+   A record of the book gives one tag of the file a number:
+
+     byte 0          its kind, a capital letter of ASCII: A a table's address, L a table's length, P an I/O reference (a peripheral)
+     bytes 1 to 6    the tag, a Fieldata code from 0 to 63 in each: byte 1 is in bits 35-30 of the tag's word, byte 6 in bits 5-0
+     bytes 7 to 12   the number, six digits of ASCII: 000000 to 999999
+     byte 13         a newline, 10. A code of the tag may be 10 too: do not cut a book at its newlines.
+
+   P is about the first word of an I/O reference's entry, A about the first word of a table's entry, L about the second. Where
+   entries share a tag, one record gives all of them its number: one length may serve several tables. The same tag in two kinds is
+   two tags. examples/book makes a book of lines that a person has typed.
+
+   Answers:
+
+     CLAMP_ASSIGNED, 0   io has for each I/O reference, in the file's order, the number that the book gives its tag; tables has for
+                         each core table the number of its address tag and that of its length tag. No other lists agree with the
+                         book. It is for open and feed to judge the numbers (8, 16).
+     11, 0               a block is not 256 words, or a word is 2^36 or more
+     12, 0               a block's checksum word differs
+     13, fault           there is no block at all, or the one at this word is missing, no modification block, or one too many
+     14, fault           the label's program type flag is not 001
+     15, fault           the label is at fault
+     24, 0               book_len is no multiple of 14; a record has another letter, a code over 63, no digit where one is due or no
+                         newline; io_len is not the number of I/O references, or tables_len not twice that of core tables
+     25, 0               a record's tag is no entry's, at the word that its kind is about
+     26, 0               two records have the same kind and tag, be it with the same number
+     27, 0               an entry has a tag for which there is no record of its kind
+
+   The blocks are tested first, one after the other, each for 11, then 12, then the rest, as feeding them would; but 16 is left out.
+   The value `fault` tells a word, counted from the first of all blocks (CLAMP_FAULT_WORD). Of a missing block it is the word where
+   it would begin. Of blocks over, the first is tested for 11 and 12 before it is refused with 13, and no other is looked at. Then 24
+   is tested over book and lists, 25 over the whole book, then 26, then 27. For a file without entries an empty book is right.
+
+   Refused, both lists are as they were. */
+
+#define CLAMP_RECORD_BYTES 14
+
+uint64_t clamp_assign(const uint8_t *book, uint64_t book_len,
+                      const uint64_t *blocks, uint64_t blocks_len,
+                      uint64_t *io, uint64_t io_len,
+                      uint64_t *tables, uint64_t tables_len);
 
 
 /* Reseal: a block of an old file is sealed by the checksum rule in force.

@@ -1,6 +1,6 @@
 /* header.c: what clamp.h says beside its calls: versions, the desk's length, names and words of the codes, where a fault is, and
-   that a desk is plain numbers that may be copied, saved and brought back; and the hand deck resealed. C99, C11 and C++:
-   tests/header builds it as each, and runs it with the hand deck on standard input. */
+   that a desk is plain numbers that may be copied, saved and brought back; and the hand deck assigned and resealed. C99, C11 and
+   C++: tests/header builds it as each, and runs it with the hand deck on standard input. */
 #include <stdio.h>
 #include <string.h>
 
@@ -39,17 +39,27 @@ static const uint64_t refusals[] = {CLAMP_REFUSED_DESK, CLAMP_REFUSED_CORE, CLAM
                                     CLAMP_REFUSED_SECTION, CLAMP_REFUSED_GROUP, CLAMP_REFUSED_FORM, CLAMP_REFUSED_REFERENCE,
                                     CLAMP_REFUSED_VALUE, CLAMP_REFUSED_START};
 static const struct {
-  uint64_t name, number; /* 69 to 71 are no answers of this version */
-} accepted[] = {{CLAMP_MADE, 64}, {CLAMP_OPENED, 65},   {CLAMP_MORE, 66},
-                {CLAMP_DONE, 67}, {CLAMP_RELEASED, 68}, {CLAMP_RESEALED, 72}};
+  uint64_t name, number; /* 23 and 71 are no answers of this version */
+} others[] = {{CLAMP_REFUSED_BOOK, 24},
+              {CLAMP_REFUSED_TAG_UNKNOWN, 25},
+              {CLAMP_REFUSED_TAG_TWICE, 26},
+              {CLAMP_REFUSED_TAG_MISSING, 27},
+              {CLAMP_MADE, 64},
+              {CLAMP_OPENED, 65},
+              {CLAMP_MORE, 66},
+              {CLAMP_DONE, 67},
+              {CLAMP_RELEASED, 68},
+              {CLAMP_ASSIGNED, 69},
+              {CLAMP_NEEDS, 70},
+              {CLAMP_RESEALED, 72}};
 
-enum { REFUSALS = sizeof refusals / sizeof refusals[0], ACCEPTED = sizeof accepted / sizeof accepted[0] };
+enum { REFUSALS = sizeof refusals / sizeof refusals[0], OTHERS = sizeof others / sizeof others[0] };
 
 /* Whether it is one of the numbers that have names. */
 static int is_answer(uint64_t code) {
   unsigned i;
-  for (i = 0; i < ACCEPTED; i++)
-    if (code == accepted[i].number)
+  for (i = 0; i < OTHERS; i++)
+    if (code == others[i].number)
       return 1;
   return code >= 1 && code <= REFUSALS;
 }
@@ -64,12 +74,12 @@ static void check_codes(void) {
   const char *const none = clamp_text(0);
   uint64_t code, other;
   unsigned i;
-  check(REFUSALS == 22, "22 refusals have names");
+  check(REFUSALS == 22, "refusals 1 to 22 have names");
   for (i = 0; i < REFUSALS; i++)
     check(refusals[i] == i + 1, "each name has its number");
-  check(ACCEPTED == 6, "six accepted answers have names");
-  for (i = 0; i < ACCEPTED; i++)
-    check(accepted[i].name == accepted[i].number, "each accepted answer has its number");
+  check(OTHERS == 4 + 8, "four refusals of a book and eight accepted answers have names");
+  for (i = 0; i < OTHERS; i++)
+    check(others[i].name == others[i].number, "each of these has its number");
   for (code = 0; code < 200; code++) {
     int named = is_answer(code);
     check((strcmp(clamp_text(code), none) != 0) == named, "just the answers of this version have words");
@@ -177,7 +187,43 @@ static void check_told_fault(void) {
   }
 }
 
-/* ---- the call that needs no desk */
+/* ---- the calls that need no desk */
+
+/* Every value that needs can tell, put together as the header says. */
+static void check_needs(void) {
+  uint64_t io, tables;
+  for (io = 0; io <= 128; io++) {
+    int apart = 1;
+    for (tables = 0; tables <= 128; tables++) {
+      uint64_t blocks = (2 * io + 3 * tables + 253) / 254;
+      uint64_t answer = ((uint64_t)CLAMP_NEEDS << 32) + io + 1024 * tables + 1048576 * blocks;
+      apart = apart && CLAMP_NEEDS_IO(answer) == io && CLAMP_NEEDS_TABLES(answer) == tables && CLAMP_NEEDS_BLOCKS(answer) == blocks;
+    }
+    check(apart, "what a label needs taken apart");
+  }
+  calls = 0;
+  check(CLAMP_NEEDS_IO(counted(1)) == 1 && CLAMP_NEEDS_TABLES(counted(1024)) == 1 && calls == 2, "these macros evaluate");
+  check(CLAMP_NEEDS_BLOCKS(counted(1048576)) == 1 && calls == 3, "their argument once, too");
+}
+
+/* The hand deck has no entries: its label is all that assign takes, and an empty book gives empty lists, which may be at NULL. */
+static void check_assigned(void) {
+  static const uint8_t record[] = "P\006\005\005\005\005\005000001\n";
+  uint64_t answer, list[1] = {7};
+  check(sizeof record - 1 == CLAMP_RECORD_BYTES, "a record has 14 bytes");
+  check(clamp_needs(deck[0], 256) == (uint64_t)CLAMP_NEEDS << 32, "the hand deck needs no lists");
+  check(clamp_needs(NULL, 0) == (uint64_t)CLAMP_REFUSED_BLOCK << 32, "a label of length 0 at NULL");
+  check(CLAMP_CODE(clamp_needs(deck[1], 256)) == CLAMP_REFUSED_CHECKSUM, "a block that is no label, and is sealed elsewhere");
+  check(clamp_assign(NULL, 0, deck[0], 256, NULL, 0, NULL, 0) == (uint64_t)CLAMP_ASSIGNED << 32, "the hand deck is assigned");
+  answer = clamp_assign(NULL, 0, deck[0], 512, NULL, 0, NULL, 0);
+  check(CLAMP_CODE(answer) == CLAMP_REFUSED_RECORD && CLAMP_FAULT_WORD(answer) == 256, "a block over, at word 256");
+  answer = clamp_assign(NULL, 0, NULL, 0, NULL, 0, NULL, 0);
+  check(CLAMP_CODE(answer) == CLAMP_REFUSED_RECORD && CLAMP_FAULT_WORD(answer) == 0, "no block at all");
+  check(clamp_assign(record, 14, deck[0], 256, NULL, 0, NULL, 0) == (uint64_t)CLAMP_REFUSED_TAG_UNKNOWN << 32, "no such tag");
+  check(clamp_assign(record, 13, deck[0], 256, NULL, 0, NULL, 0) == (uint64_t)CLAMP_REFUSED_BOOK << 32, "a part of a record");
+  check(clamp_assign(NULL, 0, deck[0], 256, list, 1, NULL, 0) == (uint64_t)CLAMP_REFUSED_BOOK << 32, "a list too long");
+  check(list[0] == 7, "which is as it was");
+}
 
 /* By the rule before request #104 the hand deck's program block ended 000001146450. No carry arises in the other blocks, which are
    the same by either rule. */
@@ -204,6 +250,8 @@ int main(void) {
   check_faults();
   check_saved();
   check_told_fault();
+  check_needs();
+  check_assigned();
   check_resealed();
   printf("%lu passed, %lu failed\n", passed, failed);
   return failed != 0;

@@ -12,7 +12,7 @@ use Rattle.word.specs.Runs.{apart}
 use Rattle.word.specs.Fault.{fault}
 use Rattle.word.specs.declared.Area.{Area}
 use Rattle.word.proofs.Cases.{and-left}
-use Rattle.word.proofs.Lists.{length-range, range-lent, range-splice-after, length-splice, splice-whole, splice-lent}
+use Rattle.word.proofs.Lists.{length-range, range-lent, range-splice-after, length-splice, lent-whole}
 use Rattle.map.specs.declared.Stretch.{Stretch}
 use Rattle.map.specs.Map.{mapOf, none}
 use Rattle.rooms.specs.Rooms.{placeRefusal, lowestFree}
@@ -75,14 +75,7 @@ module _ (d : List ℕ) (r : ℕ) (a : Area) (m : List Stretch) (e : m ≡ mapOf
   unfolding areaFits
   area-inside b q p = rw (← e, q) p
 
--- ---- a part of a list lent, and all of it written
-lent-whole : (l : List ℕ) (a n : ℕ) (vs : List ℕ) → a + n ≤ length l → length vs ≡ n
-    → take a l ++ (vs ++ drop (a + n - a) (drop a l)) ≡ splice l a vs
-lent-whole l a n vs h k =
-    let t = take (a + n - a) (drop a l) in
-    let e : length vs ≡ length t = k ∙ sym (ap length (range-lent l a n) ∙ length-range l a n h) in
-    rw (splice-whole t vs e) at (splice-lent l a n vs h (omega arith))
-
+-- ---- a place, lent as a part of the desk
 -- the numbers of place p, from b on
 pub place-long : (d : List ℕ) (p b : ℕ) → length d ≡ deskWords → p < placeCount → b ≡ base p
     → length (take (b + placeWords - b) (drop b d)) ≡ placeWords

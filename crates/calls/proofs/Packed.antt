@@ -7,7 +7,7 @@ use Rattle.calls.specs.Answer.{codeOf, valueOf, packed, SmallFault, Smal
 use Rattle.calls.specs.declared.Answer.{Answer}
 use Rattle.calls.specs.declared.Answer.the-variants.{Refused, Made, Opened, More, Done, Released}
 use Rattle.calls.specs.declared.files.FileAnswer.{FileAnswer}
-use Rattle.calls.specs.declared.files.FileAnswer.the-variants.{Refused as FileRefused, Resealed}
+use Rattle.calls.specs.declared.files.FileAnswer.the-variants.{Refused as FileRefused, Assigned, Needs, Resealed}
 
 -- a refusal without a place fits
 pub small-fault : (n : ℕ) → n < 64 → SmallFault (fault n)
@@ -24,4 +24,6 @@ packed-apart Released h = (omega arith, omega arith)
 pub file-packed-apart : (a : FileAnswer) → FileSmall a
     → (filePacked a / 2 ^ 32 ≡ fileCodeOf a) × (filePacked a % 2 ^ 32 ≡ fileValueOf a)
 file-packed-apart (FileRefused f) h = (omega arith, omega arith)
+file-packed-apart Assigned h = (omega arith, omega arith)
+file-packed-apart (Needs n) h = (omega arith, omega arith)
 file-packed-apart Resealed h = (omega arith, omega arith)

@@ -4,9 +4,11 @@ ghost use Rattle.calls.specs.Answer.{filePacked, FileSmall};
 use crate::CODE;
 use word::Fault;
 
-// What such a call answers: a refusal; resealed.
+// What such a call answers: a refusal; assigned; needs, with what is needed as one number; resealed.
 pub enum FileAnswer {
     Refused(Fault),
+    Assigned,
+    Needs(u64),
     Resealed,
 }
 
@@ -17,6 +19,8 @@ pub fn pack_file(a: FileAnswer) -> u64
 {
     match a {
         FileAnswer::Refused(f) => crate::pack_fault(f),
+        FileAnswer::Assigned => 69 * CODE,
+        FileAnswer::Needs(n) => 70 * CODE + n,
         FileAnswer::Resealed => 72 * CODE,
     }
 }

@@ -6,9 +6,12 @@ ghost use Rattle.calls.specs.Make.{makeOf};
 ghost use Rattle.calls.specs.Open.{openOf};
 ghost use Rattle.calls.specs.Release.{releaseOf};
 ghost use Rattle.feed.specs.Feed.{feedOf};
-ghost use Rattle.clamp.specs.Returned.{Returned, ResealReturned};
+ghost use Rattle.calls.specs.Answer.{filePacked};
+ghost use Rattle.front.specs.Front.{labelBlock};
+ghost use Rattle.clamp.specs.Returned.{Returned, ResealReturned, AssignReturned, needsAnswer};
 use block::Verdict;
 use calls::files::FileAnswer;
+use label::LabelRead;
 use layout::DESK_WORDS;
 use word::Absolute;
 use word::Area;
@@ -81,6 +84,34 @@ pub extern "C" fn clamp_reseal(block: &mut [u64], index: u64) -> u64
 {
     match old_seal::reseal(block, index) {
         Verdict::Pass => calls::files::pack_file(FileAnswer::Resealed),
+        Verdict::Refused(f) => calls::files::pack_file(FileAnswer::Refused(f)),
+    }
+}
+
+// What a file needs of the lists, by its label.
+#[no_mangle]
+pub extern "C" fn clamp_needs(label: &[u64]) -> u64
+    ensures { λ r. ⌜ r ≡ filePacked (needsAnswer (labelBlock (now (label .entry)))) ⌝ }
+{
+    match front::read_label_block(label) {
+        LabelRead::Good(l) => calls::files::pack_file(FileAnswer::Needs(front::needs_value(l))),
+        LabelRead::Bad(f) => calls::files::pack_file(FileAnswer::Refused(f)),
+    }
+}
+
+// The two lists for open, from a facility book and the front of a file.
+#[no_mangle]
+pub extern "C" fn clamp_assign(
+    book: &[u8],
+    blocks: &[u64],
+    io: &mut [u64],
+    tables: &mut [u64],
+) -> u64
+    ensures { λ r. ⌜ AssignReturned (now (book .entry)) (now (blocks .entry)) (now (io .entry)) (now (tables .entry))
+        r (now (io .exit)) (now (tables .exit)) ⌝ }
+{
+    match book::assign(book, blocks, io, tables) {
+        Verdict::Pass => calls::files::pack_file(FileAnswer::Assigned),
         Verdict::Refused(f) => calls::files::pack_file(FileAnswer::Refused(f)),
     }
 }

@@ -15,7 +15,7 @@ use Rattle.word.specs.Fault.{fault, further}
 use Rattle.word.specs.Lists.{every, range, splice, cleared}
 use Rattle.word.specs.Word.{isWord}
 use Rattle.word.proofs.Cases.{by-test}
-use Rattle.word.proofs.Lists.{length-range, getD-range, range-lent, splice-whole, splice-lent}
+use Rattle.word.proofs.Lists.{length-range, getD-range, range-lent, splice-whole, lent-whole}
 use Rattle.word.proofs.Stretch.{every-range}
 use Rattle.program.specs.declared.Group.{Group}
 use Rattle.field.specs.Field.{Assignments}
@@ -162,15 +162,7 @@ module _ (x : Given) (l block : List ℕ) (i : ℕ) (g : Group) (out : List ℕ)
           (λ t. rw (t, filled-stop gives (sym e ∙ changed .told), ← rw t at y) (rw long-out at z))
           (λ t. rw (t, ← rw t at y) (rw long-out at z))
 
--- ---- a group's words in the core: what is left when they come back as the part that was lent
-lent-back : (l : List ℕ) (a n : ℕ) (vs : List ℕ) → a + n ≤ length l → length vs ≡ n
-    → take a l ++ (vs ++ drop (a + n - a) (drop a l)) ≡ splice l a vs
-lent-back l a n vs h e =
-    let t : length (take (a + n - a) (drop a l)) ≡ n = ap length (range-lent l a n) ∙ length-range l a n h in
-    ap (λ (m : List ℕ). take a l ++ (m ++ drop (a + n - a) (drop a l)))
-    (sym (splice-whole (take (a + n - a) (drop a l)) vs (e ∙ sym t)))
-    ∙ splice-lent l a n vs h (omega (arith, e))
-
+-- ---- a group's words in the core, lent as a part of it
 module _ (a : Assignments) (section : Section) (block : List ℕ) (i : ℕ) (g : Group) (core : List ℕ) where
   abbrev to : ℕ
   to = addressOf (a .area) section g .0
@@ -239,6 +231,6 @@ module _ (a : Assignments) (section : Section) (block : List ℕ) (i : ℕ) (g :
       let o = fill-is q in
       rw e (record {
         told = m .told ∙ o .told;
-        left = lent-back core to (g .program) out h (ap length (m .left) ∙ fill-many long)
+        left = lent-whole core to (g .program) out h (ap length (m .left) ∙ fill-many long)
             ∙ ap (splice core to) (m .left) ∙ o .left;
       })

@@ -20,13 +20,23 @@ entryWords io tables = 2 * io + 3 * tables
 abbrev pub entryBlocks : ℕ → ℕ → ℕ
 entryBlocks io tables = (entryWords io tables + (entryWordsInBlock - 1)) / entryWordsInBlock
 
--- the third word of table t's entry, counted from 0 through all entry words
-abbrev pub lengthWord : ℕ → Reference → ℕ
-lengthWord io t = 2 * io + 3 * t .0 + 2
+-- the first word of an entry, counted from 0 through all entry words: I/O reference r's, core table t's
+abbrev pub ioEntry : Reference → ℕ
+ioEntry r = 2 * r .0
 
--- the block, and the word of the block, at which it stands
+abbrev pub coreEntry : ℕ → Reference → ℕ
+coreEntry io t = 2 * io + 3 * t .0
+
+-- the block, and the word of the block, at which the word so counted k stands
+abbrev pub spotOf : ℕ → Spot
+spotOf k = record { block = k / entryWordsInBlock; word = k % entryWordsInBlock + 1 }
+
+-- the third word of table t's entry, and where it stands
+abbrev pub lengthWord : ℕ → Reference → ℕ
+lengthWord io t = coreEntry io t + 2
+
 abbrev pub lengthSpot : ℕ → Reference → Spot
-lengthSpot io t = record { block = lengthWord io t / entryWordsInBlock; word = lengthWord io t % entryWordsInBlock + 1 }
+lengthSpot io t = spotOf (lengthWord io t)
 
 -- "only the third word's bits 15-0 matter, the minimum length"
 abbrev pub minimum : ℕ → ℕ

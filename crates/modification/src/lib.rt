@@ -7,7 +7,8 @@ ghost use Rattle.word.specs.Lists.{every};
 ghost use Rattle.lists.specs.HowKept.{numbersIn};
 ghost use Rattle.lists.specs.Load.{ioNumbers, Readable};
 ghost use Rattle.label.specs.Label.{Carried};
-ghost use Rattle.modification.specs.Entries.{entryWords, entryBlocks, lengthSpot, minimum, lengthFits};
+ghost use Rattle.modification.specs.Entries.{entryWords, entryBlocks, ioEntry, coreEntry, spotOf, lengthSpot};
+ghost use Rattle.modification.specs.Entries.{minimum, lengthFits};
 ghost use Rattle.modification.specs.Assignments.{isChannel, assignmentsFit};
 use label::Label;
 use lists::Given;
@@ -71,16 +72,38 @@ pub fn entry_blocks(io: u64, tables: u64) -> u64
     (entry_words(io, tables) + (ENTRY_WORDS - 1)) / ENTRY_WORDS
 }
 
+// Where entry word k stands, counted from 0 through all entry words.
+pub fn spot_of(k: u64) -> Spot
+    ensures { λ r. ⌜ r ≡ spotOf k ⌝ }
+{
+    Spot {
+        block: k / ENTRY_WORDS,
+        word: k % ENTRY_WORDS + 1,
+    }
+}
+
+// The first word of table t's entry, so counted.
+pub fn core_entry(io: u64, t: Reference) -> u64
+    requires { ⌜ (io ≤ 2 ^ 16) × (t .0 ≤ 2 ^ 16) ⌝ }
+    ensures { λ r. ⌜ r ≡ coreEntry io t ⌝ }
+{
+    2 * io + 3 * t.0
+}
+
+// The first word of I/O reference r's entry.
+pub fn io_entry(r: Reference) -> u64
+    requires { ⌜ r .0 ≤ 2 ^ 16 ⌝ }
+    ensures { λ k. ⌜ k ≡ ioEntry r ⌝ }
+{
+    2 * r.0
+}
+
 // Where the third word of table t's entry stands.
 pub fn length_spot(io: u64, t: Reference) -> Spot
     requires { ⌜ (io ≤ 2 ^ 16) × (t .0 ≤ 2 ^ 16) ⌝ }
     ensures { λ r. ⌜ r ≡ lengthSpot io t ⌝ }
 {
-    let k = 2 * io + 3 * t.0 + 2;
-    Spot {
-        block: k / ENTRY_WORDS,
-        word: k % ENTRY_WORDS + 1,
-    }
+    spot_of(core_entry(io, t) + 2)
 }
 
 // The minimum length in the third word of an entry.

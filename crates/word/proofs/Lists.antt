@@ -216,6 +216,14 @@ splice-lent l a n vs h k =
     )
     (sym (append-assoc (take a l) vs (drop (a + length vs) l)))
 
+-- the same where all of the part was written
+pub lent-whole : (l : List ℕ) (a n : ℕ) (vs : List ℕ) → a + n ≤ length l → length vs ≡ n
+    → take a l ++ (vs ++ drop (a + n - a) (drop a l)) ≡ splice l a vs
+lent-whole l a n vs h k =
+    let t = take (a + n - a) (drop a l) in
+    let e : length vs ≡ length t = k ∙ sym (ap length (range-lent l a n) ∙ length-range l a n h) in
+    rw (splice-whole t vs e) at (splice-lent l a n vs h (omega arith))
+
 -- ---- the loop that writes a stretch: l with the first i numbers of s from place a on
 unfoldable pub copied : List ℕ → ℕ → List ℕ → ℕ → List ℕ
 copied l a s i = paste l a s i

@@ -1,5 +1,5 @@
-// The refusals of 01's table that a reader gives by name, each a fault of the first word that the reader was given. What is refused
-// with 4, 5 and 6 has its number reckoned (`fault_of`).
+// The refusals of 01's table and of 02's requests that a reader gives by name, each a fault of the first word that the reader was
+// given. What is refused with 4, 5 and 6 has its number reckoned (`fault_of`).
 use crate::Fault;
 use crate::Side;
 
@@ -158,6 +158,38 @@ pub const FAULT_21: Fault = Fault {
 // "start not in the IBANK"
 pub const FAULT_22: Fault = Fault {
     number: 22,
+    word: 0,
+    half: Side::Whole,
+    bit: 0,
+};
+
+// #101: "bad record, part record or lent lists not just as long as the file's counts need"
+pub const FAULT_24: Fault = Fault {
+    number: 24,
+    word: 0,
+    half: Side::Whole,
+    bit: 0,
+};
+
+// #101: "tag not in the file"
+pub const FAULT_25: Fault = Fault {
+    number: 25,
+    word: 0,
+    half: Side::Whole,
+    bit: 0,
+};
+
+// #101: "tag given twice in one kind"
+pub const FAULT_26: Fault = Fault {
+    number: 26,
+    word: 0,
+    half: Side::Whole,
+    bit: 0,
+};
+
+// #101: "tag of the file not given"
+pub const FAULT_27: Fault = Fault {
+    number: 27,
     word: 0,
     half: Side::Whole,
     bit: 0,

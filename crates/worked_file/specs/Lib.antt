@@ -1,4 +1,5 @@
 pub mod Blocks
+pub mod Book
 pub mod Image
 pub mod Lives
 pub mod Refused

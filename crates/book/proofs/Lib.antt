@@ -1,0 +1,12 @@
+pub mod Record
+pub mod Finding
+pub mod Marking
+pub mod Kept
+pub mod Looking
+pub mod Taking
+pub mod Filling
+pub mod Given
+pub mod Answers
+pub mod Faults
+pub mod Only
+pub mod Promises

@@ -1,0 +1,167 @@
+-- Loops over the marks: a value at each place of a tag, whether each tag has its mark, and the numbers that marks stand for.
+use Prim.Native.Nat.{ℕ, suc, _+_, _-_, _*_, _/_, _%_, _≤_, _<_}
+use mathlib.Core.Path.{_≡_, refl, sym, ap, _∙_}
+use mathlib.Core.Bool.{Bool, true, false, cond, false≢true}
+use mathlib.Core.List.{List, _++_}
+use native.Mathlib.Omega.{arith}
+use native.Mathlib.Nat.{add-zero}
+use native.Mathlib.Numerals.{add-one}
+use lib.ListN.{length, getD, set, take, drop}
+use lib.Seq.{getD-append-add, getD-drop}
+use lib.Dec.{eqb}
+use borrow.Author.Tests.{eqb-false, eq-eqb, ne-eqb, not-true}
+use Rattle.word.specs.Lists.{every, tab, splice}
+use Rattle.word.proofs.Every.{every-place}
+use Rattle.word.proofs.Fill.{filled, filled-none, filled-more, filled-all}
+use Rattle.word.proofs.Lists.{length-tab, every-more, every-fails, every-ends, lent-whole}
+use Rattle.label.specs.Label.{Carried}
+use Rattle.label.specs.declared.Label.{Label}
+use Rattle.book.specs.Tags.{entriesOf}
+use Rattle.book.specs.Assign.{placeOf}
+use Rattle.book.specs.HowKept.{keptWords, startOf, keptOf, marked, isMark, numbersOf, inPair, pairsOf, Marked}
+use Rattle.book.specs.declared.Assignment.{Assignment}
+use Rattle.book.proofs.Kept.{kept-at, kept-long, kept-lent, stretch-in}
+
+-- what a loop has not reached yet is as it was
+filled-rest : (f : ℕ → ℕ) (l : List ℕ) (j : ℕ) → getD (filled f l j) j 0 ≡ getD l j 0
+unfolding filled
+filled-rest f l j =
+    let e = length-tab f j in
+    let k : length (tab f j) + 0 ≡ j = omega arith in
+    ap (λ (n : ℕ). getD (tab f j ++ drop j l) n 0) (sym k)
+    ∙ getD-append-add (tab f j) (drop j l) 0 0
+    ∙ getD-drop j l 0 0
+    ∙ ap (λ (n : ℕ). getD l n 0) (add-zero j)
+
+-- ---- a value at each place of a tag
+module _ (ws : List ℕ) (w v : ℕ) (ms : List ℕ) where
+  abbrev markAt : ℕ → ℕ
+  markAt j = cond (eqb (getD ws j 0) w) v (getD ms j 0)
+
+  unfoldable pub markedTo : ℕ → List ℕ
+  markedTo j = filled markAt ms j
+
+  pub marked-none : ms ≡ markedTo 0
+  unfolding markedTo
+  marked-none = filled-none markAt ms
+
+  pub marked-more : (j : ℕ) (e : List ℕ) (x : ℕ) → j < length ms → e ≡ markedTo j → x ≡ cond (eqb (getD ws j 0) w) v (getD e j 0)
+      → set e j x ≡ markedTo (j + 1)
+  unfolding markedTo
+  marked-more j e x h q k =
+      filled-more markAt ms j e x h
+      (k ∙ ap (λ (m : ℕ). cond (eqb (getD ws j 0) w) v m) (ap (λ (l : List ℕ). getD l j 0) q ∙ filled-rest markAt ms j)) q
+
+  pub marked-all : (j : ℕ) (e : List ℕ) → j ≡ length ms → e ≡ markedTo j → e ≡ marked ws w v ms
+  unfolding markedTo marked
+  marked-all j e h q = filled-all markAt ms (length ms) j e h refl q
+
+-- ---- whether each tag has its mark
+module _ (ms : List ℕ) (j : ℕ) (b : Bool) where
+  pub marks-more : j < length ms → (getD ms j 0 ≡ 0 → ⊥) → b ≡ every isMark (drop j ms) → b ≡ every isMark (drop (j + 1) ms)
+  marks-more h k = every-more isMark 0 ms j b h (rw (ne-eqb (getD ms j 0) 0 k))
+
+  pub marks-fails : j < length ms → getD ms j 0 ≡ 0 → b ≡ every isMark (drop j ms) → false ≡ b
+  marks-fails h k = every-fails isMark 0 ms j b h (rw (eq-eqb (getD ms j 0) 0 k))
+
+  pub marks-ends : length ms ≤ j → b ≡ every isMark (drop j ms) → true ≡ b
+  marks-ends h = every-ends isMark 0 ms j b h
+
+pub mark-some : (ms : List ℕ) (j : ℕ) → every isMark ms ≡ true → j < length ms → 1 ≤ getD ms j 0
+mark-some ms j q h =
+    let k = eqb-false (getD ms j 0) 0 (not-true (eqb (getD ms j 0) 0) (every-place 0 isMark ms j h q)) in
+    omega arith
+
+-- ---- the numbers that marks stand for
+module _ (ms l : List ℕ) where
+  unfoldable pub numbersTo : ℕ → List ℕ
+  numbersTo j = filled (λ i. getD ms i 0 - 1) l j
+
+  pub numbers-none : l ≡ numbersTo 0
+  unfolding numbersTo
+  numbers-none = filled-none (λ i. getD ms i 0 - 1) l
+
+  pub numbers-more : (j : ℕ) (e : List ℕ) (x : ℕ) → j < length l → x ≡ getD ms j 0 - 1 → e ≡ numbersTo j
+      → set e j x ≡ numbersTo (j + 1)
+  unfolding numbersTo
+  numbers-more j e x h k q = filled-more (λ i. getD ms i 0 - 1) l j e x h k q
+
+  pub numbers-all : (j : ℕ) (e : List ℕ) → j ≡ length ms → length l ≡ length ms → e ≡ numbersTo j → e ≡ numbersOf ms
+  unfolding numbersTo numbersOf
+  numbers-all j e h k q = filled-all (λ i. getD ms i 0 - 1) l (length ms) j e h k q
+
+-- ---- two rows of them, one of each in turn
+module _ (xs ys l : List ℕ) where
+  unfoldable pub pairsTo : ℕ → List ℕ
+  pairsTo t = filled (λ i. inPair xs ys i - 1) l (2 * t)
+
+  pub pairs-none : l ≡ pairsTo 0
+  unfolding pairsTo
+  pairs-none = filled-none (λ i. inPair xs ys i - 1) l
+
+  first-of : (t : ℕ) → inPair xs ys (2 * t) ≡ getD xs t 0
+  first-of t =
+      let e : 2 * t % 2 ≡ 0 = omega arith in
+      let h : 2 * t / 2 ≡ t = omega arith in
+      rw (e, h)
+
+  second-of : (t : ℕ) → inPair xs ys (2 * t + 1) ≡ getD ys t 0
+  second-of t =
+      let e : (2 * t + 1) % 2 ≡ 1 = omega arith in
+      let h : (2 * t + 1) / 2 ≡ t = omega arith in
+      rw (e, h)
+
+  pub pairs-more : (t : ℕ) (e : List ℕ) (x y : ℕ) → 2 * t + 1 < length l → x ≡ getD xs t 0 - 1 → y ≡ getD ys t 0 - 1
+      → e ≡ pairsTo t → set (set e (2 * t) x) (2 * t + 1) y ≡ pairsTo (t + 1)
+  unfolding pairsTo
+  pairs-more t e x y h p q k =
+      let n : 2 * t + 1 + 1 ≡ 2 * (t + 1) = omega arith in
+      rw n at
+      (filled-more (λ i. inPair xs ys i - 1) l (2 * t + 1) (set e (2 * t) x) y h (q ∙ ap (λ (m : ℕ). m - 1) (sym (second-of t)))
+      (filled-more (λ i. inPair xs ys i - 1) l (2 * t) e x (omega arith) (p ∙ ap (λ (m : ℕ). m - 1) (sym (first-of t))) k))
+
+  pub pairs-all : (t : ℕ) (e : List ℕ) → t ≡ length xs → length l ≡ 2 * length xs → e ≡ pairsTo t → e ≡ pairsOf xs ys
+  unfolding pairsTo pairsOf
+  pairs-all t e h k q = filled-all (λ i. inPair xs ys i - 1) l (2 * length xs) (2 * t) e (ap (λ (m : ℕ). 2 * m) h) k q
+
+-- ---- what taking a record leaves, whose tag was found at place p of its kind's stretch
+length-marked : (ws : List ℕ) (w v : ℕ) (ms : List ℕ) → length (marked ws w v ms) ≡ length ms
+unfolding marked
+length-marked ws w v ms = length-tab (λ j. cond (eqb (getD ws j 0) w) v (getD ms j 0)) (length ms)
+
+module _ (l : Label) (tags : List ℕ) (r : Assignment) (marks : List ℕ) (p a n : ℕ) (long : length marks ≡ keptWords) (c : Carried l)
+    (pl : p ≡ placeOf (r .tag) (keptOf tags l (r .kind))) (s : a ≡ startOf (r .kind)) (e : n ≡ entriesOf l (r .kind)) (h : p < n)
+  where
+    at-place : getD (keptOf marks l (r .kind)) (placeOf (r .tag) (keptOf tags l (r .kind))) 0 ≡ getD marks (a + p) 0
+    at-place = rw (sym pl, s) (kept-at marks l long c (r .kind) p (omega arith))
+
+    pub marked-before : (after : List ℕ) → (getD marks (a + p) 0 ≡ 0 → ⊥) → Marked l tags r marks false after
+    marked-before after m = record {
+      told = rw at-place (sym (ne-eqb (getD marks (a + p) 0) 0 m));
+      left = λ q. absurd (false≢true q);
+    }
+
+    -- the part that was lent came back marked
+    as-marked : (ts ms part : List ℕ) (v : ℕ) → ts ≡ take (a + n - a) (drop a tags)
+        → ms ≡ take (a + n - a) (drop a marks) → v ≡ r .number + 1 → part ≡ marked ts (r .tag) v ms
+        → part ≡ marked (keptOf tags l (r .kind)) (r .tag) (suc (r .number)) (keptOf marks l (r .kind))
+    as-marked ts ms part v t u x q =
+        q ∙ rw (t ∙ kept-lent tags l (r .kind) a n s e, u ∙ kept-lent marks l (r .kind) a n s e, x ∙ add-one (r .number))
+
+    back : (part : List ℕ) → part ≡ marked (keptOf tags l (r .kind)) (r .tag) (suc (r .number)) (keptOf marks l (r .kind))
+        → take a marks ++ (part ++ drop (a + n - a) (drop a marks))
+        ≡ splice marks (startOf (r .kind)) (marked (keptOf tags l (r .kind)) (r .tag) (suc (r .number)) (keptOf marks l (r .kind)))
+    back part q =
+        let k = kept-long marks l long c (r .kind) in
+        let m = length-marked (keptOf tags l (r .kind)) (r .tag) (suc (r .number)) (keptOf marks l (r .kind)) in
+        let z = ap length q in
+        let i = stretch-in marks l long c (r .kind) in
+        rw (← q, ← s) (lent-whole marks a n part (omega arith) (omega arith))
+
+    pub marked-now : (ts ms part : List ℕ) (v : ℕ) → getD marks (a + p) 0 ≡ 0 → ts ≡ take (a + n - a) (drop a tags)
+        → ms ≡ take (a + n - a) (drop a marks) → v ≡ r .number + 1 → part ≡ marked ts (r .tag) v ms
+        → Marked l tags r marks true (take a marks ++ (part ++ drop (a + n - a) (drop a marks)))
+    marked-now ts ms part v m t u x q = record {
+      told = rw at-place (sym (eq-eqb (getD marks (a + p) 0) 0 m));
+      left = λ _. back part (as-marked ts ms part v t u x q);
+    }
