@@ -1,14 +1,14 @@
 -- The first place of a tag: the one that has it, where none before it has; and what is known of it.
 use Prim.Native.Nat.{ℕ, _+_, _≤_, _<_}
 use mathlib.Core.Path.{_≡_, sym, ap, _∙_}
-use mathlib.Core.Bool.{not}
+use mathlib.Core.Bool.{not, false≢true}
 use mathlib.Core.List.{List}
 use native.Mathlib.Omega.{arith}
 use native.Mathlib.Numerals.{add-one}
 use lib.ListN.{length, getD}
 use lib.Dec.{eqb}
-use borrow.Author.Tests.{eqb-true, eq-eqb, ne-eqb, not-false}
-use Rattle.word.proofs.First.{AllBelow, below-none, below-more, first-most, first-all, first-at, first-fails}
+use borrow.Author.Tests.{eqb-true, eq-eqb, ne-eqb, not-true, not-false}
+use Rattle.word.proofs.First.{AllBelow, below-none, below-more, first-most, first-all, first-at, first-before, first-fails}
 use Rattle.book.specs.Assign.{placeOf}
 
 module _ (w : ℕ) (ws : List ℕ) where
@@ -44,3 +44,9 @@ module _ (w : ℕ) (ws : List ℕ) where
   place-has h =
       eqb-true (getD ws (placeOf w ws) 0) w
       (not-false (eqb (getD ws (placeOf w ws) 0) w) (first-fails (λ i. not (eqb (getD ws i 0) w)) (length ws) h))
+
+  pub place-first : (i : ℕ) → i < placeOf w ws → getD ws i 0 ≡ w → ⊥
+  unfolding placeOf
+  place-first i h e =
+      let q = first-before (λ j. not (eqb (getD ws j 0) w)) (length ws) i h in
+      false≢true (sym (not-true (eqb (getD ws i 0) w) q) ∙ eq-eqb (getD ws i 0) w e)

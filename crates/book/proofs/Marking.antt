@@ -1,13 +1,13 @@
 -- Loops over the marks: a value at each place of a tag, whether each tag has its mark, and the numbers that marks stand for.
-use Prim.Native.Nat.{ℕ, suc, _+_, _-_, _*_, _/_, _%_, _≤_, _<_}
+use Prim.Native.Nat.{ℕ, zero, suc, _+_, _-_, _*_, _/_, _%_, _≤_, _<_}
 use mathlib.Core.Path.{_≡_, refl, sym, ap, _∙_}
 use mathlib.Core.Bool.{Bool, true, false, cond, false≢true}
 use mathlib.Core.List.{List, _++_}
 use native.Mathlib.Omega.{arith}
-use native.Mathlib.Nat.{add-zero}
+use native.Mathlib.Nat.{zero-add}
 use native.Mathlib.Numerals.{add-one}
-use lib.ListN.{length, getD, set, take, drop}
-use lib.Seq.{getD-append-add, getD-drop}
+use lib.ListN.{length, getD, set, take, drop, length-drop}
+use lib.Seq.{getD-drop, drop-cons, append-snoc, take-all}
 use lib.Dec.{eqb}
 use borrow.Author.Tests.{eqb-false, eq-eqb, ne-eqb, not-true}
 use Rattle.word.specs.Lists.{every, tab, splice}
@@ -20,18 +20,12 @@ use Rattle.book.specs.Tags.{entriesOf}
 use Rattle.book.specs.Assign.{placeOf}
 use Rattle.book.specs.HowKept.{keptWords, startOf, keptOf, marked, isMark, numbersOf, inPair, pairsOf, Marked}
 use Rattle.book.specs.declared.Assignment.{Assignment}
+use Rattle.book.proofs.Finding.{place-most, place-has, place-first}
 use Rattle.book.proofs.Kept.{kept-at, kept-long, kept-lent, stretch-in}
 
--- what a loop has not reached yet is as it was
-filled-rest : (f : ℕ → ℕ) (l : List ℕ) (j : ℕ) → getD (filled f l j) j 0 ≡ getD l j 0
-unfolding filled
-filled-rest f l j =
-    let e = length-tab f j in
-    let k : length (tab f j) + 0 ≡ j = omega arith in
-    ap (λ (n : ℕ). getD (tab f j ++ drop j l) n 0) (sym k)
-    ∙ getD-append-add (tab f j) (drop j l) 0 0
-    ∙ getD-drop j l 0 0
-    ∙ ap (λ (n : ℕ). getD l n 0) (add-zero j)
+-- what a part lent as `&l[a..]` holds
+pub rest-lent : (l : List ℕ) (a : ℕ) → take (length l - a) (drop a l) ≡ drop a l
+rest-lent l a = let e = length-drop a l in take-all (length l - a) (drop a l) (omega arith)
 
 -- ---- a value at each place of a tag
 module _ (ws : List ℕ) (w v : ℕ) (ms : List ℕ) where
@@ -41,20 +35,63 @@ module _ (ws : List ℕ) (w v : ℕ) (ms : List ℕ) where
   unfoldable pub markedTo : ℕ → List ℕ
   markedTo j = filled markAt ms j
 
-  pub marked-none : ms ≡ markedTo 0
+  marked-none : ms ≡ markedTo 0
   unfolding markedTo
   marked-none = filled-none markAt ms
 
-  pub marked-more : (j : ℕ) (e : List ℕ) (x : ℕ) → j < length ms → e ≡ markedTo j → x ≡ cond (eqb (getD ws j 0) w) v (getD e j 0)
-      → set e j x ≡ markedTo (j + 1)
+  -- a place of the tag is marked; one of another tag is as it was
+  marked-here : (j : ℕ) (e : List ℕ) → j < length ms → getD ws j 0 ≡ w → e ≡ markedTo j → set e j v ≡ markedTo (j + 1)
   unfolding markedTo
-  marked-more j e x h q k =
-      filled-more markAt ms j e x h
-      (k ∙ ap (λ (m : ℕ). cond (eqb (getD ws j 0) w) v m) (ap (λ (l : List ℕ). getD l j 0) q ∙ filled-rest markAt ms j)) q
+  marked-here j e h t q = filled-more markAt ms j e v h (sym (rw (eq-eqb (getD ws j 0) w t))) q
 
-  pub marked-all : (j : ℕ) (e : List ℕ) → j ≡ length ms → e ≡ markedTo j → e ≡ marked ws w v ms
+  marked-pass : (j : ℕ) → j < length ms → (getD ws j 0 ≡ w → ⊥) → markedTo j ≡ markedTo (j + 1)
+  unfolding markedTo filled tab
+  marked-pass j h n =
+      rw (add-one, drop-cons ms j 0 h, ne-eqb (getD ws j 0) w n) (sym (append-snoc (tab markAt j) (getD ms j 0) (drop (suc j) ms)))
+
+  marked-skip : (d j : ℕ) → j + d ≤ length ms → ((i : ℕ) → i < d → getD ws (j + i) 0 ≡ w → ⊥) → markedTo j ≡ markedTo (j + d)
+  marked-skip zero j h n = let e : j + 0 ≡ j = omega arith in rw e
+  marked-skip (suc d) j h n =
+      let e : j + suc d ≡ j + 1 + d = omega arith in
+      let z : j + 0 ≡ j = omega arith in
+      rw e
+      (marked-pass j (omega arith) (rw z at (n 0 (omega arith)))
+      ∙ marked-skip d (j + 1) (omega arith) (λ i l. let f : j + 1 + i ≡ j + suc i = omega arith in rw f (n (suc i) (omega arith))))
+
+  -- from a place of the tag to the next, which is found behind it
+  pub record MarkedTo (j : ℕ) (e : List ℕ) : Type 0 where
+    pub most : j ≤ length ws
+    pub left : e ≡ markedTo j
+    pub tagged : j < length ws → getD ws j 0 ≡ w
+
+  pub marks-begin : length ws ≡ length ms → (j : ℕ) → j ≡ placeOf w ws → MarkedTo j ms
+  marks-begin n j q =
+      let m = place-most w ws in
+      rw q
+      (record {
+        most = m;
+        left = marked-none
+            ∙ rw zero-add at (marked-skip (placeOf w ws) 0 (rw zero-add (omega arith)) (λ i l. rw zero-add (place-first w ws i l)));
+        tagged = place-has w ws;
+      })
+
+  pub marks-next : length ws ≡ length ms → (j : ℕ) (e : List ℕ) (p : ℕ) → j < length ws → MarkedTo j e → p ≡ placeOf w (drop (j + 1) ws)
+      → MarkedTo (j + 1 + p) (set e j v)
+  marks-next n j e p h k q =
+      let m = place-most w (drop (j + 1) ws) in
+      let g = length-drop (j + 1) ws in
+      rw q
+      (record {
+        most = omega arith;
+        left = marked-here j e (omega arith) (k .tagged h) (k .left)
+            ∙ marked-skip (placeOf w (drop (j + 1) ws)) (j + 1) (omega arith)
+            (λ i l. rw (sym (getD-drop (j + 1) ws i 0)) (place-first w (drop (j + 1) ws) i l));
+        tagged = λ l. sym (getD-drop (j + 1) ws (placeOf w (drop (j + 1) ws)) 0) ∙ place-has w (drop (j + 1) ws) (omega arith);
+      })
+
+  pub marks-end : length ws ≡ length ms → (j : ℕ) (e : List ℕ) → length ws ≤ j → MarkedTo j e → e ≡ marked ws w v ms
   unfolding markedTo marked
-  marked-all j e h q = filled-all markAt ms (length ms) j e h refl q
+  marks-end n j e h k = let m = k .most in filled-all markAt ms (length ms) j e (omega arith) refl (k .left)
 
 -- ---- whether each tag has its mark
 module _ (ms : List ℕ) (j : ℕ) (b : Bool) where

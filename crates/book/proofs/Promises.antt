@@ -5,6 +5,7 @@ use mathlib.Core.Bool.{true}
 use mathlib.Core.List.{List}
 use native.Mathlib.Omega.{arith}
 use lib.ListN.{length, getD}
+use borrow.Author.Tests.{eq-eqb}
 use Rattle.word.specs.Lists.{every, everyTwo}
 use Rattle.word.specs.Fault.{fault}
 use Rattle.word.specs.declared.Fault.{Fault}
@@ -16,13 +17,14 @@ use Rattle.label.specs.Label.{ioCount}
 use Rattle.label.specs.declared.Label.{Label}
 use Rattle.label.specs.declared.LabelRead.{LabelRead}
 use Rattle.label.specs.declared.LabelRead.the-variants.{Good, Bad}
+use Rattle.modification.specs.Assignments.{assignmentsFit}
 use Rattle.front.specs.Front.{frontOf}
 use Rattle.book.specs.Book.{assignmentsOf}
 use Rattle.book.specs.Tags.{entriesOf, tagOf, tagsOf, fileTags}
 use Rattle.book.specs.Assign.{inFile, apartFrom, isGiven, allGiven, numberFor, ioList, kindInPair, tableList, fits}
 use Rattle.book.specs.Assign.{ListsLeft, refusedWith, listsFor, assignBy, assignOf}
 use Rattle.book.specs.Allows.{Gives, Allows}
-use Rattle.book.specs.Promises.{Assignable, AssignedExactly, AssignedAllowed, RefusedUntouched}
+use Rattle.book.specs.Promises.{Assignable, AssignedExactly, AssignedAllowed, RefusedUntouched, CountsFit}
 use Rattle.book.specs.declared.Assignment.{Assignment}
 use Rattle.book.specs.declared.Kind.{Kind}
 use Rattle.book.specs.declared.Kind.the-variants.{Address, Length, Peripheral}
@@ -200,3 +202,10 @@ module _ (io tables : List ℕ) where
 pub refused-untouched : RefusedUntouched
 unfolding assignOf
 refused-untouched book blocks io tables f e = kept-by io tables book blocks (frontOf blocks) f e
+
+-- ---- the counts
+pub counts-fit : CountsFit
+unfolding assignmentsFit
+counts-fit rs blocks l io tables a =
+    let e = a .tables-long in
+    rw (eq-eqb (length io) (ioCount l) (a .io-long), eq-eqb (length tables / 2) (l .tables) (omega arith))

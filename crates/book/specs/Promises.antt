@@ -1,14 +1,17 @@
 -- What is promised of assign, as statements over the definitions; proofs/Promises.antt proves each.
-use Prim.Native.Nat.{ℕ}
+use Prim.Native.Nat.{ℕ, _/_}
 use mathlib.Core.Path.{_≡_}
 use mathlib.Core.Bool.{true}
 use mathlib.Core.List.{List}
 use mathlib.Core.Logic.{_↔_}
+use lib.ListN.{length, take}
 use Rattle.word.specs.Lists.{every, everyTwo}
 use Rattle.word.specs.declared.Fault.{Fault}
 use Rattle.block.specs.declared.Verdict.the-variants.{Pass, Refused}
+use Rattle.label.specs.Label.{channelCount}
 use Rattle.label.specs.declared.Label.{Label}
 use Rattle.label.specs.declared.LabelRead.the-variants.{Good}
+use Rattle.modification.specs.Assignments.{isChannel, assignmentsFit}
 use Rattle.front.specs.Front.{frontOf}
 use Rattle.book.specs.Book.{assignmentsOf}
 use Rattle.book.specs.Tags.{fileTags}
@@ -54,3 +57,9 @@ AssignedAllowed = (book blocks io tables : List ℕ) (l : Label) → frontOf blo
 abbrev pub RefusedUntouched : Type 0
 RefusedUntouched = (book blocks io tables : List ℕ) (f : Fault) → assignOf book blocks io tables .answer ≡ Refused f
     → (assignOf book blocks io tables .io ≡ io) × (assignOf book blocks io tables .tables ≡ tables)
+
+-- "into open's two lists": the label finds its counts in lists that are allowed, so that of its 16 only the numbers of the jump
+-- switches and channels are left to ask
+abbrev pub CountsFit : Type 0
+CountsFit = (rs : List Assignment) (blocks : List ℕ) (l : Label) (io tables : List ℕ) → Allows rs blocks l io tables
+    → assignmentsFit l io (length tables / 2) ≡ every isChannel (take (channelCount l) io)

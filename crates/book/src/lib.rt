@@ -3,9 +3,8 @@ pub mod records;
 pub mod tags;
 
 ghost use mathlib.Core.Path.{_≡_};
-ghost use mathlib.Core.Bool.{true, cond};
+ghost use mathlib.Core.Bool.{true};
 ghost use lib.ListN.{length};
-ghost use lib.Dec.{eqb};
 ghost use Rattle.word.specs.Lists.{every};
 ghost use Rattle.label.specs.Label.{Carried};
 ghost use Rattle.label.specs.declared.LabelRead.the-variants.{Good};
@@ -153,30 +152,31 @@ fn take_record(l: Label, tags: &[u64], r: Assignment, marks: &mut [u64]) -> bool
     let a = tags::start_of(kind);
     let n = tags::count_of(l, kind);
     let j = find(&tags[a..a + n], r.tag);
-    if marks[a + j] != 0 {
+    let old = marks[a + j];
+    if old != 0 {
         return false;
     }
-    mark(&tags[a..a + n], &mut marks[a..a + n], r.tag, r.number + 1);
+    mark(
+        &tags[a..a + n],
+        &mut marks[a..a + n],
+        j,
+        r.tag,
+        r.number + 1,
+    );
     true
 }
 
-// The value, at each place of the tag.
-fn mark(tags: &[u64], marks: &mut [u64], tag: u64, value: u64)
-    requires { ⌜ length (now tags) ≡ length (now marks) ⌝ }
+// The value, at each place of the tag, of which this is the first.
+fn mark(tags: &[u64], marks: &mut [u64], first: usize, tag: u64, value: u64)
+    requires { ⌜ (length (now tags) ≡ length (now marks)) × (first ≡ placeOf tag (now tags)) ⌝ }
     ensures { λ _. ⌜ now (marks .exit) ≡ marked (now (tags .entry)) tag value (now (marks .entry)) ⌝ }
 {
-    let mut j: usize = 0;
+    let mut j = first;
     while j < tags.len() {
-        marks[j] = if_same(tags[j], tag, value, marks[j]);
+        marks[j] = value;
         j += 1;
+        j += find(&tags[j..], tag);
     }
-}
-
-// The value where the tags are the same, else what was there.
-fn if_same(here: u64, tag: u64, value: u64, old: u64) -> u64
-    ensures { λ r. ⌜ r ≡ cond (eqb here tag) value old ⌝ }
-{
-    if here == tag { value } else { old }
 }
 
 // Whether each tag of the file has its mark.

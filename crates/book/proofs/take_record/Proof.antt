@@ -64,14 +64,14 @@ part-find-end c = omega (arith, inside c)
 find-requires : tie.Need-find-requires
 find-requires c κs = search needs
 
-add-if1 : tie.Need-add-if1
-add-if1 c = omega (arith, inside (c .before .before), found c)
+add-old : tie.Need-add-old
+add-old c = omega (arith, inside (c .before .before), found c)
 
-mul-if1 : tie.Need-mul-if1
-mul-if1 c = omega (arith, inside (c .before .before), found c)
+mul-old : tie.Need-mul-old
+mul-old c = omega (arith, inside (c .before .before), found c)
 
-slice-read-if1 : tie.Need-slice-read-if1
-slice-read-if1 c = omega (arith, inside (c .before .before .before), found (c .before))
+slice-read-old : tie.Need-slice-read-old
+slice-read-old c = omega (arith, inside (c .before .before .before), found (c .before))
 
 returns : tie.Need-returns
 returns c =
@@ -142,9 +142,9 @@ take-record-spec =
     part-find-start
     part-find-end
     find-requires
-    add-if1
-    mul-if1
-    slice-read-if1
+    add-old
+    mul-old
+    slice-read-old
     returns
     add-mark
     mul-mark
