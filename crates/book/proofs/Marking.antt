@@ -9,7 +9,7 @@ use native.Mathlib.Numerals.{add-one}
 use lib.ListN.{length, getD, set, take, drop, length-drop}
 use lib.Seq.{getD-drop, drop-cons, append-snoc, take-all}
 use lib.Dec.{eqb}
-use borrow.Author.Tests.{eqb-false, eq-eqb, ne-eqb, not-true}
+use borrow.Author.Tests.{lt-ltb, le-ltb, eqb-false, eq-eqb, ne-eqb, not-true}
 use Rattle.word.specs.Lists.{every, tab, splice}
 use Rattle.word.proofs.Every.{every-place}
 use Rattle.word.proofs.Fill.{filled, filled-none, filled-more, filled-all}
@@ -17,11 +17,11 @@ use Rattle.word.proofs.Lists.{length-tab, every-more, every-fails, every-ends, 
 use Rattle.label.specs.Label.{Carried}
 use Rattle.label.specs.declared.Label.{Label}
 use Rattle.book.specs.Tags.{entriesOf}
-use Rattle.book.specs.Assign.{placeOf}
-use Rattle.book.specs.HowKept.{keptWords, startOf, keptOf, marked, isMark, numbersOf, inPair, pairsOf, Marked}
+use Rattle.book.specs.Assign.{placeOf, inFile}
+use Rattle.book.specs.HowKept.{keptWords, startOf, keptOf, keptTags, marked, isMark, numbersOf, inPair, pairsOf, Marked}
 use Rattle.book.specs.declared.Assignment.{Assignment}
 use Rattle.book.proofs.Finding.{place-most, place-has, place-first}
-use Rattle.book.proofs.Kept.{kept-at, kept-long, kept-lent, stretch-in}
+use Rattle.book.proofs.Kept.{kept-at, kept-long, kept-lent, stretch-in, in-kept}
 
 -- what a part lent as `&l[a..]` holds
 pub rest-lent : (l : List ℕ) (a : ℕ) → take (length l - a) (drop a l) ≡ drop a l
@@ -75,7 +75,8 @@ module _ (ws : List ℕ) (w v : ℕ) (ms : List ℕ) where
         tagged = place-has w ws;
       })
 
-  pub marks-next : length ws ≡ length ms → (j : ℕ) (e : List ℕ) (p : ℕ) → j < length ws → MarkedTo j e → p ≡ placeOf w (drop (j + 1) ws)
+  pub marks-next : length ws ≡ length ms → (j : ℕ) (e : List ℕ) (p : ℕ) → j < length ws → MarkedTo j e
+      → p ≡ placeOf w (drop (j + 1) ws)
       → MarkedTo (j + 1 + p) (set e j v)
   marks-next n j e p h k q =
       let m = place-most w (drop (j + 1) ws) in
@@ -166,15 +167,26 @@ length-marked : (ws : List ℕ) (w v : ℕ) (ms : List ℕ) → length (marked w
 unfolding marked
 length-marked ws w v ms = length-tab (λ j. cond (eqb (getD ws j 0) w) v (getD ms j 0)) (length ms)
 
-module _ (l : Label) (tags : List ℕ) (r : Assignment) (marks : List ℕ) (p a n : ℕ) (long : length marks ≡ keptWords) (c : Carried l)
-    (pl : p ≡ placeOf (r .tag) (keptOf tags l (r .kind))) (s : a ≡ startOf (r .kind)) (e : n ≡ entriesOf l (r .kind)) (h : p < n)
-  where
+module _ (l : Label) (tags : List ℕ) (r : Assignment) (marks : List ℕ) (p a n : ℕ) (tl : length tags ≡ keptWords)
+    (long : length marks ≡ keptWords) (c : Carried l) (pl : p ≡ placeOf (r .tag) (keptOf tags l (r .kind)))
+    (s : a ≡ startOf (r .kind)) (e : n ≡ entriesOf l (r .kind)) where
+  -- it was not found
+  pub marked-none-such : (after : List ℕ) → n ≤ p → Marked l tags r marks false after
+  marked-none-such after h = record {
+    told = rw (sym (in-kept tags l r p n tl c pl e) ∙ le-ltb p n h);
+    left = λ q. absurd (false≢true q);
+  }
+
+  module _ (h : p < n) where
+    is-in : inFile (keptTags tags l) r ≡ true
+    is-in = sym (in-kept tags l r p n tl c pl e) ∙ lt-ltb p n h
+
     at-place : getD (keptOf marks l (r .kind)) (placeOf (r .tag) (keptOf tags l (r .kind))) 0 ≡ getD marks (a + p) 0
     at-place = rw (sym pl, s) (kept-at marks l long c (r .kind) p (omega arith))
 
     pub marked-before : (after : List ℕ) → (getD marks (a + p) 0 ≡ 0 → ⊥) → Marked l tags r marks false after
     marked-before after m = record {
-      told = rw at-place (sym (ne-eqb (getD marks (a + p) 0) 0 m));
+      told = rw (is-in, at-place) (sym (ne-eqb (getD marks (a + p) 0) 0 m));
       left = λ q. absurd (false≢true q);
     }
 
@@ -199,6 +211,6 @@ module _ (l : Label) (tags : List ℕ) (r : Assignment) (marks : List ℕ) (p a 
         → ms ≡ take (a + n - a) (drop a marks) → v ≡ r .number + 1 → part ≡ marked ts (r .tag) v ms
         → Marked l tags r marks true (take a marks ++ (part ++ drop (a + n - a) (drop a marks)))
     marked-now ts ms part v m t u x q = record {
-      told = rw at-place (sym (eq-eqb (getD marks (a + p) 0) 0 m));
+      told = rw (is-in, at-place) (sym (eq-eqb (getD marks (a + p) 0) 0 m));
       left = λ _. back part (as-marked ts ms part v t u x q);
     }

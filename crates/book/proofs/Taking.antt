@@ -2,7 +2,7 @@
 -- for one tag.
 use Prim.Native.Nat.{ℕ, zero, suc, _+_, _≤_, _<_}
 use mathlib.Core.Path.{_≡_, refl, sym, ap, _∙_}
-use mathlib.Core.Bool.{Bool, true, false, cond, not, false≢true}
+use mathlib.Core.Bool.{Bool, true, false, cond, _&&_, not, false≢true}
 use mathlib.Core.List.{List}
 use native.Mathlib.Omega.{arith}
 use native.Mathlib.Numerals.{add-one}
@@ -11,8 +11,8 @@ use lib.Seq.{ext-getD}
 use lib.Dec.{eqb}
 use borrow.Author.Tests.{ltb-true, eqb-true, eqb-false, eq-eqb, ne-eqb}
 use Rattle.word.specs.Lists.{every, everyTwo, tab}
-use Rattle.word.proofs.Cases.{by-test, by-eq, by-lt}
-use Rattle.word.proofs.Every.{every-place, two-by}
+use Rattle.word.proofs.Cases.{by-test, by-eq, by-lt, and-left, and-both}
+use Rattle.word.proofs.Every.{every-place, every-by, two-by}
 use Rattle.word.proofs.Each.{says-two}
 use Rattle.word.proofs.Lists.{length-tab, getD-tab}
 use Rattle.label.specs.Label.{Carried}
@@ -188,10 +188,11 @@ module _ (rs : List Assignment) (l : Label) (tags : List ℕ) (long : length tag
     told-mark : b ≡ eqb (markTo rs kind tag i) 0
     told-mark =
         t .told
-        ∙ ap (λ (n : ℕ). eqb n 0)
+        ∙ rw f
+        (ap (λ (n : ℕ). eqb n 0)
         (ap (λ (ms : List ℕ). getD ms (placeOf tag ws) 0) (m .each kind)
         ∙ marks-at rs kind ws i (placeOf tag ws) in-stretch
-        ∙ ap (λ (w : ℕ). markTo rs kind w i) (place-has tag ws in-stretch))
+        ∙ ap (λ (w : ℕ). markTo rs kind w i) (place-has tag ws in-stretch)))
 
     pub fresh : b ≡ true → markTo rs kind tag i ≡ 0
     fresh q = eqb-true (markTo rs kind tag i) 0 (sym told-mark ∙ q)
@@ -259,36 +260,44 @@ module _ (rs : List Assignment) (i : ℕ) where
 pub apart-all : (rs : List Assignment) (n : ℕ) → length rs ≤ n → ApartTo rs n → true ≡ everyTwo apartFrom rs
 apart-all rs n h p = sym (two-by noAssignment apartFrom rs (λ a b l k. p a b l (omega arith)))
 
+-- ---- a test of all that fails at one place, and the second of two tests that fails
+not-every : (f : Assignment → Bool) (rs : List Assignment) (i : ℕ) → i < length rs → f (getD rs i noAssignment) ≡ false
+    → every f rs ≡ false
+not-every f rs i h q = by-test (every f rs)
+    (λ e. absurd (false≢true (sym q ∙ every-place noAssignment f rs i h e)))
+    (λ e. e)
+
+and-second : (a b : Bool) → false ≡ b → false ≡ (a && b)
+and-second true b q = q
+and-second false b q = refl
+
 -- ---- a turn of the loop: record i of a book was read as r, and taken
 pub record TakenTo (rs : List Assignment) (l : Label) (tags marks : List ℕ) (i : ℕ) : Type 0 where
   pub marks-kept : Marks rs l tags marks i
+  pub in-to : (a : ℕ) → a < i → inFile (keptTags tags l) (getD rs a noAssignment) ≡ true
   pub apart : ApartTo rs i
 
 pub taken-none : (rs : List Assignment) (l : Label) (tags marks : List ℕ) → length tags ≡ keptWords → Carried l
     → marks ≡ replicate keptWords 0 → TakenTo rs l tags marks 0
 taken-none rs l tags marks h c e = record {
   marks-kept = none-taken rs l tags h c marks (ap length e ∙ length-replicate {A = ℕ} keptWords 0) e;
+  in-to = λ a h. absurd (omega arith);
   apart = apart-none rs;
 }
 
 module _ (book : List ℕ) (l : Label) (tags marks : List ℕ) (i : ℕ) (ready : LookReady book l tags)
-    (all : every (inFile (keptTags tags l)) (assignmentsOf book) ≡ true) (h : i < recordCount book)
-    (r : Assignment) (e : r ≡ assignmentOf (recordAt book i)) where
+    (h : i < recordCount book) (r : Assignment) (e : r ≡ assignmentOf (recordAt book i)) where
   abbrev rs : List Assignment
   rs = assignmentsOf book
 
   is-at : r ≡ getD (assignmentsOf book) i noAssignment
   is-at = e ∙ sym (assignment-at book i h)
 
-  in-at : inFile (keptTags tags l) (getD (assignmentsOf book) i noAssignment) ≡ true
-  in-at = every-place noAssignment (inFile (keptTags tags l)) (assignmentsOf book) i (omega (arith, length-assignments book)) all
-
   pub take-ready : length marks ≡ keptWords → MarkReady l tags r marks
   take-ready n = record {
     carried = ready .carried;
     tags-long = ready .long;
     marks-long = n;
-    found = rw is-at in-at;
     small = rw e (number-small (recordAt book i) (book-record book i (ready .right) (omega arith)));
   }
 
@@ -297,19 +306,26 @@ module _ (book : List ℕ) (l : Label) (tags marks : List ℕ) (i : ℕ) (ready 
     at-i = rw is-at at t
 
     pub taken-more : b ≡ true → TakenTo (assignmentsOf book) l tags after (i + 1)
-    taken-more q = record {
-      marks-kept = one-taken (assignmentsOf book) l tags (ready .long) (ready .carried) marks i (k .marks-kept) in-at b after at-i
-          q;
-      apart = apart-more (assignmentsOf book) i (k .apart)
-          (fresh (assignmentsOf book) l tags (ready .long) (ready .carried) marks i (k .marks-kept) in-at b after at-i q);
-    }
+    taken-more q =
+        let f = and-left (inFile (keptTags tags l) (getD (assignmentsOf book) i noAssignment)) _ (sym (at-i .told) ∙ q) in
+        record {
+          marks-kept = one-taken (assignmentsOf book) l tags (ready .long) (ready .carried) marks i (k .marks-kept) f b after at-i
+              q;
+          in-to = λ a m. by-lt a i (λ n. k .in-to a n) (λ n. let z : a ≡ i = omega arith in rw z f);
+          apart = apart-more (assignmentsOf book) i (k .apart)
+              (fresh (assignmentsOf book) l tags (ready .long) (ready .carried) marks i (k .marks-kept) f b after at-i q);
+        }
 
-    pub taken-twice : b ≡ false → Taken book l tags false after
-    taken-twice q = record {
-      told = apart-fails (assignmentsOf book) i (omega (arith, length-assignments book))
-          (not-fresh (assignmentsOf book) l tags (ready .long) (ready .carried) marks i (k .marks-kept) in-at b after at-i q);
-      left = λ z. absurd (false≢true z);
-    }
+    -- a record that is for no tag, or the second for one
+    stopped : b ≡ false → false ≡ (every (inFile (keptTags tags l)) (assignmentsOf book) && everyTwo apartFrom (assignmentsOf book))
+    stopped q = by-test (inFile (keptTags tags l) (getD (assignmentsOf book) i noAssignment))
+        (λ f. and-second (every (inFile (keptTags tags l)) (assignmentsOf book)) (everyTwo apartFrom (assignmentsOf book))
+        (apart-fails (assignmentsOf book) i (omega (arith, length-assignments book))
+        (not-fresh (assignmentsOf book) l tags (ready .long) (ready .carried) marks i (k .marks-kept) f b after at-i q)))
+        (λ f. rw (not-every (inFile (keptTags tags l)) (assignmentsOf book) i (omega (arith, length-assignments book)) f))
+
+    pub taken-stops : b ≡ false → Taken book l tags false after
+    taken-stops q = record { told = stopped q; left = λ z. absurd (false≢true z) }
 
 pub taken-all : (book : List ℕ) (l : Label) (tags marks : List ℕ) (i : ℕ) → i ≤ recordCount book → recordCount book ≤ i
     → TakenTo (assignmentsOf book) l tags marks i → Taken book l tags true marks
@@ -317,6 +333,8 @@ taken-all book l tags marks i h k t =
     let n = length-assignments book in
     let e : i ≡ length (assignmentsOf book) = omega arith in
     record {
-      told = apart-all (assignmentsOf book) i (omega arith) (t .apart);
+      told = sym (and-both (every (inFile (keptTags tags l)) (assignmentsOf book)) (everyTwo apartFrom (assignmentsOf book))
+          (every-by noAssignment (inFile (keptTags tags l)) (assignmentsOf book) (λ a m. t .in-to a (omega arith)))
+          (sym (apart-all (assignmentsOf book) i (omega arith) (t .apart))));
       left = λ _. rw e at (t .marks-kept);
     }

@@ -8,6 +8,9 @@ use mathlib.Core.List.{List}
 use lib.ListN.{length, getD, replicate}
 use lib.Dec.{eqb}
 use Rattle.word.specs.Lists.{every, everyTwo, tab, range, splice}
+use Rattle.word.specs.Fault.{fault}
+use Rattle.block.specs.declared.Verdict.{Verdict}
+use Rattle.block.specs.declared.Verdict.the-variants.{Refused}
 use Rattle.label.specs.Label.{Carried}
 use Rattle.label.specs.declared.Label.{Label}
 use Rattle.book.specs.Book.{isBook, assignmentsOf}
@@ -77,6 +80,10 @@ unfoldable pub allMarked : List ℕ → Label → Bool
 allMarked marks l =
     every isMark (keptOf marks l Peripheral) && (every isMark (keptOf marks l Address) && every isMark (keptOf marks l Length))
 
+-- where not every record was taken
+unfoldable pub notTaken : FileTags → List Assignment → Verdict
+notTaken ts rs = cond (every (inFile ts) rs) (Refused (fault 26)) (Refused (fault 25))
+
 -- ---- what has been seen to before the records are looked up among the tags, one after another and all of them
 pub record LookReady (book : List ℕ) (l : Label) (tags : List ℕ) : Type 0 where
   pub right : isBook book ≡ true
@@ -91,14 +98,12 @@ pub record LookedReady (book : List ℕ) (l : Label) (tags io tables : List ℕ)
 -- before they are taken, all and one
 pub record TakeReady (book : List ℕ) (l : Label) (tags marks : List ℕ) : Type 0 where
   pub look : LookReady book l tags
-  pub all : every (inFile (keptTags tags l)) (assignmentsOf book) ≡ true
   pub none : marks ≡ replicate keptWords 0
 
 pub record MarkReady (l : Label) (tags : List ℕ) (r : Assignment) (marks : List ℕ) : Type 0 where
   pub carried : Carried l
   pub tags-long : length tags ≡ keptWords
   pub marks-long : length marks ≡ keptWords
-  pub found : inFile (keptTags tags l) r ≡ true
   pub small : r .number < 2 ^ 32
 
 -- before the lists are written
@@ -115,9 +120,10 @@ pub record PairsReady (xs ys list : List ℕ) : Type 0 where
   pub first : every isMark xs ≡ true
   pub second : every isMark ys ≡ true
 
--- ---- what one record leaves: whether its tag had no mark, and then the marks
+-- ---- what one record leaves: whether an entry has its tag and it had no mark, and then the marks
 pub record Marked (l : Label) (tags : List ℕ) (r : Assignment) (marks : List ℕ) (b : Bool) (after : List ℕ) : Type 0 where
-  pub told : b ≡ eqb (getD (keptOf marks l (r .kind)) (placeOf (r .tag) (keptOf tags l (r .kind))) 0) 0
+  pub told : b
+      ≡ (inFile (keptTags tags l) r && eqb (getD (keptOf marks l (r .kind)) (placeOf (r .tag) (keptOf tags l (r .kind))) 0) 0)
   pub left : b ≡ true → after
       ≡ splice marks (startOf (r .kind)) (marked (keptOf tags l (r .kind)) (r .tag) (suc (r .number)) (keptOf marks l (r .kind)))
 
@@ -127,7 +133,7 @@ pub record Marks (rs : List Assignment) (l : Label) (tags marks : List ℕ) (i :
   pub each : (k : Kind) → keptOf marks l k ≡ marksTo rs k (keptOf tags l k) i
 
 pub record Taken (book : List ℕ) (l : Label) (tags : List ℕ) (b : Bool) (after : List ℕ) : Type 0 where
-  pub told : b ≡ everyTwo apartFrom (assignmentsOf book)
+  pub told : b ≡ (every (inFile (keptTags tags l)) (assignmentsOf book) && everyTwo apartFrom (assignmentsOf book))
   pub left : b ≡ true → Marks (assignmentsOf book) l tags after (length (assignmentsOf book))
 
 -- the lists afterwards

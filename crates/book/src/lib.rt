@@ -10,7 +10,7 @@ ghost use Rattle.label.specs.Label.{Carried};
 ghost use Rattle.label.specs.declared.LabelRead.the-variants.{Good};
 ghost use Rattle.book.specs.Book.{assignmentsOf};
 ghost use Rattle.book.specs.Assign.{placeOf, inFile, listsFor, assignBy, assignOf, Leaves};
-ghost use Rattle.book.specs.HowKept.{keptWords, keptOf, keptTags, marked, isMark};
+ghost use Rattle.book.specs.HowKept.{keptWords, keptOf, keptTags, marked, isMark, notTaken};
 ghost use Rattle.book.specs.HowKept.{allMarked, numbersOf, pairsOf, LookReady, LookedReady, TakeReady, MarkReady};
 ghost use Rattle.book.specs.HowKept.{FillReady, PairsReady, Marked, Taken, Filled};
 use block::Verdict;
@@ -73,18 +73,26 @@ fn look_up(book: &[u8], l: Label, tags: &[u64], io: &mut [u64], tables: &mut [u6
     ensures { λ v. ⌜ Leaves (listsFor (keptTags (now (tags .entry)) l) (assignmentsOf (now (book .entry))) (now (io .entry)) (now (tables .entry)))
         v (now (io .exit)) (now (tables .exit)) ⌝ }
 {
-    if !all_in_file(book, l, tags) {
-        return Verdict::Refused(FAULT_25);
-    }
     let mut marks = [0u64; KEPT_WORDS];
     if !take_records(book, l, tags, &mut marks) {
-        return Verdict::Refused(FAULT_26);
+        return not_taken(book, l, tags);
     }
     if !all_given(&marks, l) {
         return Verdict::Refused(FAULT_27);
     }
     write_lists(&marks, l, io, tables);
     Verdict::Pass
+}
+
+// Why not every record was taken: 25 comes first, though a 26 may stand before it in the book.
+fn not_taken(book: &[u8], l: Label, tags: &[u64]) -> Verdict
+    requires { ⌜ LookReady (now book) l (now tags) ⌝ }
+    ensures { λ v. ⌜ v ≡ notTaken (keptTags (now (tags .entry)) l) (assignmentsOf (now (book .entry))) ⌝ }
+{
+    if all_in_file(book, l, tags) {
+        return Verdict::Refused(FAULT_26);
+    }
+    Verdict::Refused(FAULT_25)
 }
 
 // Whether an entry has each record's tag.
@@ -127,7 +135,7 @@ fn find(tags: &[u64], tag: u64) -> usize
     j
 }
 
-// Marks the tags that the records are for, of which none has a mark yet; or answers that two are for one.
+// Marks the tags that the records are for, of which none has a mark yet; or answers that one is for none, or two are for one.
 fn take_records(book: &[u8], l: Label, tags: &[u64], marks: &mut [u64]) -> bool
     requires { ⌜ TakeReady (now book) l (now tags) (now marks) ⌝ }
     ensures { λ b. ⌜ Taken (now (book .entry)) l (now (tags .entry)) b (now (marks .exit)) ⌝ }
@@ -143,7 +151,7 @@ fn take_records(book: &[u8], l: Label, tags: &[u64], marks: &mut [u64]) -> bool
     true
 }
 
-// Marks each place of a record's tag with its number and one, unless they have a mark.
+// Marks each place of a record's tag with its number and one; or answers that there is none, or they have a mark.
 fn take_record(l: Label, tags: &[u64], r: Assignment, marks: &mut [u64]) -> bool
     requires { ⌜ MarkReady l (now tags) r (now marks) ⌝ }
     ensures { λ b. ⌜ Marked l (now (tags .entry)) r (now (marks .entry)) b (now (marks .exit)) ⌝ }
@@ -152,6 +160,9 @@ fn take_record(l: Label, tags: &[u64], r: Assignment, marks: &mut [u64]) -> bool
     let a = tags::start_of(kind);
     let n = tags::count_of(l, kind);
     let j = find(&tags[a..a + n], r.tag);
+    if n <= j {
+        return false;
+    }
     let old = marks[a + j];
     if old != 0 {
         return false;

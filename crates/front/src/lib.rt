@@ -1,7 +1,7 @@
 // The front of a program file, its label and its modification blocks, read without a desk (#101): whether it is right, what the label
 // needs, and the words of the entries.
 ghost use mathlib.Core.Path.{_≡_};
-ghost use Prim.Native.Nat.{_*_, _≤_, _<_};
+ghost use Prim.Native.Nat.{_*_, _≤_, _<_, _^_};
 ghost use lib.ListN.{length};
 ghost use Rattle.word.specs.Limits.{wordsInBlock};
 ghost use Rattle.label.specs.Label.{Carried};
@@ -93,7 +93,7 @@ fn check_modifications(blocks: &[u64], m: usize) -> Verdict
 
 // Block i, where a modification block is due.
 fn check_modification(blocks: &[u64], i: usize) -> Verdict
-    requires { ⌜ i ≤ 65537 ⌝ }
+    requires { ⌜ i ≤ 2 ^ 20 ⌝ }
     ensures { λ v. ⌜ v ≡ modificationAt (now (blocks .entry)) i ⌝ }
 {
     if blocks.len() <= BLOCK_WORDS * i {
@@ -113,7 +113,7 @@ fn check_modification(blocks: &[u64], i: usize) -> Verdict
 
 // Block i, where none is due any more.
 fn check_over(blocks: &[u64], i: usize) -> Verdict
-    requires { ⌜ i ≤ 65537 ⌝ }
+    requires { ⌜ i ≤ 2 ^ 20 ⌝ }
     ensures { λ v. ⌜ v ≡ overAt (now (blocks .entry)) i ⌝ }
 {
     if blocks.len() <= BLOCK_WORDS * i {
@@ -127,7 +127,7 @@ fn check_over(blocks: &[u64], i: usize) -> Verdict
 
 // 13 at the first word of block i.
 fn wrong_record(i: usize) -> Fault
-    requires { ⌜ i ≤ 65537 ⌝ }
+    requires { ⌜ i ≤ 2 ^ 20 ⌝ }
     ensures { λ r. ⌜ r ≡ wrongRecord i ⌝ }
 {
     word::further((BLOCK_WORDS * i) as u64, FAULT_13)

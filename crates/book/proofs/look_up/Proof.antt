@@ -2,30 +2,24 @@
 use mathlib.Core.Path.{refl, sym, _∙_}
 use borrow.Author.Tests.{not-true, not-false}
 use Rattle.book.proofs.Given.{all-given, io-numbers, table-numbers}
-use Rattle.book.proofs.Answers.{gives-25, gives-26, gives-27, gives-lists}
+use Rattle.book.proofs.Answers.{gives-25-or-26, gives-27, gives-lists}
 use borrow.Author.Needs.{needs}
 use Rattle.book.proofs.look_up.Statement.{statement}
 use Rattle.book.proofs.look_up.Tie as tie
-
-all-in-file-requires : tie.Need-all-in-file-requires
-all-in-file-requires c κs = search needs
-
-returns : tie.Need-returns
-returns c = gives-25 _ _ _ _ (sym (c .before .all-in-file .ensures) ∙ not-true _ (c .if1 .taken))
 
 slice-aggregate-take-records : tie.Need-slice-aggregate-take-records
 slice-aggregate-take-records c = search needs
 
 take-records-requires : tie.Need-take-records-requires
-take-records-requires c κs =
-    let p = c .before .before .before .before .before .before .before .pre in
-    record { look = p .look; all = sym (c .before .before .all-in-file .ensures) ∙ not-false _ (c .before .if1 .left); none = refl }
+take-records-requires c κs = record { look = c .before .before .before .before .before .pre .look; none = refl }
 
-returns-2 : tie.Need-returns-2
-returns-2 c =
-    let f = c .before .before .before .before in
-    gives-26 _ _ _ _ (sym (f .before .all-in-file .ensures) ∙ not-false _ (f .if1 .left))
-    (sym (c .before .before .take-records .ensures .told) ∙ not-true _ (c .if2 .taken))
+not-taken-requires : tie.Need-not-taken-requires
+not-taken-requires c κs = search needs
+
+returns : tie.Need-returns
+returns c =
+    gives-25-or-26 _ _ _ _ _ (sym (c .before .before .before .take-records .ensures .told) ∙ not-true _ (c .before .if1 .taken))
+    (c .not-taken .ensures)
 
 slice-aggregate-all-given : tie.Need-slice-aggregate-all-given
 slice-aggregate-all-given c = search needs
@@ -33,16 +27,15 @@ slice-aggregate-all-given c = search needs
 all-given-requires : tie.Need-all-given-requires
 all-given-requires c κs = search needs
 
-returns-3 : tie.Need-returns-3
-returns-3 c =
+returns-2 : tie.Need-returns-2
+returns-2 c =
     let t = c .before .before .before .before .before in
-    let f = t .before .before in
-    let p = f .before .before .before .before .before .before .pre in
-    let q = not-false _ (c .before .before .before .if2 .left) in
-    gives-27 _ _ _ _ (sym (f .before .all-in-file .ensures) ∙ not-false _ (f .if1 .left)) (sym (t .take-records .ensures .told) ∙ q)
+    let p = t .before .before .before .before .before .before .pre in
+    let q = not-false _ (c .before .before .before .if1 .left) in
+    gives-27 _ _ _ _ _ (t .take-records .ensures .told) q
     (sym (all-given _ _ _ _ (p .look .long) (p .look .carried) (t .take-records .ensures .left q)) ∙ sym
     (c .before .all-given .ensures)
-    ∙ not-true _ (c .if3 .taken))
+    ∙ not-true _ (c .if2 .taken))
 
 slice-aggregate-write-lists : tie.Need-slice-aggregate-write-lists
 slice-aggregate-write-lists c = search needs
@@ -51,11 +44,11 @@ write-lists-requires : tie.Need-write-lists-requires
 write-lists-requires c κs =
     let g = c .before .before .before .before in
     let t = g .before .before .before .before in
-    let p = t .before .before .before .before .before .before .before .before .pre in
+    let p = t .before .before .before .before .before .before .pre in
     record {
       carried = p .look .carried;
-      long = t .take-records .ensures .left (not-false _ (g .before .before .if2 .left)) .long;
-      all = sym (g .all-given .ensures) ∙ not-false _ (c .before .before .before .if3 .left);
+      long = t .take-records .ensures .left (not-false _ (g .before .before .if1 .left)) .long;
+      all = sym (g .all-given .ensures) ∙ not-false _ (c .before .before .before .if2 .left);
       io-long = p .io-long;
       tables-long = p .tables-long;
     }
@@ -66,19 +59,17 @@ same-length c = search needs
 same-length-2 : tie.Need-same-length-2
 same-length-2 c = search needs
 
-returns-4 : tie.Need-returns-4
-returns-4 c =
+returns-3 : tie.Need-returns-3
+returns-3 c =
     let w = c .before .before .before .before in
     let g = w .before .before .before .before .before in
     let t = g .before .before .before .before in
-    let f = t .before .before in
-    let p = f .before .before .before .before .before .before .pre in
-    let q = not-false _ (g .before .before .if2 .left) in
+    let p = t .before .before .before .before .before .before .pre in
+    let q = not-false _ (g .before .before .if1 .left) in
     let m = t .take-records .ensures .left q in
-    gives-lists _ _ _ _ (sym (f .before .all-in-file .ensures) ∙ not-false _ (f .if1 .left))
-    (sym (t .take-records .ensures .told) ∙ q) _ _
-    (sym (all-given _ _ _ _ (p .look .long) (p .look .carried) m) ∙ sym (g .all-given .ensures) ∙ not-false _
-    (w .before .before .before .before .if3 .left))
+    gives-lists _ _ _ _ _ (t .take-records .ensures .told) q _ _
+    (sym (all-given _ _ _ _ (p .look .long) (p .look .carried) m) ∙ sym (g .all-given .ensures)
+    ∙ not-false _ (w .before .before .before .before .if2 .left))
     (w .write-lists .ensures .io-left ∙ io-numbers _ _ _ _ (p .look .long) (p .look .carried) m)
     (w .write-lists .ensures .tables-left ∙ table-numbers _ _ _ _ (p .look .long) (p .look .carried) m)
 
@@ -86,16 +77,15 @@ pub look-up-spec : {M : Type 1} → statement M
 look-up-spec =
     tie.close
     (tie.spec
-    all-in-file-requires
-    returns
     slice-aggregate-take-records
     take-records-requires
-    returns-2
+    not-taken-requires
+    returns
     slice-aggregate-all-given
     all-given-requires
-    returns-3
+    returns-2
     slice-aggregate-write-lists
     write-lists-requires
     same-length
     same-length-2
-    returns-4)
+    returns-3)

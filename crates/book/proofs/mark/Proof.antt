@@ -20,7 +20,8 @@ abbrev μ-loop : tie.MeasureT-loop
 loop-holds : tie.Need-loop-holds Inv-loop μ-loop
 loop-holds c =
     let z = c .before .before in
-    let b = marks-begin (now (z .args .tags)) (z .args .tag) (z .args .value) (now (z .args .marks)) (z .pre .0) (z .args .first) (z .pre .1) in
+    let b = marks-begin (now (z .args .tags)) (z .args .tag) (z .args .value) (now (z .args .marks)) (z .pre .0) (z .args .first)
+    (z .pre .1) in
     (omega (arith, b .most), omega arith, b)
 
 mul-marks : tie.Need-mul-marks Inv-loop μ-loop

@@ -1,12 +1,11 @@
--- `book::take_record` meets its contract: by the mark at the tag's first place, and then by what marking leaves.
+-- `book::take_record` meets its contract: by where the tag is found, by the mark there, and then by what marking leaves.
+use Prim.Native.Nat.{_+_, _≤_}
 use mathlib.Core.Path.{_≡_, refl, ap, _∙_}
-use Prim.Native.Nat.{_+_, _<_, _≤_}
 use denote.Ref.{now}
-use borrow.Author.Tests.{ltb-true}
 use Rattle.book.specs.Assign.{placeOf}
 use Rattle.book.specs.HowKept.{keptWords, keptOf}
-use Rattle.book.proofs.Kept.{few-entries, start-most, kept-lent, in-kept}
-use Rattle.book.proofs.Marking.{marked-before, marked-now}
+use Rattle.book.proofs.Kept.{few-entries, start-most, kept-lent}
+use Rattle.book.proofs.Marking.{marked-none-such, marked-before, marked-now}
 use native.Mathlib.Omega.{arith}
 use borrow.Author.Needs.{needs}
 use Rattle.book.proofs.take_record.Statement.{statement}
@@ -18,7 +17,7 @@ start-of-requires c κs = search needs
 count-of-requires : tie.Need-count-of-requires
 count-of-requires c κs = search needs
 
--- the kind's stretch lies among what is kept, and the tag is found in it
+-- the kind's stretch lies among what is kept; and where the tag is found in it
 inside : (c : tie.After-count-of) → c .before .start-of .result + c .count-of .result ≤ keptWords
 inside c =
     let z = c .before .before .before .before in
@@ -39,13 +38,6 @@ place c =
     (kept-lent (now (z .args .tags)) (z .args .l) (z .args .r .kind) _ _ (c .before .before .before .start-of .ensures)
     (c .before .before .count-of .ensures))
 
-found : (c : tie.After-find) → c .find .result < c .before .before .count-of .result
-found c =
-    let z = c .before .before .before .before .before .before in
-    ltb-true _ _
-    (in-kept _ _ (z .args .r) _ _ (z .pre .tags-long) (z .pre .carried) (place c) (c .before .before .count-of .ensures)
-    ∙ z .pre .found)
-
 add-find : tie.Need-add-find
 add-find c = omega (arith, inside c)
 
@@ -64,28 +56,34 @@ part-find-end c = omega (arith, inside c)
 find-requires : tie.Need-find-requires
 find-requires c κs = search needs
 
-add-old : tie.Need-add-old
-add-old c = omega (arith, inside (c .before .before), found c)
-
-mul-old : tie.Need-mul-old
-mul-old c = omega (arith, inside (c .before .before), found c)
-
-slice-read-old : tie.Need-slice-read-old
-slice-read-old c = omega (arith, inside (c .before .before .before), found (c .before))
-
 returns : tie.Need-returns
 returns c =
-    let f = c .before .before in
+    let f = c .before in
     let z = f .before .before .before .before .before .before in
-    marked-before _ _ (z .args .r) _ _ _ _ (z .pre .marks-long) (z .pre .carried) (place f)
-    (f .before .before .before .start-of .ensures)
-    (f .before .before .count-of .ensures) (found f) _ (c .if1 .taken)
+    marked-none-such _ _ (z .args .r) _ _ _ _ (z .pre .tags-long) (z .pre .marks-long) (z .pre .carried) (place f)
+    (f .before .before .before .start-of .ensures) (f .before .before .count-of .ensures) _ (c .if1 .taken)
+
+add-old : tie.Need-add-old
+add-old c = omega (arith, inside (c .before .before .before))
+
+mul-old : tie.Need-mul-old
+mul-old c = omega (arith, inside (c .before .before .before))
+
+slice-read-old : tie.Need-slice-read-old
+slice-read-old c = omega (arith, inside (c .before .before .before .before))
+
+returns-2 : tie.Need-returns-2
+returns-2 c =
+    let f = c .before .before .before in
+    let z = f .before .before .before .before .before .before in
+    marked-before _ _ (z .args .r) _ _ _ _ (z .pre .tags-long) (z .pre .marks-long) (z .pre .carried) (place f)
+    (f .before .before .before .start-of .ensures) (f .before .before .count-of .ensures) (omega arith) _ (c .if2 .taken)
 
 add-mark : tie.Need-add-mark
-add-mark c = omega (arith, inside (c .before .before .before .before))
+add-mark c = omega (arith, inside (c .before .before .before .before .before))
 
 mul-mark : tie.Need-mul-mark
-mul-mark c = omega (arith, inside (c .before .before .before .before))
+mul-mark c = omega (arith, inside (c .before .before .before .before .before))
 
 sub-mark : tie.Need-sub-mark
 sub-mark c = search needs
@@ -94,13 +92,13 @@ part-mark-start : tie.Need-part-mark-start
 part-mark-start c = search needs
 
 part-mark-end : tie.Need-part-mark-end
-part-mark-end c = omega (arith, inside (c .before .before .before .before))
+part-mark-end c = omega (arith, inside (c .before .before .before .before .before))
 
 add-mark-2 : tie.Need-add-mark-2
-add-mark-2 c = omega (arith, inside (c .before .before .before .before .before))
+add-mark-2 c = omega (arith, inside (c .before .before .before .before .before .before))
 
 mul-mark-2 : tie.Need-mul-mark-2
-mul-mark-2 c = omega (arith, inside (c .before .before .before .before .before))
+mul-mark-2 c = omega (arith, inside (c .before .before .before .before .before .before))
 
 sub-mark-2 : tie.Need-sub-mark-2
 sub-mark-2 c = search needs
@@ -109,7 +107,7 @@ part-mark-start-2 : tie.Need-part-mark-start-2
 part-mark-start-2 c = search needs
 
 part-mark-end-2 : tie.Need-part-mark-end-2
-part-mark-end-2 c = omega (arith, inside (c .before .before .before .before .before))
+part-mark-end-2 c = omega (arith, inside (c .before .before .before .before .before .before))
 
 add-mark-3 : tie.Need-add-mark-3
 add-mark-3 c = search needs
@@ -120,15 +118,14 @@ mark-requires c κs = search needs
 same-length : tie.Need-same-length
 same-length c = search needs
 
-returns-2 : tie.Need-returns-2
-returns-2 c =
-    let f = c .before .before .before .before .before .before .before .before in
+returns-3 : tie.Need-returns-3
+returns-3 c =
+    let f = c .before .before .before .before .before .before .before .before .before in
     let z = f .before .before .before .before .before .before in
-    marked-now _ _ (z .args .r) _ _ _ _ (z .pre .marks-long) (z .pre .carried) (place f)
-    (f .before .before .before .start-of .ensures)
-    (f .before .before .count-of .ensures) (found f) _ _ _ _ (c .before .before .before .before .before .before .if1 .left) refl
-    refl refl
-    (c .before .before .mark .ensures)
+    marked-now _ _ (z .args .r) _ _ _ _ (z .pre .tags-long) (z .pre .marks-long) (z .pre .carried) (place f)
+    (f .before .before .before .start-of .ensures) (f .before .before .count-of .ensures)
+    (omega (arith, c .before .before .before .before .before .before .before .before .if1 .left)) _ _ _ _
+    (c .before .before .before .before .before .before .if2 .left) refl refl refl (c .before .before .mark .ensures)
 
 pub take-record-spec : {M : Type 1} → statement M
 take-record-spec =
@@ -142,10 +139,11 @@ take-record-spec =
     part-find-start
     part-find-end
     find-requires
+    returns
     add-old
     mul-old
     slice-read-old
-    returns
+    returns-2
     add-mark
     mul-mark
     sub-mark
@@ -159,4 +157,4 @@ take-record-spec =
     add-mark-3
     mark-requires
     same-length
-    returns-2)
+    returns-3)

@@ -4,7 +4,7 @@ use mathlib.Core.Path.{_≡_}
 use lib.ListN.{length}
 use borrow.Author.Tests.{not-true, not-false}
 use Rattle.book.specs.Book.{recordCount, assignmentsOf}
-use Rattle.book.proofs.Taking.{TakenTo, taken-none, take-ready, taken-more, taken-twice, taken-all}
+use Rattle.book.proofs.Taking.{TakenTo, taken-none, take-ready, taken-more, taken-stops, taken-all}
 use native.Mathlib.Omega.{arith}
 use Rattle.book.proofs.take_records.Statement.{statement}
 use Rattle.book.proofs.take_records.Tie as tie
@@ -28,7 +28,7 @@ take-record-requires : tie.Need-take-record-requires Inv-loop μ-loop
 take-record-requires c κs =
     let p = c .before .before .before .before .before .before .before .pre in
     let l = c .before .before .before .loop in
-    take-ready _ _ _ _ (l .i) (p .look) (p .all) (omega arith) _ (c .before .read-record .ensures) (l .inv .2 .marks-kept .long)
+    take-ready _ _ _ _ (l .i) (p .look) (omega arith) _ (c .before .read-record .ensures) (l .inv .2 .marks-kept .long)
 
 same-length : tie.Need-same-length Inv-loop μ-loop
 same-length c = omega arith
@@ -37,7 +37,7 @@ returns : tie.Need-returns Inv-loop μ-loop
 returns c =
     let p = c .before .before .before .before .before .before .before .before .before .before .before .pre in
     let l = c .before .before .before .before .before .before .before .loop in
-    taken-twice _ _ _ _ (l .i) (p .look) (p .all) (omega arith) _ (c .before .before .before .before .before .read-record .ensures)
+    taken-stops _ _ _ _ (l .i) (p .look) (omega arith) _ (c .before .before .before .before .before .read-record .ensures)
     _ _
     (c .before .before .before .take-record .ensures) (l .inv .2) (not-true _ (c .if1 .taken))
 
@@ -53,7 +53,7 @@ loop-again c =
     let l = c .before .before .before .before .before .before .before .loop in (
       omega arith,
       omega arith,
-      taken-more _ _ _ _ (l .i) (p .look) (p .all) (omega arith) _ (c .before .before .before .before .before .read-record .ensures)
+      taken-more _ _ _ _ (l .i) (p .look) (omega arith) _ (c .before .before .before .before .before .read-record .ensures)
           _ _
           (c .before .before .before .take-record .ensures) (l .inv .2) (not-false _ (c .if1 .left)),
     )
