@@ -79,14 +79,16 @@
    loads, and bring both back together: a load that goes on over another core ends in another image, and no call can tell. A desk
    is for the library that made it: save CLAMP_VERSION_STRING beside it.
 
-   Stack. Measured, the most of many calls: 2,624 bytes in open, 1,008 in feed, 336 in release, 64 in make, 16 in reseal
-   (docs/PERFORMANCE.md). The tests fail where assign takes over 8,192, open over 3,072 or another call over 1,024. The first call
-   that copies or clears memory may take some 3 KB more, where the dynamic linker then looks for memcpy or memset. No call is
-   recursive.
+   Stack. Measured, the most of many calls: 6,368 bytes in assign, 2,624 in open, 952 in feed, 336 in release, 176 in needs, 64 in
+   make, 16 in reseal (docs/PERFORMANCE.md). The tests fail where assign takes over 8,192, open over 3,072 or another call over
+   1,024. The first call that copies or clears memory may take some 3 KB more, where the dynamic linker then looks for memcpy or
+   memset. No call is recursive.
 
    Cost. Open, feed and release test the whole desk: some 400 instructions with one load of few tables, 8,700 with twelve loads of
-   128 tables each. To that a program block adds from 1,300 (no field changed) to 22,000 (every field), and open has the area to clear
-   and the tables to sort. Reseal goes through the block once, some 510. No call waits, calls the operating system or calls back.
+   128 tables each. To that a program block adds from 1,300 (no field changed) to 22,000 (every field), and open has the area to
+   clear and the tables to sort. Reseal goes through the block once, some 510, and so does needs, some 830. Assign takes some
+   310,000 with a full file and its book of 384 records, 14,000 with an eighth of both. No call waits, calls the operating system
+   or calls back.
 
    A call that does not return (longjmp out of a signal handler, a thread that is ended) may leave any desk and core: make the desk
    again. The library has no unwind tables, because the Rattle kit makes none: a debugger that stops inside a call may not find the

@@ -1,8 +1,10 @@
-use native.Mathlib.Omega.{arith}
 -- `book::in_file` meets its contract: by the place where the tag is found in its kind's stretch.
+use native.Mathlib.Omega.{arith}
+use Prim.Native.Nat.{_+_, _≤_}
 use mathlib.Core.Path.{ap, _∙_}
 use denote.Ref.{now}
 use Rattle.book.specs.Assign.{placeOf}
+use Rattle.book.specs.HowKept.{keptWords}
 use Rattle.book.proofs.Kept.{few-entries, start-most, kept-lent, in-kept}
 use borrow.Author.Needs.{needs}
 use Rattle.book.proofs.in_file.Statement.{statement}
@@ -14,40 +16,28 @@ start-of-requires c κs = search needs
 count-of-requires : tie.Need-count-of-requires
 count-of-requires c κs = search needs
 
-add-find : tie.Need-add-find
-add-find c =
+-- the kind's stretch lies among what is kept
+inside : (c : tie.After-count-of) → c .before .start-of .result + c .count-of .result ≤ keptWords
+inside c =
     let z = c .before .before .before in
     let f = few-entries (z .args .l) (z .args .r .kind) (z .pre .0) in
     let s = start-most (z .args .r .kind) in
     omega (arith, c .count-of .ensures, c .before .start-of .ensures)
+
+add-find : tie.Need-add-find
+add-find c = omega (arith, inside c)
 
 mul-find : tie.Need-mul-find
-mul-find c =
-    let z = c .before .before .before in
-    let f = few-entries (z .args .l) (z .args .r .kind) (z .pre .0) in
-    let s = start-most (z .args .r .kind) in
-    omega (arith, c .count-of .ensures, c .before .start-of .ensures)
+mul-find c = omega (arith, inside c)
 
 sub-find : tie.Need-sub-find
-sub-find c =
-    let z = c .before .before .before in
-    let f = few-entries (z .args .l) (z .args .r .kind) (z .pre .0) in
-    let s = start-most (z .args .r .kind) in
-    omega (arith, c .count-of .ensures, c .before .start-of .ensures)
+sub-find c = omega (arith, inside c)
 
 part-find-start : tie.Need-part-find-start
-part-find-start c =
-    let z = c .before .before .before in
-    let f = few-entries (z .args .l) (z .args .r .kind) (z .pre .0) in
-    let s = start-most (z .args .r .kind) in
-    omega (arith, c .count-of .ensures, c .before .start-of .ensures)
+part-find-start c = omega (arith, inside c)
 
 part-find-end : tie.Need-part-find-end
-part-find-end c =
-    let z = c .before .before .before in
-    let f = few-entries (z .args .l) (z .args .r .kind) (z .pre .0) in
-    let s = start-most (z .args .r .kind) in
-    omega (arith, c .count-of .ensures, c .before .start-of .ensures)
+part-find-end c = omega (arith, inside c)
 
 find-requires : tie.Need-find-requires
 find-requires c κs = search needs

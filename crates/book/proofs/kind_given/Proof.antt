@@ -1,9 +1,10 @@
-use native.Mathlib.Omega.{arith}
 -- `book::kind_given` meets its contract: the marks of its stretch.
+use native.Mathlib.Omega.{arith}
+use Prim.Native.Nat.{_+_, _≤_}
 use mathlib.Core.Path.{ap, _∙_}
 use denote.Ref.{now}
 use Rattle.word.specs.Lists.{every}
-use Rattle.book.specs.HowKept.{isMark}
+use Rattle.book.specs.HowKept.{keptWords, isMark}
 use Rattle.book.proofs.Kept.{few-entries, start-most, kept-lent}
 use borrow.Author.Needs.{needs}
 use Rattle.book.proofs.kind_given.Statement.{statement}
@@ -15,40 +16,28 @@ start-of-requires c κs = search needs
 count-of-requires : tie.Need-count-of-requires
 count-of-requires c κs = search needs
 
-add-all-marks : tie.Need-add-all-marks
-add-all-marks c =
+-- the kind's stretch lies among what is kept
+inside : (c : tie.After-count-of) → c .before .start-of .result + c .count-of .result ≤ keptWords
+inside c =
     let z = c .before .before .before in
     let f = few-entries (z .args .l) (z .args .kind) (z .pre .0) in
     let s = start-most (z .args .kind) in
     omega (arith, c .count-of .ensures, c .before .start-of .ensures)
+
+add-all-marks : tie.Need-add-all-marks
+add-all-marks c = omega (arith, inside c)
 
 mul-all-marks : tie.Need-mul-all-marks
-mul-all-marks c =
-    let z = c .before .before .before in
-    let f = few-entries (z .args .l) (z .args .kind) (z .pre .0) in
-    let s = start-most (z .args .kind) in
-    omega (arith, c .count-of .ensures, c .before .start-of .ensures)
+mul-all-marks c = omega (arith, inside c)
 
 sub-all-marks : tie.Need-sub-all-marks
-sub-all-marks c =
-    let z = c .before .before .before in
-    let f = few-entries (z .args .l) (z .args .kind) (z .pre .0) in
-    let s = start-most (z .args .kind) in
-    omega (arith, c .count-of .ensures, c .before .start-of .ensures)
+sub-all-marks c = omega (arith, inside c)
 
 part-all-marks-start : tie.Need-part-all-marks-start
-part-all-marks-start c =
-    let z = c .before .before .before in
-    let f = few-entries (z .args .l) (z .args .kind) (z .pre .0) in
-    let s = start-most (z .args .kind) in
-    omega (arith, c .count-of .ensures, c .before .start-of .ensures)
+part-all-marks-start c = omega (arith, inside c)
 
 part-all-marks-end : tie.Need-part-all-marks-end
-part-all-marks-end c =
-    let z = c .before .before .before in
-    let f = few-entries (z .args .l) (z .args .kind) (z .pre .0) in
-    let s = start-most (z .args .kind) in
-    omega (arith, c .count-of .ensures, c .before .start-of .ensures)
+part-all-marks-end c = omega (arith, inside c)
 
 all-marks-requires : tie.Need-all-marks-requires
 all-marks-requires c κs = search needs

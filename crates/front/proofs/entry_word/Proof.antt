@@ -1,10 +1,10 @@
+-- `front::entry_word` meets its contract: the word at the entry word's spot.
 use mathlib.Core.Path.{ap, _∙_}
 use Prim.Native.Nat.{_+_, _*_}
 use lib.ListN.{getD}
 use denote.Ref.{now}
 use Rattle.word.specs.Limits.{wordsInBlock}
 use Rattle.modification.specs.declared.Spot.{Spot}
--- `front::entry_word` meets its contract: the word at the entry word's spot.
 use Rattle.front.specs.Front.{entryWord}
 use native.Mathlib.Omega.{arith}
 use borrow.Author.Needs.{needs}

@@ -1,5 +1,5 @@
-use Rattle.front.proofs.Carried.{with-right, with-wrong}
 -- `front::with_blocks` meets its contract: by the verdict on the blocks behind the label.
+use Rattle.front.proofs.Carried.{with-right, with-wrong}
 use mathlib.Core.Path.{sym, _∙_}
 use borrow.Author.Needs.{needs}
 use Rattle.front.proofs.with_blocks.Statement.{statement}

@@ -1,5 +1,5 @@
 -- `book::tags::read_kind` meets its contract: at every turn the tags of the entries passed are written.
-use Prim.Native.Nat.{_≤_, _-_}
+use Prim.Native.Nat.{_+_, _≤_, _-_}
 use mathlib.Core.Path.{_≡_, sym, _∙_}
 use denote.Ref.{now}
 use lib.ListN.{length, length-set}
@@ -32,41 +32,22 @@ tag-of-requires c κs =
     let z = c .before .before .before .before .before .before in
     (z .pre .0, omega (arith, few-entries (z .args .l) (z .args .kind) (z .pre .0), c .before .before .count-of .ensures))
 
+-- the kind's stretch lies among what is kept
+inside : (c : tie.After-count-of Inv-loop μ-loop) → c .before .start-of .result + c .count-of .result ≤ keptWords
+inside c =
+    let z = c .before .before .before .before in
+    let f = few-entries (z .args .l) (z .args .kind) (z .pre .0) in
+    let s = start-most (z .args .kind) in
+    omega (arith, c .count-of .ensures, c .before .start-of .ensures)
+
 add-kept : tie.Need-add-kept Inv-loop μ-loop
-add-kept c =
-    let z = c .before .before .before .before .before .before .before in
-    omega (
-      arith,
-      few-entries (z .args .l) (z .args .kind) (z .pre .0),
-      start-most
-          (z .args .kind),
-      c .before .before .before .count-of .ensures,
-      c .before .before .before .before .start-of .ensures,
-    )
+add-kept c = omega (arith, inside (c .before .before .before))
 
 mul-kept : tie.Need-mul-kept Inv-loop μ-loop
-mul-kept c =
-    let z = c .before .before .before .before .before .before .before in
-    omega (
-      arith,
-      few-entries (z .args .l) (z .args .kind) (z .pre .0),
-      start-most
-          (z .args .kind),
-      c .before .before .before .count-of .ensures,
-      c .before .before .before .before .start-of .ensures,
-    )
+mul-kept c = omega (arith, inside (c .before .before .before))
 
 slice-write-kept : tie.Need-slice-write-kept Inv-loop μ-loop
-slice-write-kept c =
-    let z = c .before .before .before .before .before .before .before in
-    omega (
-      arith,
-      few-entries (z .args .l) (z .args .kind) (z .pre .0),
-      start-most
-          (z .args .kind),
-      c .before .before .before .count-of .ensures,
-      c .before .before .before .before .start-of .ensures,
-    )
+slice-write-kept c = omega (arith, inside (c .before .before .before))
 
 add-j : tie.Need-add-j Inv-loop μ-loop
 add-j c = omega arith
@@ -78,10 +59,8 @@ loop-again : tie.Need-loop-again Inv-loop μ-loop
 loop-again c =
     let z = c .before .before .before .before .before .before .before in
     let l = c .before .before .loop in
-    let f = few-entries (z .args .l) (z .args .kind) (z .pre .0) in
-    let s = start-most (z .args .kind) in
     let n = c .before .before .before .count-of .ensures in
-    let a = c .before .before .before .before .start-of .ensures in
+    let i = inside (c .before .before .before) in
     let t = tags-long (now (z .args .blocks)) (z .args .l) (z .args .kind) in (
       omega arith,
       simp length-set (omega arith),
