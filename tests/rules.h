@@ -50,7 +50,7 @@ enum {
   REFUSED_FORM = 19,        /* modification type not carried, or field form wrong */
   REFUSED_REFERENCE = 20,   /* no such reference */
   REFUSED_VALUE = 21,       /* outside 0 to 65,535 */
-  REFUSED_START = 22        /* not in the IBANK; the last one there is */
+  REFUSED_START = 22        /* not in the IBANK; those of a facility book stand in book_rules.h */
 };
 
 /* The whole answer. */

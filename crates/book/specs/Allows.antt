@@ -1,5 +1,5 @@
--- Which lists a book allows for a file (#101): a relation, which says for each entry which record gives it which number. No record
--- of the code, no first or last of equal tags: a number is given by the one record that is for the tag.
+-- Which lists a book allows for a file (#101): a relation, which says for each entry which record gives it which number. It knows
+-- of no order of tests, and of no first or last of equal tags: a number is given by the one record that is for the tag.
 use Prim.Native.Nat.{ℕ, _+_, _*_, _<_}
 use mathlib.Core.Path.{_≡_}
 use mathlib.Core.List.{List}

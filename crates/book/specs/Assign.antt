@@ -48,8 +48,8 @@ inFile ts r = ltb (placeOf (r .tag) (ofKind (r .kind) ts)) (length (ofKind (r .k
 unfoldable pub apartFrom : Assignment → Assignment → Bool
 apartFrom r s = not (isFor (r .kind) (r .tag) s)
 
--- ---- 27: the first record that is for a tag; where none is, how many there are. Past the last record there is none that is for
--- anything
+-- ---- 27: the first record that is for a tag; where none is, how many there are. What would stand past the last record is not
+-- asked
 abbrev pub noAssignment : Assignment
 noAssignment = record { kind = Peripheral; tag = 0; number = 0 }
 
