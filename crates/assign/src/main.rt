@@ -1,7 +1,7 @@
 // The assign program (#101): reads a facility book, and a program file of octal lines from standard input, and prints the two lists
 // that the book gives the file, or the refusal.
 ghost use Rattle.std.specs.Prelude.{◌≤◌};
-ghost use Rattle.word.specs.Limits.{ioMost, tablesMost};
+ghost use Rattle.word.specs.Limits.{io_most, tables_most};
 ghost use Rattle.label.specs.Label.{Carried};
 
 use block::{BLOCK_WORDS, Verdict};
@@ -79,7 +79,7 @@ fn say_lists(book: &[u8], front: &[u64], io: &mut [u64], tables: &mut [u64]) {
 
 // The same, for a label that has so many I/O entries and core entries.
 fn assign_front(book: &[u8], front: &[u64], io: usize, tables: usize)
-    requires { (io ≤ ioMost) × (tables ≤ tablesMost) }
+    requires { (io ≤ io_most) × (tables ≤ tables_most) }
 {
     let mut numbers = [0u64; IO_MOST];
     let mut pairs = [0u64; PAIRS_MOST];

@@ -1,12 +1,12 @@
 -- A block's checksum word is one of its 256 words.
 use Rattle.std.proofs.Common.{◌<◌, arith}
-use Rattle.word.specs.Limits.{wordsInBlock}
-use Rattle.block.specs.Records.{checksumPlace}
+use Rattle.word.specs.Limits.{words_in_block}
+use Rattle.block.specs.Records.{checksum_place}
 use Rattle.block.specs.declared.Record.{Record}
 use Rattle.block.specs.declared.Record.TheVariants.{Label, Modification, Program, Termination}
 
-pub place-small : (r : Record) → checksumPlace r < wordsInBlock
-place-small Label = omega arith
-place-small Modification = omega arith
-place-small Program = omega arith
-place-small Termination = omega arith
+pub place_small : (r : Record) → checksum_place r < words_in_block
+place_small Label = omega arith
+place_small Modification = omega arith
+place_small Program = omega arith
+place_small Termination = omega arith

@@ -3,15 +3,15 @@
 -- `added` and nowhere else. How words are added, and the checksum of words, are handed to the definitions that go by them: the rule
 -- before #104 (crate `old_seal`) differs in nothing else.
 use Rattle.std.specs.Prelude.{ℕ, ◌+◌, ◌/◌, ◌%◌, Bool, List, [], ◌∷◌, ◌++◌, take, drop, ◌==◌, slice_index}
-use Rattle.word.specs.Word.{wordLimit, bits}
+use Rattle.word.specs.Word.{word_limit, bits}
 
 -- a sum with what runs over bit 35 added back at bit 0
-abbrev pub carriedRound : ℕ → ℕ
-carriedRound s = s % wordLimit + s / wordLimit
+abbrev pub carried_round : ℕ → ℕ
+carried_round s = s % word_limit + s / word_limit
 
--- a word added to a sum; the carry of two words is 1 at most, and adding it back gives no other (`added-word`)
+-- a word added to a sum; the carry of two words is 1 at most, and adding it back gives no other (`added_word`)
 abbrev pub added : ℕ → ℕ → ℕ
-added s w = carriedRound (s + w)
+added s w = carried_round (s + w)
 
 -- words added to a sum, one after another, each by `add`
 unfoldable pub sum_of : (ℕ → ℕ → ℕ) → ℕ → List ℕ → ℕ

@@ -20,11 +20,11 @@ letter n = 0o06 + (n - 1)
 abbrev pub digit : ℕ → ℕ
 digit n = 0o60 + n
 
-abbrev pub isLetter : ℕ → Bool
-isLetter c = nat_le (letter 1) c && nat_le c (letter 26)
+abbrev pub is_letter : ℕ → Bool
+is_letter c = nat_le (letter 1) c && nat_le c (letter 26)
 
-abbrev pub isDigit : ℕ → Bool
-isDigit c = nat_le (digit 0) c && nat_le c (digit 9)
+abbrev pub is_digit : ℕ → Bool
+is_digit c = nat_le (digit 0) c && nat_le c (digit 9)
 
 -- characters put together, the first one leftmost
 unfoldable pub spelt : ℕ → List ℕ → ℕ

@@ -1,10 +1,10 @@
 -- How the code goes about the checksum: one pass adds all the words with no carry taken out, and what ran over bit 35 is added back
--- afterwards. That this gives the checksum is `sealed-total` (proofs/Checksum.antt). A reader who wants the rules skips this file.
+-- afterwards. That this gives the checksum is `sealed_total` (proofs/Checksum.antt). A reader who wants the rules skips this file.
 use Rattle.std.specs.Prelude.{ℕ, zero, suc, ◌+◌, List, [], ◌∷◌, ◌++◌, drop}
 use Rattle.word.specs.Lists.{range}
 use Rattle.word.specs.Fault.{unless}
-use Rattle.block.specs.Checksum.{carriedRound, folded}
-use Rattle.block.specs.Block.{wholeBlock}
+use Rattle.block.specs.Checksum.{carried_round, folded}
+use Rattle.block.specs.Block.{whole_block}
 use Rattle.block.specs.declared.Summed.{Summed}
 use Rattle.block.specs.declared.Summed.TheVariants.{NoBlock, Sum}
 
@@ -15,16 +15,16 @@ total (w ∷ ws) = w + total ws
 
 -- what a pass over words lent starts a block finds
 unfoldable pub summed : List ℕ → Summed
-summed block = unless (wholeBlock block) NoBlock (Sum (total block))
+summed block = unless (whole_block block) NoBlock (Sum (total block))
 
 -- a plain sum carried round n times
 unfoldable pub rounds : ℕ → ℕ → ℕ
 rounds zero s = s
-rounds (suc n) s = rounds n (carriedRound s)
+rounds (suc n) s = rounds n (carried_round s)
 
 -- the checksum of words, from their plain sum: carried round twice, one below 2^64 is below 2^36
-unfoldable pub sealOf : ℕ → ℕ
-sealOf s = folded (carriedRound (carriedRound s))
+unfoldable pub seal_of : ℕ → ℕ
+seal_of s = folded (carried_round (carried_round s))
 
 -- the pass takes a word of each quarter of the block in a turn; from word i of each on, these words are left
 abbrev pub quarter : ℕ

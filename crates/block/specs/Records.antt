@@ -5,11 +5,11 @@ use Rattle.block.specs.declared.Record.{Record}
 use Rattle.block.specs.declared.Record.TheVariants.{Label, Modification, Program, Termination}
 
 -- "The checksum word is word 254 of the label and word 255 elsewhere."
-abbrev pub checksumPlace : Record → ℕ
-checksumPlace Label = 254
-checksumPlace Modification = 255
-checksumPlace Program = 255
-checksumPlace Termination = 255
+abbrev pub checksum_place : Record → ℕ
+checksum_place Label = 254
+checksum_place Modification = 255
+checksum_place Program = 255
+checksum_place Termination = 255
 
 -- *MODRC, *PRORC and *TRMRC, from their letters
 unfoldable pub modification : ℕ
@@ -22,8 +22,8 @@ unfoldable pub termination : ℕ
 termination = spelt 0 (asterisk ∷ letter 20 ∷ letter 18 ∷ letter 13 ∷ letter 18 ∷ letter 3 ∷ [])
 
 -- a block is of a record by its first word; "A label is known by its place alone and never gives 13"
-abbrev pub ofRecord : Record → List ℕ → Bool
-ofRecord Label block = true
-ofRecord Modification block = slice_index block 0 == modification
-ofRecord Program block = slice_index block 0 == program
-ofRecord Termination block = slice_index block 0 == termination
+abbrev pub of_record : Record → List ℕ → Bool
+of_record Label block = true
+of_record Modification block = slice_index block 0 == modification
+of_record Program block = slice_index block 0 == program
+of_record Termination block = slice_index block 0 == termination

@@ -1,9 +1,9 @@
 // A block of a program file: whether it is one (11), whether its checksum word agrees (12), and which record it is of (13).
 ghost use Rattle.std.specs.Prelude.{◌≡◌, true};
-ghost use Rattle.block.specs.Records.{checksumPlace, ofRecord};
-ghost use Rattle.block.specs.Checksum.{carriedRound, folded};
-ghost use Rattle.block.specs.Block.{wholeBlock, verdict, sealedAnew};
-ghost use Rattle.block.specs.HowChecksum.{summed, sealOf};
+ghost use Rattle.block.specs.Records.{checksum_place, of_record};
+ghost use Rattle.block.specs.Checksum.{carried_round, folded};
+ghost use Rattle.block.specs.Block.{whole_block, verdict, sealed_anew};
+ghost use Rattle.block.specs.HowChecksum.{summed, seal_of};
 
 use word::faults::{FAULT_11, FAULT_12};
 use word::{Fault, WORD_LIMIT};
@@ -48,7 +48,7 @@ pub enum Verdict {
 
 // The word that holds a block's checksum.
 pub fn checksum_place(r: Record) -> usize
-    ensures { result ≡ checksumPlace r }
+    ensures { result ≡ checksum_place r }
 {
     match r {
         Record::Label => LABEL_CHECKSUM,
@@ -60,7 +60,7 @@ pub fn checksum_place(r: Record) -> usize
 
 // Whether a block is of record r: by its first word, but a label is known by its place alone.
 pub fn of_record(block: &[u64], r: Record) -> bool
-    ensures { result ≡ ofRecord r block.now }
+    ensures { result ≡ of_record r block.now }
 {
     let first = word::word_at(block, 0);
     match r {
@@ -110,7 +110,7 @@ pub fn sum_words(block: &[u64]) -> Summed
 
 // What ran over bit 35 of a sum, added back at bit 0.
 fn carry_round(s: u64) -> u64
-    ensures { result ≡ carriedRound s }
+    ensures { result ≡ carried_round s }
 {
     s % WORD_LIMIT + s / WORD_LIMIT
 }
@@ -124,7 +124,7 @@ pub fn fold(s: u64) -> u64
 
 // The checksum of words whose plain sum is s: what runs over may run over once more as it is added back.
 pub fn seal_of(s: u64) -> u64
-    ensures { result ≡ sealOf s }
+    ensures { result ≡ seal_of s }
 {
     let once = carry_round(s);
     let twice = carry_round(once);
@@ -150,8 +150,8 @@ pub fn check_block(block: &[u64], r: Record) -> Verdict
 
 // Writes the checksum word of a block of record r, and no other.
 pub fn seal(words: &mut [u64], r: Record)
-    requires { wholeBlock words.old ≡ true }
-    ensures { words.new ≡ sealedAnew (checksumPlace r) words.old }
+    requires { whole_block words.old ≡ true }
+    ensures { words.new ≡ sealed_anew (checksum_place r) words.old }
 {
     let p = checksum_place(r);
     match sum_words(words) {

@@ -7,8 +7,8 @@ use native.Mathlib.Omega.{arith}
 use native.Mathlib.Numerals.{add-one}
 use lib.ListN.{length, get_or}
 use lib.Dec.{eqb}
-use borrow.Author.Tests.{eqb-true, eq-eqb, ne_eqb, not-true, not-false}
-use Rattle.word.proofs.First.{AllBelow, below_none, below_more, first-most, first-all, first-at, first-before, first-fails}
+use borrow.Author.Tests.{eqb-true, eq-eqb, ne_eqb, not_true, not-false}
+use Rattle.word.proofs.First.{AllBelow, below_none, below_more, first_most, first-all, first-at, first-before, first_fails}
 use Rattle.book.specs.Assign.{place_of}
 
 module _ (w : ℕ) (ws : List ℕ) where
@@ -35,18 +35,18 @@ module _ (w : ℕ) (ws : List ℕ) where
       e ∙ sym (first-all (λ i. not (eqb (get_or ws i 0) w)) (length ws) (rw e at a.none))
 
   -- ---- what is known of the place
-  pub place-most : place_of w ws ≤ length ws
+  pub place_most : place_of w ws ≤ length ws
   unfolding place_of
-  place-most = first-most (λ i. not (eqb (get_or ws i 0) w)) (length ws)
+  place_most = first_most (λ i. not (eqb (get_or ws i 0) w)) (length ws)
 
-  pub place-has : place_of w ws < length ws → get_or ws (place_of w ws) 0 ≡ w
+  pub place_has : place_of w ws < length ws → get_or ws (place_of w ws) 0 ≡ w
   unfolding place_of
-  place-has h =
+  place_has h =
       eqb-true (get_or ws (place_of w ws) 0) w
-      (not-false (eqb (get_or ws (place_of w ws) 0) w) (first-fails (λ i. not (eqb (get_or ws i 0) w)) (length ws) h))
+      (not-false (eqb (get_or ws (place_of w ws) 0) w) (first_fails (λ i. not (eqb (get_or ws i 0) w)) (length ws) h))
 
   pub place-first : (i : ℕ) → i < place_of w ws → get_or ws i 0 ≡ w → ⊥
   unfolding place_of
   place-first i h e =
       let q = first-before (λ j. not (eqb (get_or ws j 0) w)) (length ws) i h in
-      false≢true (sym (not-true (eqb (get_or ws i 0) w) q) ∙ eq-eqb (get_or ws i 0) w e)
+      false≢true (sym (not_true (eqb (get_or ws i 0) w) q) ∙ eq-eqb (get_or ws i 0) w e)

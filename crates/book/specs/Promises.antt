@@ -1,16 +1,16 @@
 -- What is promised of assign, as statements over the definitions; proofs/Promises.antt proves each.
 use Rattle.std.specs.Prelude.{ℕ, ◌/◌, ◌≡◌, true, List, ◌↔◌, length, take}
-use Rattle.word.specs.Lists.{every, everyTwo}
+use Rattle.word.specs.Lists.{every, every_two}
 use Rattle.word.specs.declared.Fault.{Fault}
 use Rattle.block.specs.declared.Verdict.TheVariants.{Pass, Refused}
-use Rattle.label.specs.Label.{channelCount}
+use Rattle.label.specs.Label.{channel_count}
 use Rattle.label.specs.declared.Label.{Label}
 use Rattle.label.specs.declared.LabelRead.TheVariants.{Good}
-use Rattle.modification.specs.Assignments.{isChannel, assignmentsFit}
-use Rattle.front.specs.Front.{frontOf}
-use Rattle.book.specs.Book.{assignmentsOf}
-use Rattle.book.specs.Tags.{fileTags}
-use Rattle.book.specs.Assign.{fits, inFile, apartFrom, assignOf}
+use Rattle.modification.specs.Assignments.{is_channel, assignments_fit}
+use Rattle.front.specs.Front.{front_of}
+use Rattle.book.specs.Book.{assignments_of}
+use Rattle.book.specs.Tags.{file_tags}
+use Rattle.book.specs.Assign.{fits, in_file, apart_from, assign_of}
 use Rattle.book.specs.Allows.{Allows}
 use Rattle.book.specs.declared.Assignment.{Assignment}
 
@@ -21,40 +21,40 @@ OnlyLists = (rs : List Assignment) (blocks : List ℕ) (l : Label) (io tables io
 
 -- the file's 11 to 15 and the book's 24 to 26 are not due
 pub record NoneDue (book blocks : List ℕ) (l : Label) (io tables : List ℕ) : Type 0 where
-  pub front : frontOf blocks ≡ Good l
+  pub front : front_of blocks ≡ Good l
   pub fit : fits book l io tables ≡ true
-  pub in-file : every (inFile (fileTags blocks l)) (assignmentsOf book) ≡ true
-  pub once : everyTwo apartFrom (assignmentsOf book) ≡ true
+  pub in_file_lem : every (in_file (file_tags blocks l)) (assignments_of book) ≡ true
+  pub once : every_two apart_from (assignments_of book) ≡ true
 
 -- some lists are allowed
 pub record Allowed (book blocks : List ℕ) (l : Label) : Type 0 where
   pub io : List ℕ
   pub tables : List ℕ
-  pub allows : Allows (assignmentsOf book) blocks l io tables
+  pub allows : Allows (assignments_of book) blocks l io tables
 
 pub record Assignable (book blocks io tables : List ℕ) : Type 0 where
   pub label : Label
   pub none-due : NoneDue book blocks label io tables
-  pub some-lists : Allowed book blocks label
+  pub some_lists : Allowed book blocks label
 
 -- the answer is *assigned* exactly when 11 to 15 and 24 to 26 are not due and some lists are allowed
 abbrev pub AssignedExactly : Type 0
 AssignedExactly =
-    (book blocks io tables : List ℕ) → ((assignOf book blocks io tables).answer ≡ Pass) ↔ Assignable book blocks io tables
+    (book blocks io tables : List ℕ) → ((assign_of book blocks io tables).answer ≡ Pass) ↔ Assignable book blocks io tables
 
 -- and then the lists that are left are allowed
 abbrev pub AssignedAllowed : Type 0
-AssignedAllowed = (book blocks io tables : List ℕ) (l : Label) → frontOf blocks ≡ Good l
-    → (assignOf book blocks io tables).answer ≡ Pass
-    → Allows (assignmentsOf book) blocks l (assignOf book blocks io tables).io (assignOf book blocks io tables).tables
+AssignedAllowed = (book blocks io tables : List ℕ) (l : Label) → front_of blocks ≡ Good l
+    → (assign_of book blocks io tables).answer ≡ Pass
+    → Allows (assignments_of book) blocks l (assign_of book blocks io tables).io (assign_of book blocks io tables).tables
 
 -- "none writes the lists"
 abbrev pub RefusedUntouched : Type 0
-RefusedUntouched = (book blocks io tables : List ℕ) (f : Fault) → (assignOf book blocks io tables).answer ≡ Refused f
-    → ((assignOf book blocks io tables).io ≡ io) × ((assignOf book blocks io tables).tables ≡ tables)
+RefusedUntouched = (book blocks io tables : List ℕ) (f : Fault) → (assign_of book blocks io tables).answer ≡ Refused f
+    → ((assign_of book blocks io tables).io ≡ io) × ((assign_of book blocks io tables).tables ≡ tables)
 
 -- "into open's two lists": the label finds its counts in lists that are allowed, so that of its 16 only the numbers of the jump
 -- switches and channels are left to ask
 abbrev pub CountsFit : Type 0
 CountsFit = (rs : List Assignment) (blocks : List ℕ) (l : Label) (io tables : List ℕ) → Allows rs blocks l io tables
-    → assignmentsFit l io (length tables / 2) ≡ every isChannel (take (channelCount l) io)
+    → assignments_fit l io (length tables / 2) ≡ every is_channel (take (channel_count l) io)

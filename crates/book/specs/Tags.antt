@@ -1,31 +1,31 @@
 -- The tags of a file, by kind (#101): "A finds a core entry's first word, L its second, P an I/O entry's first."
 use Rattle.std.specs.Prelude.{ℕ, ◌+◌, List}
 use Rattle.word.specs.Lists.{tab}
-use Rattle.label.specs.Label.{ioCount}
+use Rattle.label.specs.Label.{io_count}
 use Rattle.label.specs.declared.Label.{Label}
-use Rattle.modification.specs.Entries.{ioEntry, coreEntry}
-use Rattle.front.specs.Front.{entryWord}
+use Rattle.modification.specs.Entries.{io_entry, core_entry}
+use Rattle.front.specs.Front.{entry_word}
 use Rattle.book.specs.declared.Kind.{Kind}
 use Rattle.book.specs.declared.Kind.TheVariants.{Address, Length, Peripheral}
 
 -- how many entries have a tag of the kind
-abbrev pub entriesOf : Label → Kind → ℕ
-entriesOf l Peripheral = ioCount l
-entriesOf l Address = l.tables
-entriesOf l Length = l.tables
+abbrev pub entries_of : Label → Kind → ℕ
+entries_of l Peripheral = io_count l
+entries_of l Address = l.tables
+entries_of l Length = l.tables
 
 -- the entry word in which entry j has it
-abbrev pub tagWord : Label → Kind → ℕ → ℕ
-tagWord l Peripheral j = ioEntry (record { 0 = j })
-tagWord l Address j = coreEntry (ioCount l) (record { 0 = j })
-tagWord l Length j = coreEntry (ioCount l) (record { 0 = j }) + 1
+abbrev pub tag_word : Label → Kind → ℕ → ℕ
+tag_word l Peripheral j = io_entry (record { 0 = j })
+tag_word l Address j = core_entry (io_count l) (record { 0 = j })
+tag_word l Length j = core_entry (io_count l) (record { 0 = j }) + 1
 
 -- the tag of entry j, of any kind
 unfoldable pub tag_of : List ℕ → Label → Kind → ℕ → ℕ
-tag_of blocks l k j = entryWord blocks (tagWord l k j)
+tag_of blocks l k j = entry_word blocks (tag_word l k j)
 
-unfoldable pub tagsOf : List ℕ → Label → Kind → List ℕ
-tagsOf blocks l k = tab (tag_of blocks l k) (entriesOf l k)
+unfoldable pub tags_of : List ℕ → Label → Kind → List ℕ
+tags_of blocks l k = tab (tag_of blocks l k) (entries_of l k)
 
 -- all tags of a file
 pub record FileTags : Type 0 where
@@ -33,14 +33,14 @@ pub record FileTags : Type 0 where
   pub addresses : List ℕ
   pub lengths : List ℕ
 
-abbrev pub fileTags : List ℕ → Label → FileTags
-fileTags blocks l = record {
-  peripherals = tagsOf blocks l Peripheral;
-  addresses = tagsOf blocks l Address;
-  lengths = tagsOf blocks l Length;
+abbrev pub file_tags : List ℕ → Label → FileTags
+file_tags blocks l = record {
+  peripherals = tags_of blocks l Peripheral;
+  addresses = tags_of blocks l Address;
+  lengths = tags_of blocks l Length;
 }
 
-abbrev pub ofKind : Kind → FileTags → List ℕ
-ofKind Peripheral ts = ts.peripherals
-ofKind Address ts = ts.addresses
-ofKind Length ts = ts.lengths
+abbrev pub of_kind : Kind → FileTags → List ℕ
+of_kind Peripheral ts = ts.peripherals
+of_kind Address ts = ts.addresses
+of_kind Length ts = ts.lengths

@@ -6,10 +6,10 @@ ghost use Rattle.std.specs.Prelude.{◌≡◌, true, length};
 ghost use Rattle.word.specs.Lists.{every};
 ghost use Rattle.label.specs.Label.{Carried};
 ghost use Rattle.label.specs.declared.LabelRead.TheVariants.{Good};
-ghost use Rattle.book.specs.Book.{assignmentsOf};
-ghost use Rattle.book.specs.Assign.{place_of, inFile, listsFor, assignBy, assignOf, Leaves};
-ghost use Rattle.book.specs.HowKept.{keptWords, keptOf, keptTags, marked, isMark, notTaken};
-ghost use Rattle.book.specs.HowKept.{allMarked, numbersOf, pairsOf, LookReady, LookedReady, TakeReady, MarkReady};
+ghost use Rattle.book.specs.Book.{assignments_of};
+ghost use Rattle.book.specs.Assign.{place_of, in_file, lists_for, assign_by, assign_of, Leaves};
+ghost use Rattle.book.specs.HowKept.{kept_words, kept_of, kept_tags, marked, is_mark, not_taken};
+ghost use Rattle.book.specs.HowKept.{all_marked, numbers_of, pairs_of, LookReady, LookedReady, TakeReady, MarkReady};
 ghost use Rattle.book.specs.HowKept.{FillReady, PairsReady, Marked, Taken, Filled};
 
 use block::Verdict;
@@ -35,7 +35,7 @@ pub struct Assignment {
 
 // Fills the two lists from the book and the front of a file, or refuses.
 pub fn assign(book: &[u8], blocks: &[u64], io: &mut [u64], tables: &mut [u64]) -> Verdict
-    ensures { Leaves (assignOf book.now blocks.now io.old tables.old)
+    ensures { Leaves (assign_of book.now blocks.now io.old tables.old)
         result io.new tables.new }
 {
     match front::read_front(blocks) {
@@ -47,7 +47,7 @@ pub fn assign(book: &[u8], blocks: &[u64], io: &mut [u64], tables: &mut [u64]) -
 // From refusal 24 on.
 fn assign_by(book: &[u8], blocks: &[u64], l: Label, io: &mut [u64], tables: &mut [u64]) -> Verdict
     requires { Carried l }
-    ensures { Leaves (assignBy book.now blocks.now (Good l) io.old tables.old)
+    ensures { Leaves (assign_by book.now blocks.now (Good l) io.old tables.old)
         result io.new tables.new }
 {
     if io.len() != tags::count_of(l, Kind::Peripheral) {
@@ -67,7 +67,7 @@ fn assign_by(book: &[u8], blocks: &[u64], l: Label, io: &mut [u64], tables: &mut
 // From refusal 25 on, of a file with these tags.
 fn look_up(book: &[u8], l: Label, tags: &[u64], io: &mut [u64], tables: &mut [u64]) -> Verdict
     requires { LookedReady book.now l tags.now io.old tables.old }
-    ensures { Leaves (listsFor (keptTags tags.now l) (assignmentsOf book.now) io.old tables.old)
+    ensures { Leaves (lists_for (kept_tags tags.now l) (assignments_of book.now) io.old tables.old)
         result io.new tables.new }
 {
     let mut marks = [0u64; KEPT_WORDS];
@@ -84,7 +84,7 @@ fn look_up(book: &[u8], l: Label, tags: &[u64], io: &mut [u64], tables: &mut [u6
 // Why not every record was taken: 25 comes first, though a 26 may stand before it in the book.
 fn not_taken(book: &[u8], l: Label, tags: &[u64]) -> Verdict
     requires { LookReady book.now l tags.now }
-    ensures { result ≡ notTaken (keptTags tags.now l) (assignmentsOf book.now) }
+    ensures { result ≡ not_taken (kept_tags tags.now l) (assignments_of book.now) }
 {
     if all_in_file(book, l, tags) {
         return Verdict::Refused(FAULT_26);
@@ -95,7 +95,7 @@ fn not_taken(book: &[u8], l: Label, tags: &[u64]) -> Verdict
 // Whether an entry has each record's tag.
 fn all_in_file(book: &[u8], l: Label, tags: &[u64]) -> bool
     requires { LookReady book.now l tags.now }
-    ensures { result ≡ every (inFile (keptTags tags.now l)) (assignmentsOf book.now) }
+    ensures { result ≡ every (in_file (kept_tags tags.now l)) (assignments_of book.now) }
 {
     let n = book.len() / records::RECORD;
     let mut i: usize = 0;
@@ -109,8 +109,8 @@ fn all_in_file(book: &[u8], l: Label, tags: &[u64]) -> bool
 }
 
 fn in_file(l: Label, tags: &[u64], r: Assignment) -> bool
-    requires { (Carried l) × (length tags.now ≡ keptWords) }
-    ensures { result ≡ inFile (keptTags tags.now l) r }
+    requires { (Carried l) × (length tags.now ≡ kept_words) }
+    ensures { result ≡ in_file (kept_tags tags.now l) r }
 {
     let kind = r.kind;
     let a = tags::start_of(kind);
@@ -189,8 +189,8 @@ fn mark(tags: &[u64], marks: &mut [u64], first: usize, tag: u64, value: u64)
 
 // Whether each tag of the file has its mark.
 fn all_given(marks: &[u64], l: Label) -> bool
-    requires { (Carried l) × (length marks.now ≡ keptWords) }
-    ensures { result ≡ allMarked marks.now l }
+    requires { (Carried l) × (length marks.now ≡ kept_words) }
+    ensures { result ≡ all_marked marks.now l }
 {
     if !kind_given(marks, l, Kind::Peripheral) {
         return false;
@@ -202,15 +202,15 @@ fn all_given(marks: &[u64], l: Label) -> bool
 }
 
 fn kind_given(marks: &[u64], l: Label, kind: Kind) -> bool
-    requires { (Carried l) × (length marks.now ≡ keptWords) }
-    ensures { result ≡ every isMark (keptOf marks.now l kind) }
+    requires { (Carried l) × (length marks.now ≡ kept_words) }
+    ensures { result ≡ every is_mark (kept_of marks.now l kind) }
 {
     let a = tags::start_of(kind);
     all_marks(&marks[a..a + tags::count_of(l, kind)])
 }
 
 fn all_marks(marks: &[u64]) -> bool
-    ensures { result ≡ every isMark marks.now }
+    ensures { result ≡ every is_mark marks.now }
 {
     let mut j: usize = 0;
     while j < marks.len() {
@@ -236,8 +236,8 @@ fn write_lists(marks: &[u64], l: Label, io: &mut [u64], tables: &mut [u64])
 
 // The numbers of the marks.
 fn write_numbers(marks: &[u64], list: &mut [u64])
-    requires { (length list.old ≡ length marks.now) × (every isMark marks.now ≡ true) }
-    ensures { list.new ≡ numbersOf marks.now }
+    requires { (length list.old ≡ length marks.now) × (every is_mark marks.now ≡ true) }
+    ensures { list.new ≡ numbers_of marks.now }
 {
     let mut j: usize = 0;
     while j < marks.len() {
@@ -249,7 +249,7 @@ fn write_numbers(marks: &[u64], list: &mut [u64])
 // The numbers of two rows of marks, one of each in turn.
 fn write_pairs(addresses: &[u64], lengths: &[u64], list: &mut [u64])
     requires { PairsReady addresses.now lengths.now list.old }
-    ensures { list.new ≡ pairsOf addresses.now lengths.now }
+    ensures { list.new ≡ pairs_of addresses.now lengths.now }
 {
     let mut t: usize = 0;
     while t < addresses.len() {

@@ -2,8 +2,8 @@
 ghost use Rattle.std.specs.Prelude.{◌≡◌, true, ◌+◌, ◌*◌, ◌≤◌, length};
 ghost use Rattle.word.specs.Lists.{every};
 ghost use Rattle.block.specs.Fieldata.{spelt};
-ghost use Rattle.book.specs.Book.{recordBytes, isKind, kind_of, between, recordAt, codesIn, digitsIn, isRecord, decimal};
-ghost use Rattle.book.specs.Book.{isDigit, assignmentOf, allRecords, isBook};
+ghost use Rattle.book.specs.Book.{record_bytes, is_kind, kind_of, between, record_at, codes_in, digits_in, is_record, decimal};
+ghost use Rattle.book.specs.Book.{is_digit, assignment_of, all_records, is_book};
 
 use crate::{Assignment, Kind};
 
@@ -32,7 +32,7 @@ const NEWLINE: u8 = 10;
 
 // Whether the bytes are records and no part of one.
 pub fn is_book(book: &[u8]) -> bool
-    ensures { result ≡ isBook book.now }
+    ensures { result ≡ is_book book.now }
 {
     if book.len() % RECORD != 0 {
         return false;
@@ -41,7 +41,7 @@ pub fn is_book(book: &[u8]) -> bool
 }
 
 fn all_records(book: &[u8]) -> bool
-    ensures { result ≡ allRecords book.now }
+    ensures { result ≡ all_records book.now }
 {
     let n = book.len() / RECORD;
     let mut i: usize = 0;
@@ -56,16 +56,16 @@ fn all_records(book: &[u8]) -> bool
 
 // The bytes of record i.
 fn record_at(book: &[u8], i: usize) -> &[u8]
-    requires { i * recordBytes + recordBytes ≤ length book.now }
-    ensures { result.now ≡ recordAt book.now i }
+    requires { i * record_bytes + record_bytes ≤ length book.now }
+    ensures { result.now ≡ record_at book.now i }
 {
     let a = i * RECORD;
     &book[a..a + RECORD]
 }
 
 fn is_record(bytes: &[u8]) -> bool
-    requires { length bytes.now ≡ recordBytes }
-    ensures { result ≡ isRecord bytes.now }
+    requires { length bytes.now ≡ record_bytes }
+    ensures { result ≡ is_record bytes.now }
 {
     if !is_kind(bytes[0]) {
         return false;
@@ -80,7 +80,7 @@ fn is_record(bytes: &[u8]) -> bool
 }
 
 fn is_kind(letter: u8) -> bool
-    ensures { result ≡ isKind letter }
+    ensures { result ≡ is_kind letter }
 {
     if letter == LETTER_A {
         return true;
@@ -111,8 +111,8 @@ fn all_between(bytes: &[u8], low: u8, high: u8) -> bool
 
 // What record i of a book says.
 pub fn read_record(book: &[u8], i: usize) -> Assignment
-    requires { (isBook book.now ≡ true) × (i * recordBytes + recordBytes ≤ length book.now) }
-    ensures { result ≡ assignmentOf (recordAt book.now i) }
+    requires { (is_book book.now ≡ true) × (i * record_bytes + record_bytes ≤ length book.now) }
+    ensures { result ≡ assignment_of (record_at book.now i) }
 {
     let bytes = record_at(book, i);
     Assignment {
@@ -136,8 +136,8 @@ fn kind_of(letter: u8) -> Kind
 
 // Six codes are a word, the first one leftmost.
 fn read_tag(bytes: &[u8]) -> u64
-    requires { length bytes.now ≡ recordBytes }
-    ensures { result ≡ spelt 0 (codesIn bytes.now) }
+    requires { length bytes.now ≡ record_bytes }
+    ensures { result ≡ spelt 0 (codes_in bytes.now) }
 {
     let mut w: u64 = 0;
     w = w * 64 + bytes[CODES] as u64;
@@ -149,8 +149,8 @@ fn read_tag(bytes: &[u8]) -> u64
 }
 
 fn read_number(bytes: &[u8]) -> u64
-    requires { (length bytes.now ≡ recordBytes) × (every isDigit (digitsIn bytes.now) ≡ true) }
-    ensures { result ≡ decimal 0 (digitsIn bytes.now) }
+    requires { (length bytes.now ≡ record_bytes) × (every is_digit (digits_in bytes.now) ≡ true) }
+    ensures { result ≡ decimal 0 (digits_in bytes.now) }
 {
     let mut n: u64 = 0;
     n = n * 10 + (bytes[DIGITS] - DIGIT_0) as u64;

@@ -1,8 +1,8 @@
 // The tags of a file, read from the words of its entries and kept by kind, each kind's in a stretch of its own.
 ghost use Rattle.std.specs.Prelude.{◌≡◌, ◌<◌, length};
 ghost use Rattle.label.specs.Label.{Carried};
-ghost use Rattle.book.specs.Tags.{entriesOf, tag_of};
-ghost use Rattle.book.specs.HowKept.{start_of, kindMost, keptWords, withTags, withAllTags};
+ghost use Rattle.book.specs.Tags.{entries_of, tag_of};
+ghost use Rattle.book.specs.HowKept.{start_of, kind_most, kept_words, with_tags, with_all_tags};
 
 use crate::Kind;
 use label::Label;
@@ -15,8 +15,8 @@ pub const KEPT_WORDS: usize = 3 * KIND_MOST;
 
 // The tags of the file, each kind's in its stretch.
 pub fn read_tags(blocks: &[u64], l: Label, kept: &mut [u64])
-    requires { (Carried l) × (length kept.old ≡ keptWords) }
-    ensures { kept.new ≡ withAllTags blocks.now l kept.old }
+    requires { (Carried l) × (length kept.old ≡ kept_words) }
+    ensures { kept.new ≡ with_all_tags blocks.now l kept.old }
 {
     read_kind(blocks, l, Kind::Peripheral, kept);
     read_kind(blocks, l, Kind::Address, kept);
@@ -24,8 +24,8 @@ pub fn read_tags(blocks: &[u64], l: Label, kept: &mut [u64])
 }
 
 fn read_kind(blocks: &[u64], l: Label, kind: Kind, kept: &mut [u64])
-    requires { (Carried l) × (length kept.old ≡ keptWords) }
-    ensures { kept.new ≡ withTags blocks.now l kind kept.old }
+    requires { (Carried l) × (length kept.old ≡ kept_words) }
+    ensures { kept.new ≡ with_tags blocks.now l kind kept.old }
 {
     let a = start_of(kind);
     let n = count_of(l, kind);
@@ -38,7 +38,7 @@ fn read_kind(blocks: &[u64], l: Label, kind: Kind, kept: &mut [u64])
 
 // The tag of entry j.
 fn tag_of(blocks: &[u64], l: Label, kind: Kind, j: u64) -> u64
-    requires { (Carried l) × (j < kindMost) }
+    requires { (Carried l) × (j < kind_most) }
     ensures { result ≡ tag_of blocks.now l kind j }
 {
     let io = l.switches + l.channels + l.units;
@@ -63,7 +63,7 @@ pub fn start_of(kind: Kind) -> usize
 // How many entries have a tag of the kind.
 pub fn count_of(l: Label, kind: Kind) -> usize
     requires { Carried l }
-    ensures { result ≡ entriesOf l kind }
+    ensures { result ≡ entries_of l kind }
 {
     match kind {
         Kind::Peripheral => (l.switches + l.channels + l.units) as usize,

@@ -6,7 +6,7 @@ use mathlib.Core.List.{List, [], ◌∷◌, ◌++◌}
 use native.Mathlib.Omega.{arith}
 use lib.ListN.{length, get_or, take, drop}
 use borrow.Author.Tests.{eq-eqb, ne_eqb}
-use Rattle.word.specs.Limits.{roomCount, placeCount, coreMost}
+use Rattle.word.specs.Limits.{room_count, place_count, core_most}
 use Rattle.word.specs.Lists.{every, splice, range, cleared}
 use Rattle.word.specs.Runs.{apart}
 use Rattle.word.specs.Fault.{fault}
@@ -14,164 +14,164 @@ use Rattle.word.specs.declared.Area.{Area}
 use Rattle.word.proofs.Cases.{and_left}
 use Rattle.word.proofs.Lists.{length-range, range-lent, range-splice-after, length-splice, lent-whole}
 use Rattle.map.specs.declared.Stretch.{Stretch}
-use Rattle.map.specs.Map.{mapOf, none}
-use Rattle.rooms.specs.Rooms.{placeRefusal, lowestFree}
+use Rattle.map.specs.Map.{map_of, none}
+use Rattle.rooms.specs.Rooms.{place_refusal, lowest_free}
 use Rattle.rooms.proofs.Rooms.{given-place}
-use Rattle.lists.specs.Obey.{tables_of, listsObey}
-use Rattle.lists.specs.HowKeep.{wordsKept, TakesLists}
-use Rattle.lists.specs.Load.{listWords, givenBy, keptLists, Keepable}
+use Rattle.lists.specs.Obey.{tables_of, lists_obey}
+use Rattle.lists.specs.HowKeep.{words_kept, TakesLists}
+use Rattle.lists.specs.Load.{list_words, given_by, kept_lists, Keepable}
 use Rattle.lists.specs.declared.Taken.TheVariants.{Words}
-use Rattle.lists.proofs.Keep.{lists-obey}
-use Rattle.lists.proofs.Take.{taken-words}
+use Rattle.lists.proofs.Keep.{lists_obey_lem}
+use Rattle.lists.proofs.Take.{taken_words}
 use Rattle.lists.proofs.Lent.{lent_length}
-use Rattle.lists.proofs.Back.{lent-start, kept-long}
-use Rattle.lists.proofs.Ranks.{words-few}
-use Rattle.stage.specs.Stage.{numbersOf}
-use Rattle.layout.specs.Layout.{placeWords, deskWords, coreLength, mapNumbers, base, place_in, places, holderOf, own_of, listsIn}
+use Rattle.lists.proofs.Back.{lent_start, kept-long}
+use Rattle.lists.proofs.Ranks.{words_few}
+use Rattle.stage.specs.Stage.{numbers_of}
+use Rattle.layout.specs.Layout.{place_words, desk_words, core_length, map_numbers, base, place_in, places, holder_of, own_of, lists_in}
 use Rattle.layout.specs.Layout.{holders}
 use Rattle.layout.proofs.Places.{lists_length}
-use Rattle.desk.specs.Sound.{areaIn, sound}
-use Rattle.desk.proofs.Facts.{core-small, sound-fair, stretch-in-core}
+use Rattle.desk.specs.Sound.{area_in, sound}
+use Rattle.desk.proofs.Facts.{core_small, sound-fair, stretch_in_core}
 use Rattle.calls.specs.declared.Answer.TheVariants.{Refused, Opened}
 use Rattle.calls.specs.Outcome.{Meets}
-use Rattle.calls.specs.Open.{besideOwn, areaFits, openedOwn, openedPlace, openedDesk, opened, grantOf}
+use Rattle.calls.specs.Open.{beside_own, area_fits, opened_own, opened_place, opened_desk, opened, grant_of}
 
 -- ---- an area that fits lies in its room's stretch, and so in the core
-module _ (d : List ℕ) (s : sound d ≡ true) (r : ℕ) (a : Area) (h : r < roomCount) (q : areaFits d r a ≡ true) where
-  pub area-held : areaIn (get_or (mapOf (mapNumbers d)) r none) a ≡ true
-  unfolding areaFits
-  area-held = and_left (areaIn (get_or (mapOf (mapNumbers d)) r none) a) _ q
+module _ (d : List ℕ) (s : sound d ≡ true) (r : ℕ) (a : Area) (h : r < room_count) (q : area_fits d r a ≡ true) where
+  pub area-held : area_in (get_or (map_of (map_numbers d)) r none) a ≡ true
+  unfolding area_fits
+  area-held = and_left (area_in (get_or (map_of (map_numbers d)) r none) a) _ q
 
-  pub area-in-core : a.at.0 + a.size ≤ coreLength d
-  area-in-core = stretch-in-core d s r a h area-held
+  pub area_in_core : a.at.0 + a.size ≤ core_length d
+  area_in_core = stretch_in_core d s r a h area-held
 
-  pub area_small : a.at.0 + a.size ≤ coreMost
-  area_small = omega (arith, area-in-core, core-small d s)
+  pub area_small : a.at.0 + a.size ≤ core_most
+  area_small = omega (arith, area_in_core, core_small d s)
 
 -- ---- a place is given: h are the holders as they were read
 module _ (d h : List ℕ) (e : h ≡ holders d) (r : ℕ) where
-  pub none-due : (n : ℕ) → n ≡ placeRefusal r h → n ≡ 0 → placeRefusal r (holders d) ≡ 0
-  none-due n q z = sym (q ∙ ap (placeRefusal r) e) ∙ z
+  pub none-due : (n : ℕ) → n ≡ place_refusal r h → n ≡ 0 → place_refusal r (holders d) ≡ 0
+  none-due n q z = sym (q ∙ ap (place_refusal r) e) ∙ z
 
-  pub place_inside : sound d ≡ true → r < roomCount → placeRefusal r (holders d) ≡ 0 → (p : ℕ) → p ≡ lowestFree h → p < placeCount
-  place_inside s k f p q = omega (arith, q ∙ ap lowestFree e, given-place (holders d) r (sound-fair d s) k f)
+  pub place_inside : sound d ≡ true → r < room_count → place_refusal r (holders d) ≡ 0 → (p : ℕ) → p ≡ lowest_free h → p < place_count
+  place_inside s k f p q = omega (arith, q ∙ ap lowest_free e, given-place (holders d) r (sound-fair d s) k f)
 
 -- ---- an area beside those that the room holds
 module _ (r : ℕ) (a : Area) (l : List ℕ) where
-  pub beside-others : (holderOf l ≡ r + 1 → ⊥) → true ≡ besideOwn r a l
-  unfolding besideOwn
-  beside-others h = rw (ne_eqb (holderOf l) (r + 1) h)
+  pub beside_others : (holder_of l ≡ r + 1 → ⊥) → true ≡ beside_own r a l
+  unfolding beside_own
+  beside_others h = rw (ne_eqb (holder_of l) (r + 1) h)
 
-  pub beside-held : holderOf l ≡ r + 1 → apart (get_or l 1 0) (get_or l 2 0) a.at.0 a.size ≡ besideOwn r a l
-  unfolding besideOwn own_of
-  beside-held h = rw (eq-eqb (holderOf l) (r + 1) h)
+  pub beside_held : holder_of l ≡ r + 1 → apart (get_or l 1 0) (get_or l 2 0) a.at.0 a.size ≡ beside_own r a l
+  unfolding beside_own own_of
+  beside_held h = rw (eq-eqb (holder_of l) (r + 1) h)
 
-module _ (d : List ℕ) (r : ℕ) (a : Area) (m : List Stretch) (e : m ≡ mapOf (mapNumbers d)) where
-  pub area-outside : areaIn (get_or m r none) a ≡ false → false ≡ areaFits d r a
-  unfolding areaFits
-  area-outside q = rw (← e, q)
+module _ (d : List ℕ) (r : ℕ) (a : Area) (m : List Stretch) (e : m ≡ map_of (map_numbers d)) where
+  pub area_outside : area_in (get_or m r none) a ≡ false → false ≡ area_fits d r a
+  unfolding area_fits
+  area_outside q = rw (← e, q)
 
-  pub area-inside : (b : Bool) → areaIn (get_or m r none) a ≡ true → b ≡ every (besideOwn r a) (places d) → b ≡ areaFits d r a
-  unfolding areaFits
+  pub area-inside : (b : Bool) → area_in (get_or m r none) a ≡ true → b ≡ every (beside_own r a) (places d) → b ≡ area_fits d r a
+  unfolding area_fits
   area-inside b q p = rw (← e, q) p
 
 -- ---- a place, lent as a part of the desk
 -- the numbers of place p, from b on
-pub place-long : (d : List ℕ) (p b : ℕ) → length d ≡ deskWords → p < placeCount → b ≡ base p
-    → length (take (b + placeWords - b) (drop b d)) ≡ placeWords
-place-long d p b n h e = ap length (range-lent d b placeWords) ∙ length-range d b placeWords (omega arith)
+pub place-long : (d : List ℕ) (p b : ℕ) → length d ≡ desk_words → p < place_count → b ≡ base p
+    → length (take (b + place_words - b) (drop b d)) ≡ place_words
+place-long d p b n h e = ap length (range-lent d b place_words) ∙ length-range d b place_words (omega arith)
 
 -- ---- the words of the tables, in the array that they were taken to
 lent-inside : (l vs ws : List ℕ) (n : ℕ) → ws ≡ splice l 0 vs → n ≡ length vs → length vs ≤ length l → n ≤ length ws
 lent-inside l vs ws n e k h = rw (e, length-splice l 0 vs (omega arith)) (omega arith)
 
 module _ (a : Area) (ios tables l ws : List ℕ) (n : ℕ) (t : TakesLists a ios tables l (Words n) ws) (h : length l ≡ 128) where
-  few_words : length (wordsKept (tables_of tables)) ≤ length l
+  few_words : length (words_kept (tables_of tables)) ≤ length l
   few_words =
-      let o = lists-obey a ios tables (taken-words a ios tables l ws n t).0 in
-      omega (arith, words-few (tables_of tables), o.tables-few)
+      let o = lists_obey_lem a ios tables (taken_words a ios tables l ws n t).0 in
+      omega (arith, words_few (tables_of tables), o.tables_few)
 
   pub words_inside : n ≤ length ws
-  words_inside = let k = taken-words a ios tables l ws n t in lent-inside l _ ws n k.2 k.1 few_words
+  words_inside = let k = taken_words a ios tables l ws n t in lent-inside l _ ws n k.2 k.1 few_words
 
-  pub words-lent : take n ws ≡ wordsKept (tables_of tables)
-  words-lent = let k = taken-words a ios tables l ws n t in lent-start l _ ws n k.2 k.1 few_words
+  pub words_lent : take n ws ≡ words_kept (tables_of tables)
+  words_lent = let k = taken_words a ios tables l ws n t in lent_start l _ ws n k.2 k.1 few_words
 
 -- ---- a place written
 module _ (r : ℕ) (a : Area) (ios tables : List ℕ) where
-  pub own-length : length (openedOwn r (givenBy a ios tables)) ≡ 15
-  unfolding openedOwn numbersOf
-  own-length = refl
+  pub own_length : length (opened_own r (given_by a ios tables)) ≡ 15
+  unfolding opened_own numbers_of
+  own_length = refl
 
-  own-written : (n : ℕ) → n ≡ length (wordsKept (tables_of tables))
+  own_written : (n : ℕ) → n ≡ length (words_kept (tables_of tables))
       → ((r + 1) ∷ a.at.0 ∷ a.size ∷ length ios ∷ (length tables / 2) ∷ n ∷ 0 ∷ 0 ∷ 0 ∷ 0 ∷ 0 ∷ 0 ∷ 0 ∷ 0 ∷ 0 ∷ [])
-      ≡ openedOwn r (givenBy a ios tables)
-  unfolding openedOwn numbersOf
-  own-written n e = rw (e, lent_length tables)
+      ≡ opened_own r (given_by a ios tables)
+  unfolding opened_own numbers_of
+  own_written n e = rw (e, lent_length tables)
 
   -- a place whose numbers were l
-  module _ (l : List ℕ) (long : length l ≡ placeWords) where
-    pub with-own : length (splice l 0 (openedOwn r (givenBy a ios tables))) ≡ placeWords
-    with-own = length-splice l 0 (openedOwn r (givenBy a ios tables)) (omega (arith, own-length)) ∙ long
+  module _ (l : List ℕ) (long : length l ≡ place_words) where
+    pub with_own : length (splice l 0 (opened_own r (given_by a ios tables))) ≡ place_words
+    with_own = length-splice l 0 (opened_own r (given_by a ios tables)) (omega (arith, own_length)) ∙ long
 
-    module _ (small : a.at.0 + a.size ≤ coreMost) (obey : listsObey a ios tables ≡ true) where
-      pub lists-long : length (keptLists ios tables (listsIn l)) ≡ listWords
-      lists-long = kept-long a ios tables (listsIn l) small obey (lists_length l long)
+    module _ (small : a.at.0 + a.size ≤ core_most) (obey : lists_obey a ios tables ≡ true) where
+      pub lists_long : length (kept_lists ios tables (lists_in l)) ≡ list_words
+      lists_long = kept-long a ios tables (lists_in l) small obey (lists_length l long)
 
-      pub opened-length : length (openedPlace r a ios tables l) ≡ placeWords
-      unfolding openedPlace
+      pub opened-length : length (opened_place r a ios tables l) ≡ place_words
+      unfolding opened_place
       opened-length =
-          length-splice (splice l 0 (openedOwn r (givenBy a ios tables))) 15 (keptLists ios tables (listsIn l))
-          (omega (arith, with-own, lists-long))
-          ∙ with-own
+          length-splice (splice l 0 (opened_own r (given_by a ios tables))) 15 (kept_lists ios tables (lists_in l))
+          (omega (arith, with_own, lists_long))
+          ∙ with_own
 
     -- its own numbers, and then the lists
-    pub place-written : (ws e k : List ℕ) → Keepable a ios tables ws (listsIn l)
+    pub place-written : (ws e k : List ℕ) → Keepable a ios tables ws (lists_in l)
         → e ≡ splice l 0
         ((r + 1) ∷ a.at.0 ∷ a.size ∷ length ios ∷ (length tables / 2) ∷ length ws ∷ 0 ∷ 0 ∷ 0 ∷ 0 ∷ 0 ∷ 0 ∷ 0 ∷ 0 ∷ 0 ∷ [])
-        → k ≡ keptLists ios tables (take listWords (drop 15 e))
-        → take 15 e ++ (k ++ drop listWords (drop 15 e)) ≡ openedPlace r a ios tables l
-    unfolding openedPlace listsIn range
+        → k ≡ kept_lists ios tables (take list_words (drop 15 e))
+        → take 15 e ++ (k ++ drop list_words (drop 15 e)) ≡ opened_place r a ios tables l
+    unfolding opened_place lists_in range
     place-written ws e k t x z =
-        let own = openedOwn r (givenBy a ios tables) in
-        let y : e ≡ splice l 0 own = x ∙ ap (splice l 0) (own-written (length ws) (ap length t.words)) in
-        let n : length own ≡ 15 = own-length in
-        let h : take listWords (drop 15 e) ≡ listsIn l = rw y
-        (range-splice-after l 0 own 15 listWords (omega arith) (omega arith)) in
-        let q : k ≡ keptLists ios tables (listsIn l) = z ∙ ap (keptLists ios tables) h in
-        lent-whole e 15 listWords k (omega (arith, ap length y, with-own)) (ap length q ∙ lists-long t.small t.obey)
+        let own = opened_own r (given_by a ios tables) in
+        let y : e ≡ splice l 0 own = x ∙ ap (splice l 0) (own_written (length ws) (ap length t.words)) in
+        let n : length own ≡ 15 = own_length in
+        let h : take list_words (drop 15 e) ≡ lists_in l = rw y
+        (range-splice-after l 0 own 15 list_words (omega arith) (omega arith)) in
+        let q : k ≡ kept_lists ios tables (lists_in l) = z ∙ ap (kept_lists ios tables) h in
+        lent-whole e 15 list_words k (omega (arith, ap length y, with_own)) (ap length q ∙ lists_long t.small t.obey)
         ∙ rw (y, q)
 
   -- and so in its desk, from its first number b on
-  pub desk-written : (d : List ℕ) (p b : ℕ) (k : List ℕ) → length d ≡ deskWords → p < placeCount → b ≡ base p
-      → a.at.0 + a.size ≤ coreMost → listsObey a ios tables ≡ true
-      → k ≡ openedPlace r a ios tables (take (b + placeWords - b) (drop b d))
-      → take b d ++ (k ++ drop (b + placeWords - b) (drop b d)) ≡ openedDesk d p r a ios tables
-  unfolding openedDesk place_in
-  desk-written d p b k n h e small obey q =
-      lent-whole d b placeWords k (omega arith)
-      (ap length q ∙ opened-length (take (b + placeWords - b) (drop b d)) (place-long d p b n h e) small obey)
-      ∙ rw (q, range-lent d b placeWords, e)
+  pub desk_written : (d : List ℕ) (p b : ℕ) (k : List ℕ) → length d ≡ desk_words → p < place_count → b ≡ base p
+      → a.at.0 + a.size ≤ core_most → lists_obey a ios tables ≡ true
+      → k ≡ opened_place r a ios tables (take (b + place_words - b) (drop b d))
+      → take b d ++ (k ++ drop (b + place_words - b) (drop b d)) ≡ opened_desk d p r a ios tables
+  unfolding opened_desk place_in
+  desk_written d p b k n h e small obey q =
+      lent-whole d b place_words k (omega arith)
+      (ap length q ∙ opened-length (take (b + place_words - b) (drop b d)) (place-long d p b n h e) small obey)
+      ∙ rw (q, range-lent d b place_words, e)
 
 -- ---- the answers
 module _ (d core : List ℕ) (r : ℕ) (a : Area) (ios tables : List ℕ) where
-  pub grant-denied : (n : ℕ) → n ≡ placeRefusal r (holders d) → (n ≡ 0 → ⊥)
-      → Meets (grantOf d core r a ios tables) (Refused (fault n)) d core
-  unfolding grantOf
-  grant-denied n q h = rw (← q, ne_eqb n 0 h) (record { told = refl; desk-left = refl; core-left = refl })
+  pub grant_denied : (n : ℕ) → n ≡ place_refusal r (holders d) → (n ≡ 0 → ⊥)
+      → Meets (grant_of d core r a ios tables) (Refused (fault n)) d core
+  unfolding grant_of
+  grant_denied n q h = rw (← q, ne_eqb n 0 h) (record { told = refl; desk_left = refl; core-left = refl })
 
-  module _ (f : placeRefusal r (holders d) ≡ 0) where
-    pub grant-outside : areaFits d r a ≡ false → Meets (grantOf d core r a ios tables) (Refused (fault 7)) d core
-    unfolding grantOf
-    grant-outside q = rw (f, q) (record { told = refl; desk-left = refl; core-left = refl })
+  module _ (f : place_refusal r (holders d) ≡ 0) where
+    pub grant_outside : area_fits d r a ≡ false → Meets (grant_of d core r a ios tables) (Refused (fault 7)) d core
+    unfolding grant_of
+    grant_outside q = rw (f, q) (record { told = refl; desk_left = refl; core-left = refl })
 
-    module _ (g : areaFits d r a ≡ true) where
-      pub grant-unlisted : listsObey a ios tables ≡ false → Meets (grantOf d core r a ios tables) (Refused (fault 8)) d core
-      unfolding grantOf
-      grant-unlisted q = rw (f, g, q) (record { told = refl; desk-left = refl; core-left = refl })
+    module _ (g : area_fits d r a ≡ true) where
+      pub grant_unlisted : lists_obey a ios tables ≡ false → Meets (grant_of d core r a ios tables) (Refused (fault 8)) d core
+      unfolding grant_of
+      grant_unlisted q = rw (f, g, q) (record { told = refl; desk_left = refl; core-left = refl })
 
-      pub grant-given : (p : ℕ) (e k : List ℕ) → listsObey a ios tables ≡ true → p ≡ lowestFree (holders d)
-          → e ≡ openedDesk d p r a ios tables → k ≡ cleared core a.at.0 a.size
-          → Meets (grantOf d core r a ios tables) (Opened p) e k
-      unfolding grantOf opened
-      grant-given p e k q y x z = rw (f, g, q, ← y) (record { told = refl; desk-left = x; core-left = z })
+      pub grant_given : (p : ℕ) (e k : List ℕ) → lists_obey a ios tables ≡ true → p ≡ lowest_free (holders d)
+          → e ≡ opened_desk d p r a ios tables → k ≡ cleared core a.at.0 a.size
+          → Meets (grant_of d core r a ios tables) (Opened p) e k
+      unfolding grant_of opened
+      grant_given p e k q y x z = rw (f, g, q, ← y) (record { told = refl; desk_left = x; core-left = z })

@@ -6,7 +6,7 @@
 -- no desk, have answers of their own, with numbers behind these (02).
 use Rattle.std.specs.Prelude.{ℕ, ◌+◌, ◌*◌, ◌^◌, ◌<◌}
 use Rattle.word.specs.declared.Fault.{Fault}
-use Rattle.word.specs.Fault.{placeValue}
+use Rattle.word.specs.Fault.{place_value}
 use Rattle.calls.specs.declared.Answer.{Answer}
 use Rattle.calls.specs.declared.files.FileAnswer.{FileAnswer}
 use Rattle.calls.specs.declared.files.FileAnswer.TheVariants.{Refused as FileRefused, Assigned, Needs, Written, Resealed}
@@ -21,7 +21,7 @@ code_of (Done start) = 67
 code_of Released = 68
 
 abbrev pub value_of : Answer → ℕ
-value_of (Refused f) = placeValue f
+value_of (Refused f) = place_value f
 value_of Made = 0
 value_of (Opened p) = p
 value_of More = 0
@@ -37,7 +37,7 @@ packed a = together (code_of a) (value_of a)
 
 -- a refusal that fits, and an answer that does: refusals have numbers below 64, values are below 2^32
 abbrev pub SmallFault : Fault → Type 0
-SmallFault f = (f.number < 64) × (placeValue f < 2 ^ 32)
+SmallFault f = (f.number < 64) × (place_value f < 2 ^ 32)
 
 abbrev pub Small : Answer → Type 0
 Small (Refused f) = SmallFault f
@@ -48,31 +48,31 @@ Small (Done start) = start.0 < 2 ^ 32
 Small Released = Unit {0}
 
 -- what C is told of an answer: all of it but the bit of a fault, for which the value has no room
-abbrev pub toldC : Answer → Answer
-toldC (Refused f) = Refused (record { number = f.number; word = f.word; half = f.half; bit = 0 })
-toldC Made = Made
-toldC (Opened p) = Opened p
-toldC More = More
-toldC (Done start) = Done start
-toldC Released = Released
+abbrev pub told_c : Answer → Answer
+told_c (Refused f) = Refused (record { number = f.number; word = f.word; half = f.half; bit = 0 })
+told_c Made = Made
+told_c (Opened p) = Opened p
+told_c More = More
+told_c (Done start) = Done start
+told_c Released = Released
 
 -- ---- of a call about a file
-abbrev pub fileCodeOf : FileAnswer → ℕ
-fileCodeOf (FileRefused f) = f.number
-fileCodeOf Assigned = 69
-fileCodeOf (Needs n) = 70
-fileCodeOf (Written n) = 71
-fileCodeOf Resealed = 72
+abbrev pub file_code_of : FileAnswer → ℕ
+file_code_of (FileRefused f) = f.number
+file_code_of Assigned = 69
+file_code_of (Needs n) = 70
+file_code_of (Written n) = 71
+file_code_of Resealed = 72
 
-abbrev pub fileValueOf : FileAnswer → ℕ
-fileValueOf (FileRefused f) = placeValue f
-fileValueOf Assigned = 0
-fileValueOf (Needs n) = n
-fileValueOf (Written n) = n
-fileValueOf Resealed = 0
+abbrev pub file_value_of : FileAnswer → ℕ
+file_value_of (FileRefused f) = place_value f
+file_value_of Assigned = 0
+file_value_of (Needs n) = n
+file_value_of (Written n) = n
+file_value_of Resealed = 0
 
-abbrev pub filePacked : FileAnswer → ℕ
-filePacked a = together (fileCodeOf a) (fileValueOf a)
+abbrev pub file_packed : FileAnswer → ℕ
+file_packed a = together (file_code_of a) (file_value_of a)
 
 abbrev pub FileSmall : FileAnswer → Type 0
 FileSmall (FileRefused f) = SmallFault f

@@ -1,5 +1,5 @@
 -- What a call leaves: its answer, the desk and, where it is lent one, the core. Two outcomes that meet a contract are equal
--- (`one-outcome`, proofs/Outcome.antt).
+-- (`one_outcome`, proofs/Outcome.antt).
 use Rattle.std.specs.Prelude.{ℕ, ◌≡◌, List}
 use Rattle.word.specs.Fault.{fault}
 use Rattle.calls.specs.declared.Answer.{Answer}
@@ -12,7 +12,7 @@ pub record Outcome : Type 0 where
 
 pub record Meets (o : Outcome) (answer : Answer) (desk core : List ℕ) : Type 0 where
   pub told : answer ≡ o.answer
-  pub desk-left : desk ≡ o.desk
+  pub desk_left : desk ≡ o.desk
   pub core-left : core ≡ o.core
 
 -- "Refusals 1 to 12 change nothing."

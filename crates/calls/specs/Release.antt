@@ -7,8 +7,8 @@ use Rattle.calls.specs.Outcome.{Outcome, refused}
 use Rattle.calls.specs.Entry.{entered}
 
 -- n is the core length that is given
-unfoldable pub releaseOf : List ℕ → ℕ → ℕ → ℕ → Outcome
-releaseOf d n r p =
+unfoldable pub release_of : List ℕ → ℕ → ℕ → ℕ → Outcome
+release_of d n r p =
     entered d n r []
     (unless (holds d r p) (refused 9 d [])
     (record { answer = Released; desk = set d (base p) 0; core = [] }))

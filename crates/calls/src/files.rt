@@ -1,6 +1,6 @@
 // The answers of the calls that are about a file alone and are lent no desk, and each as one number for C.
 ghost use Rattle.std.specs.Prelude.{◌≡◌};
-ghost use Rattle.calls.specs.Answer.{filePacked, FileSmall};
+ghost use Rattle.calls.specs.Answer.{file_packed, FileSmall};
 
 use crate::CODE;
 use word::Fault;
@@ -18,7 +18,7 @@ pub enum FileAnswer {
 // The answer as one number: its code times 2^32, and its value.
 pub fn pack_file(a: FileAnswer) -> u64
     requires { FileSmall a }
-    ensures { result ≡ filePacked a }
+    ensures { result ≡ file_packed a }
 {
     match a {
         FileAnswer::Refused(f) => crate::pack_fault(f),

@@ -6,9 +6,9 @@ pub mod open;
 pub mod release;
 
 ghost use Rattle.std.specs.Prelude.{◌≡◌};
-ghost use Rattle.word.specs.Fault.{halfNumber, placeValue};
+ghost use Rattle.word.specs.Fault.{half_number, place_value};
 ghost use Rattle.calls.specs.Answer.{together, packed, SmallFault, Small};
-ghost use Rattle.calls.specs.Entry.{entryRefusal};
+ghost use Rattle.calls.specs.Entry.{entry_refusal};
 
 use layout::CORE_AT;
 use word::limits::ROOMS;
@@ -30,7 +30,7 @@ pub enum Answer {
 
 // Which of refusals 1, 2 and 4 is due to a call on a desk, with a core of that many words, for that room; 0 where none is.
 pub fn entry_refusal(desk: &[u64], core: u64, room: u64) -> u64
-    ensures { result ≡ entryRefusal desk.now core room }
+    ensures { result ≡ entry_refusal desk.now core room }
 {
     if !desk::is_sound(desk) {
         return 1;
@@ -47,14 +47,14 @@ pub fn entry_refusal(desk: &[u64], core: u64, room: u64) -> u64
 // A refusal as one number: its own times 2^32, and its place. The bit is left out.
 pub fn pack_fault(f: Fault) -> u64
     requires { SmallFault f }
-    ensures { result ≡ together f.number (placeValue f) }
+    ensures { result ≡ together f.number (place_value f) }
 {
     let half = f.half;
     f.number * CODE + f.word * 4 + half_number(half)
 }
 
 fn half_number(half: Side) -> u64
-    ensures { result ≡ halfNumber half }
+    ensures { result ≡ half_number half }
 {
     match half {
         Side::Whole => 0,

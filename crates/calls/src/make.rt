@@ -1,9 +1,9 @@
 // Make: a fresh desk from the core length and a map.
 ghost use Rattle.std.specs.Prelude.{◌≡◌, [], length};
-ghost use Rattle.word.specs.Limits.{placeCount, mapWords};
+ghost use Rattle.word.specs.Limits.{place_count, map_words};
 ghost use Rattle.word.specs.Lists.{splice};
-ghost use Rattle.layout.specs.Layout.{deskWords, mapAt};
-ghost use Rattle.calls.specs.Make.{freed, freshDesk, makeOf};
+ghost use Rattle.layout.specs.Layout.{desk_words, map_at};
+ghost use Rattle.calls.specs.Make.{freed, fresh_desk, make_of};
 ghost use Rattle.calls.specs.Outcome.{Meets};
 
 use crate::Answer;
@@ -13,7 +13,7 @@ use word::limits::{CORE_MOST, MAP_WORDS, PLACES};
 
 // The core length, the map's numbers and every place free, in a desk that held whatever it held.
 pub fn make_desk(desk: &mut [u64], core: u64, numbers: &[u64]) -> Answer
-    ensures { Meets (makeOf desk.old core numbers.now) result desk.new [] }
+    ensures { Meets (make_of desk.old core numbers.now) result desk.new [] }
 {
     if desk.len() != DESK_WORDS {
         return Answer::Refused(FAULT_1);
@@ -36,8 +36,8 @@ pub fn make_desk(desk: &mut [u64], core: u64, numbers: &[u64]) -> Answer
 
 // The core length, the map's numbers behind it, and no place held.
 fn write_fresh(desk: &mut [u64], core: u64, numbers: &[u64])
-    requires { (length desk.old ≡ deskWords) × (length numbers.now ≡ mapWords) }
-    ensures { desk.new ≡ freshDesk desk.old core numbers.now }
+    requires { (length desk.old ≡ desk_words) × (length numbers.now ≡ map_words) }
+    ensures { desk.new ≡ fresh_desk desk.old core numbers.now }
 {
     desk[CORE_AT] = core;
     write_map(desk, numbers);
@@ -47,8 +47,8 @@ fn write_fresh(desk: &mut [u64], core: u64, numbers: &[u64])
 // The map's numbers. They are taken into a list of their own first: it is known to lie apart from the desk, and so the compiler
 // copies two at a time.
 fn write_map(desk: &mut [u64], numbers: &[u64])
-    requires { (length desk.old ≡ deskWords) × (length numbers.now ≡ mapWords) }
-    ensures { desk.new ≡ splice desk.old mapAt numbers.now }
+    requires { (length desk.old ≡ desk_words) × (length numbers.now ≡ map_words) }
+    ensures { desk.new ≡ splice desk.old map_at numbers.now }
 {
     let mut m = [0u64; MAP_WORDS];
     word::slices::copy_in(&mut m, 0, numbers);
@@ -57,8 +57,8 @@ fn write_map(desk: &mut [u64], numbers: &[u64])
 
 // Every place set free.
 fn clear_places(desk: &mut [u64])
-    requires { length desk.old ≡ deskWords }
-    ensures { desk.new ≡ freed placeCount desk.old }
+    requires { length desk.old ≡ desk_words }
+    ensures { desk.new ≡ freed place_count desk.old }
 {
     let mut p: usize = 0;
     while p < PLACES {

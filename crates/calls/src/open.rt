@@ -2,11 +2,11 @@
 // to 8 says why not (01, "The desk").
 ghost use Rattle.std.specs.Prelude.{◌≡◌, ◌<◌, length};
 ghost use Rattle.word.specs.Lists.{every};
-ghost use Rattle.word.specs.Limits.{roomCount};
-ghost use Rattle.layout.specs.Layout.{deskWords, placeWords, places};
+ghost use Rattle.word.specs.Limits.{room_count};
+ghost use Rattle.layout.specs.Layout.{desk_words, place_words, places};
 ghost use Rattle.calls.specs.Outcome.{Meets};
 ghost use Rattle.calls.specs.Entry.{Entered};
-ghost use Rattle.calls.specs.Open.{besideOwn, areaFits, openedPlace, grantOf, openOf, WriteReady};
+ghost use Rattle.calls.specs.Open.{beside_own, area_fits, opened_place, grant_of, open_of, WriteReady};
 
 use crate::Answer;
 use layout::{AREA_AT, HOLDER_AT, LISTS_AT, PLACE_WORDS, PLACES_AT, SIZE_AT};
@@ -24,7 +24,7 @@ pub fn open_load(
     ios: &[u64],
     tables: &[u64],
 ) -> Answer
-    ensures { Meets (openOf desk.old core.old room area ios.now tables.now)
+    ensures { Meets (open_of desk.old core.old room area ios.now tables.now)
         result desk.new core.new }
 {
     let n = crate::entry_refusal(desk, core.len() as u64, room);
@@ -44,7 +44,7 @@ fn grant(
     tables: &[u64],
 ) -> Answer
     requires { Entered desk.old (length core.old) room }
-    ensures { Meets (grantOf desk.old core.old room area ios.now tables.now)
+    ensures { Meets (grant_of desk.old core.old room area ios.now tables.now)
         result desk.new core.new }
 {
     let h = layout::read_holders(desk);
@@ -77,8 +77,8 @@ fn grant(
 
 // Whether the area is not empty, lies in the room's stretch and shares no word with one the room holds.
 fn area_fits(desk: &[u64], room: u64, area: Area) -> bool
-    requires { (length desk.now ≡ deskWords) × (room < roomCount) }
-    ensures { result ≡ areaFits desk.now room area }
+    requires { (length desk.now ≡ desk_words) × (room < room_count) }
+    ensures { result ≡ area_fits desk.now room area }
 {
     let m = map::read_map(layout::map_numbers(desk));
     let s = m[room as usize];
@@ -90,8 +90,8 @@ fn area_fits(desk: &[u64], room: u64, area: Area) -> bool
 
 // Whether the area shares no word with one the room holds, at any place.
 fn all_beside(desk: &[u64], room: u64, area: Area) -> bool
-    requires { (length desk.now ≡ deskWords) × (room < roomCount) }
-    ensures { result ≡ every (besideOwn room area) (places desk.now) }
+    requires { (length desk.now ≡ desk_words) × (room < room_count) }
+    ensures { result ≡ every (beside_own room area) (places desk.now) }
 {
     let mut p: usize = 0;
     while p < PLACES {
@@ -104,8 +104,8 @@ fn all_beside(desk: &[u64], room: u64, area: Area) -> bool
 }
 
 fn beside_own(place: &[u64], room: u64, area: Area) -> bool
-    requires { (length place.now ≡ placeWords) × (room < roomCount) }
-    ensures { result ≡ besideOwn room area place.now }
+    requires { (length place.now ≡ place_words) × (room < room_count) }
+    ensures { result ≡ beside_own room area place.now }
 {
     if place[HOLDER_AT] != room + 1 {
         return true;
@@ -117,7 +117,7 @@ fn beside_own(place: &[u64], room: u64, area: Area) -> bool
 // kept.
 fn write_place(place: &mut [u64], room: u64, area: Area, ios: &[u64], tables: &[u64], words: &[u64])
     requires { WriteReady room area ios.now tables.now words.now place.old }
-    ensures { place.new ≡ openedPlace room area ios.now tables.now place.old }
+    ensures { place.new ≡ opened_place room area ios.now tables.now place.old }
 {
     let n = tables.len() / 2;
     let own = [

@@ -1,7 +1,7 @@
 // Release: a room gives a place back.
 ghost use Rattle.std.specs.Prelude.{◌≡◌, []};
 ghost use Rattle.calls.specs.Outcome.{Meets};
-ghost use Rattle.calls.specs.Release.{releaseOf};
+ghost use Rattle.calls.specs.Release.{release_of};
 
 use crate::Answer;
 use layout::{PLACE_WORDS, PLACES_AT};
@@ -9,7 +9,7 @@ use word::faults::FAULT_9;
 
 // Room and place, on a desk of a core of that many words: the place is freed, and its area serves again.
 pub fn release_place(desk: &mut [u64], core: u64, room: u64, place: u64) -> Answer
-    ensures { Meets (releaseOf desk.old core room place) result desk.new [] }
+    ensures { Meets (release_of desk.old core room place) result desk.new [] }
 {
     let n = crate::entry_refusal(desk, core, room);
     if n != 0 {

@@ -7,7 +7,7 @@ use Rattle.calls.specs.Answer.{packed}
 use Rattle.calls.specs.Outcome.{Outcome, Meets}
 use Rattle.clamp.specs.Returned.{Returned}
 
-pub packed-returned : (o : Outcome) (a : Answer) (r : ℕ) (desk core : List ℕ) → Meets o a desk core → r ≡ packed a
+pub packed_returned : (o : Outcome) (a : Answer) (r : ℕ) (desk core : List ℕ) → Meets o a desk core → r ≡ packed a
     → Returned o r desk core
-packed-returned o a r desk core m e =
-    record { number = e ∙ ap packed m.told; desk-left = m.desk-left; core-left = m.core-left }
+packed_returned o a r desk core m e =
+    record { number = e ∙ ap packed m.told; desk_left = m.desk_left; core-left = m.core-left }

@@ -1,13 +1,13 @@
 // The library that the emulator links: the calls with C linkage, and nothing else. Answers are packed as docs/ANSWERS.md says.
 ghost use Rattle.std.specs.Prelude.{◌≡◌, []};
-ghost use Rattle.layout.specs.Layout.{deskWords};
-ghost use Rattle.calls.specs.Make.{makeOf};
-ghost use Rattle.calls.specs.Open.{openOf};
-ghost use Rattle.calls.specs.Release.{releaseOf};
-ghost use Rattle.feed.specs.Feed.{feedOf};
-ghost use Rattle.calls.specs.Answer.{filePacked};
-ghost use Rattle.front.specs.Front.{labelBlock};
-ghost use Rattle.clamp.specs.Returned.{Returned, ResealReturned, AssignReturned, WriteReturned, needsAnswer};
+ghost use Rattle.layout.specs.Layout.{desk_words};
+ghost use Rattle.calls.specs.Make.{make_of};
+ghost use Rattle.calls.specs.Open.{open_of};
+ghost use Rattle.calls.specs.Release.{release_of};
+ghost use Rattle.feed.specs.Feed.{feed_of};
+ghost use Rattle.calls.specs.Answer.{file_packed};
+ghost use Rattle.front.specs.Front.{label_block};
+ghost use Rattle.clamp.specs.Returned.{Returned, ResealReturned, AssignReturned, WriteReturned, needs_answer};
 
 use block::Verdict;
 use calls::files::FileAnswer;
@@ -19,7 +19,7 @@ use writer::Answer;
 // The fixed length of a desk.
 #[unsafe(no_mangle)]
 pub extern "C" fn clamp_desk_words() -> u64
-    ensures { result ≡ deskWords }
+    ensures { result ≡ desk_words }
 {
     DESK_WORDS as u64
 }
@@ -27,7 +27,7 @@ pub extern "C" fn clamp_desk_words() -> u64
 // A fresh desk, from the core length and the map's numbers.
 #[unsafe(no_mangle)]
 pub extern "C" fn clamp_make(desk: &mut [u64], core: u64, numbers: &[u64]) -> u64
-    ensures { Returned (makeOf desk.old core numbers.now) result desk.new [] }
+    ensures { Returned (make_of desk.old core numbers.now) result desk.new [] }
 {
     calls::pack(calls::make::make_desk(desk, core, numbers))
 }
@@ -43,7 +43,7 @@ pub extern "C" fn clamp_open(
     io: &[u64],
     tables: &[u64],
 ) -> u64
-    ensures { Returned (openOf desk.old core.old room
+    ensures { Returned (open_of desk.old core.old room
         (record { at = record { 0 = area }; size = size }) io.now tables.now)
         result desk.new core.new }
 {
@@ -57,7 +57,7 @@ pub extern "C" fn clamp_open(
 // A place given back.
 #[unsafe(no_mangle)]
 pub extern "C" fn clamp_release(desk: &mut [u64], core: u64, room: u64, place: u64) -> u64
-    ensures { Returned (releaseOf desk.old core room place) result desk.new [] }
+    ensures { Returned (release_of desk.old core room place) result desk.new [] }
 {
     calls::pack(calls::release::release_place(desk, core, room, place))
 }
@@ -71,7 +71,7 @@ pub extern "C" fn clamp_feed(
     place: u64,
     block: &[u64],
 ) -> u64
-    ensures { Returned (feedOf desk.old core.old room place block.now)
+    ensures { Returned (feed_of desk.old core.old room place block.now)
         result desk.new core.new }
 {
     calls::pack(feed::feed_block(desk, core, room, place, block))
@@ -91,7 +91,7 @@ pub extern "C" fn clamp_reseal(block: &mut [u64], index: u64) -> u64
 // What a file needs of the lists, by its label.
 #[unsafe(no_mangle)]
 pub extern "C" fn clamp_needs(label: &[u64]) -> u64
-    ensures { result ≡ filePacked (needsAnswer (labelBlock label.now)) }
+    ensures { result ≡ file_packed (needs_answer (label_block label.now)) }
 {
     match front::read_label_block(label) {
         LabelRead::Good(l) => calls::files::pack_file(FileAnswer::Needs(front::needs_value(l))),

@@ -1,7 +1,7 @@
 // What the programs share: bytes and numbers on standard output, blocks of octal lines, read from standard input and printed, and
 // files read by name.
 ghost use Rattle.std.specs.Prelude.{◌≡◌, length};
-ghost use Rattle.word.specs.Limits.{wordsInBlock};
+ghost use Rattle.word.specs.Limits.{words_in_block};
 
 use libc::{STDIN_FILENO, STDOUT_FILENO};
 
@@ -55,7 +55,7 @@ pub fn say_bad() {
 
 // The next block. Where the input ends, or is bad, the block is none.
 pub fn read_block(block: &mut [u64]) -> Input
-    requires { length block.old ≡ wordsInBlock }
+    requires { length block.old ≡ words_in_block }
 {
     let mut text = [0u8; octal::TEXT];
     let n = io::read_full(STDIN_FILENO, &mut text);
@@ -74,7 +74,7 @@ pub fn read_block(block: &mut [u64]) -> Input
 
 // The block as 256 lines.
 pub fn say_block(block: &[u64])
-    requires { length block.now ≡ wordsInBlock }
+    requires { length block.now ≡ words_in_block }
 {
     let mut text = [0u8; octal::TEXT];
     octal::write_lines(block, &mut text);

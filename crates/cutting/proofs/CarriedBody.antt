@@ -7,153 +7,153 @@ use lib.ListN.{length}
 use lib.Dec.{eqb, ltb, leb}
 use borrow.Author.Tests.{eqb-true, leb-true}
 use Rattle.word.specs.Lists.{every}
-use Rattle.word.specs.Limits.{tablesMost}
+use Rattle.word.specs.Limits.{tables_most}
 use Rattle.word.proofs.Cases.{and_left, and_right}
-use Rattle.word.proofs.Every.{every-place, every-by}
-use Rattle.label.specs.Tables.{withinLimits}
+use Rattle.word.proofs.Every.{every-place, every_by}
+use Rattle.label.specs.Tables.{within_limits}
 use Rattle.program.specs.declared.Bank.{Bank}
 use Rattle.program.specs.declared.TableSection.{TableSection}
-use Rattle.source.specs.Source.{headNumbers, ibankIn, dbankIn, countsIn, sectionAt, sectionCount, sectionsIn, wantedAt, wantedFrom}
-use Rattle.source.specs.Source.{wordCount}
-use Rattle.source.specs.Fits.{most16, end16, isBank, areBanks, headFits, entriesFit, sectionFits, sectionsFit, SectionsReady}
-use Rattle.source.specs.Fits.{wordFits, wordsFit, fits}
-use Rattle.source.proofs.Listed.{length-listed, getD-listed}
-use Rattle.source.proofs.Counting.{section-number, section-short, sections-few, sections-pass, sections-most}
-use Rattle.source.proofs.Whole.{head-long, head-banks, ibank-short, dbank-short, entries-within, sections-ready}
+use Rattle.source.specs.Source.{head_numbers, ibank_in, dbank_in, counts_in, section_at, section_count, sections_in, wanted_at, wanted_from}
+use Rattle.source.specs.Source.{word_count}
+use Rattle.source.specs.Fits.{most16, end16, is_bank, are_banks, head_fits, entries_fit, section_fits, sections_fit, SectionsReady}
+use Rattle.source.specs.Fits.{word_fits, words_fit, fits}
+use Rattle.source.proofs.Listed.{length-listed, get_d_listed}
+use Rattle.source.proofs.Counting.{section_number, section_short, sections_few, sections_pass, sections_most}
+use Rattle.source.proofs.Whole.{head_long, head_banks, ibank_short, dbank_short, entries-within, sections_ready}
 use Rattle.forms.specs.HowForms.{WritableWord}
-use Rattle.forms.proofs.Reading.{writable-word}
+use Rattle.forms.proofs.Reading.{writable_word}
 use Rattle.cutting.specs.Cut.{Body}
 use Rattle.cutting.specs.HowFar.{Carried}
 
-bank-ends : (b : Bank) → isBank b ≡ true → b.at.0 + b.count ≤ end16
-unfolding isBank
-bank-ends b q =
+bank_ends : (b : Bank) → is_bank b ≡ true → b.at.0 + b.count ≤ end16
+unfolding is_bank
+bank_ends b q =
     leb-true (b.at.0 + b.count) end16
     (and_right (leb b.count most16) _ (and_right (leb b.at.0 most16) _ q))
 
-section-least : (tables : ℕ) (t : TableSection) → sectionFits tables t ≡ true → 1 ≤ t.count
-unfolding sectionFits
-section-least tables t q = leb-true 1 t.count (and_left (leb 1 t.count) _ (and_right (ltb t.number.0 tables) _ q))
+section_least : (tables : ℕ) (t : TableSection) → section_fits tables t ≡ true → 1 ≤ t.count
+unfolding section_fits
+section_least tables t q = leb-true 1 t.count (and_left (leb 1 t.count) _ (and_right (ltb t.number.0 tables) _ q))
 
 module _ (b : Body) (k : Carried b) where
-  fit-head : headFits b.head ≡ true
+  fit_head : head_fits b.head ≡ true
   unfolding fits
-  fit-head = and_left (headFits b.head) _ k.fit
+  fit_head = and_left (head_fits b.head) _ k.fit
 
-  fit-entries : entriesFit k.entries ≡ true
+  fit_entries : entries_fit k.entries ≡ true
   unfolding fits
-  fit-entries = and_left (entriesFit k.entries) _ (and_right (headFits b.head) _ k.fit)
+  fit_entries = and_left (entries_fit k.entries) _ (and_right (head_fits b.head) _ k.fit)
 
-  fit-sections : sectionsFit (countsIn k.entries).tables b.sections ≡ true
+  fit_sections : sections_fit (counts_in k.entries).tables b.sections ≡ true
   unfolding fits
-  fit-sections =
-      and_left (sectionsFit (countsIn k.entries).tables b.sections) _
-      (and_right (entriesFit k.entries) _ (and_right (headFits b.head) _ k.fit))
+  fit_sections =
+      and_left (sections_fit (counts_in k.entries).tables b.sections) _
+      (and_right (entries_fit k.entries) _ (and_right (head_fits b.head) _ k.fit))
 
-  fit_words : wordsFit (countsIn k.entries) (wordCount b.head b.sections) b.words ≡ true
+  fit_words : words_fit (counts_in k.entries) (word_count b.head b.sections) b.words ≡ true
   unfolding fits
   fit_words =
-      and_right (sectionsFit (countsIn k.entries).tables b.sections) _
-      (and_right (entriesFit k.entries) _ (and_right (headFits b.head) _ k.fit))
+      and_right (sections_fit (counts_in k.entries).tables b.sections) _
+      (and_right (entries_fit k.entries) _ (and_right (head_fits b.head) _ k.fit))
 
   -- the head and its banks
-  pub carried-head : length b.head ≡ headNumbers
-  carried-head = head-long b.head fit-head
+  pub carried_head : length b.head ≡ head_numbers
+  carried_head = head_long b.head fit_head
 
-  pub carried-ibank : (1 ≤ (ibankIn b.head).count) × ((ibankIn b.head).count ≤ most16)
-      × ((ibankIn b.head).at.0 + (ibankIn b.head).count ≤ end16)
-  unfolding areBanks
-  carried-ibank =
-      let i = ibankIn b.head in
-      let d = dbankIn b.head in
-      let q = head-banks b.head fit-head in (
-        leb-true 1 i.count (and_left (leb 1 i.count) _ (and_right (isBank d) _ (and_right (isBank i) _ q))),
-        ibank-short b.head fit-head,
-        bank-ends i (and_left (isBank i) _ q),
+  pub carried_ibank : (1 ≤ (ibank_in b.head).count) × ((ibank_in b.head).count ≤ most16)
+      × ((ibank_in b.head).at.0 + (ibank_in b.head).count ≤ end16)
+  unfolding are_banks
+  carried_ibank =
+      let i = ibank_in b.head in
+      let d = dbank_in b.head in
+      let q = head_banks b.head fit_head in (
+        leb-true 1 i.count (and_left (leb 1 i.count) _ (and_right (is_bank d) _ (and_right (is_bank i) _ q))),
+        ibank_short b.head fit_head,
+        bank_ends i (and_left (is_bank i) _ q),
       )
 
-  pub carried-dbank : ((dbankIn b.head).count ≤ most16) × ((dbankIn b.head).at.0 + (dbankIn b.head).count ≤ end16)
-  unfolding areBanks
-  carried-dbank =
-      let i = ibankIn b.head in
-      let d = dbankIn b.head in
-      let q = head-banks b.head fit-head in (
-        dbank-short b.head fit-head,
-        bank-ends d (and_left (isBank d) _ (and_right (isBank i) _ q)),
+  pub carried_dbank : ((dbank_in b.head).count ≤ most16) × ((dbank_in b.head).at.0 + (dbank_in b.head).count ≤ end16)
+  unfolding are_banks
+  carried_dbank =
+      let i = ibank_in b.head in
+      let d = dbank_in b.head in
+      let q = head_banks b.head fit_head in (
+        dbank_short b.head fit_head,
+        bank_ends d (and_left (is_bank d) _ (and_right (is_bank i) _ q)),
       )
 
   -- the table sections
   ready : SectionsReady b.sections
-  ready = sections-ready k.entries fit-entries b.sections fit-sections
+  ready = sections_ready k.entries fit_entries b.sections fit_sections
 
-  pub carried-sections : sectionCount b.sections ≤ tablesMost
-  carried-sections = sections-few b.sections ready
+  pub carried_sections : section_count b.sections ≤ tables_most
+  carried_sections = sections_few b.sections ready
 
-  section-fits : (i : ℕ) → i < sectionCount b.sections
-      → sectionFits ready.tables (sectionAt b.sections i) ≡ true
-  unfolding sectionsIn
-  section-fits i h =
-      let f = sectionAt b.sections in
-      let e = getD-listed f 0 (sectionCount b.sections) i (f 0) h in
-      let l = length-listed f 0 (sectionCount b.sections) in
+  section_fits_lem : (i : ℕ) → i < section_count b.sections
+      → section_fits ready.tables (section_at b.sections i) ≡ true
+  unfolding sections_in
+  section_fits_lem i h =
+      let f = section_at b.sections in
+      let e = get_d_listed f 0 (section_count b.sections) i (f 0) h in
+      let l = length-listed f 0 (section_count b.sections) in
       let z : 0 + i ≡ i = omega arith in
-      rw (e, z) at (every-place (f 0) (sectionFits ready.tables) (sectionsIn b.sections) i (omega arith)
-      (sections-pass b.sections ready))
+      rw (e, z) at (every-place (f 0) (section_fits ready.tables) (sections_in b.sections) i (omega arith)
+      (sections_pass b.sections ready))
 
-  pub carried-section : (i : ℕ) → i < sectionCount b.sections
-      → (1 ≤ (sectionAt b.sections i).count) × ((sectionAt b.sections i).count ≤ most16)
-      × ((sectionAt b.sections i).number.0 < tablesMost)
-  carried-section i h =
-      let t = sectionAt b.sections i in
-      let q = section-fits i h in
-      let a = section-number ready.tables t q in
+  pub carried_section : (i : ℕ) → i < section_count b.sections
+      → (1 ≤ (section_at b.sections i).count) × ((section_at b.sections i).count ≤ most16)
+      × ((section_at b.sections i).number.0 < tables_most)
+  carried_section i h =
+      let t = section_at b.sections i in
+      let q = section_fits_lem i h in
+      let a = section_number ready.tables t q in
       let f = ready.few in (
-        section-least ready.tables t q,
-        section-short ready.tables t q,
+        section_least ready.tables t q,
+        section_short ready.tables t q,
         omega arith,
       )
 
   -- the words: as many as are counted, and each fits
-  pub carried-words : length b.words ≡ 3 * wordCount b.head b.sections
-  unfolding wordsFit
-  carried-words =
-      eqb-true (length b.words) (3 * wordCount b.head b.sections)
-      (and_left (eqb (length b.words) (3 * wordCount b.head b.sections)) _ fit_words)
+  pub carried_words : length b.words ≡ 3 * word_count b.head b.sections
+  unfolding words_fit
+  carried_words =
+      eqb-true (length b.words) (3 * word_count b.head b.sections)
+      (and_left (eqb (length b.words) (3 * word_count b.head b.sections)) _ fit_words)
 
-  pub carried-few : wordCount b.head b.sections ≤ 2 ^ 24
-  unfolding wordCount
-  carried-few =
-      let i = carried-ibank in
-      let d = carried-dbank in
-      let s = sections-most b.sections ready in
+  pub carried_few : word_count b.head b.sections ≤ 2 ^ 24
+  unfolding word_count
+  carried_few =
+      let i = carried_ibank in
+      let d = carried_dbank in
+      let s = sections_most b.sections ready in
       omega arith
 
-  pub carried-limits : withinLimits (countsIn k.entries) ≡ true
-  carried-limits = entries-within k.entries fit-entries
+  pub carried_limits : within_limits (counts_in k.entries) ≡ true
+  carried_limits = entries-within k.entries fit_entries
 
-  pub carried-fits : every (wordFits (countsIn k.entries)) (wantedFrom b.words 0 (wordCount b.head b.sections)) ≡ true
-  unfolding wordsFit
-  carried-fits = and_right (eqb (length b.words) (3 * wordCount b.head b.sections)) _ fit_words
+  pub carried-fits : every (word_fits (counts_in k.entries)) (wanted_from b.words 0 (word_count b.head b.sections)) ≡ true
+  unfolding words_fit
+  carried-fits = and_right (eqb (length b.words) (3 * word_count b.head b.sections)) _ fit_words
 
-  pub carried-word : (i : ℕ) → i < wordCount b.head b.sections
-      → wordFits (countsIn k.entries) (wantedAt b.words i) ≡ true
-  carried-word i h =
-      let f = wantedAt b.words in
-      let n = wordCount b.head b.sections in
-      let e = getD-listed f 0 n i (f 0) h in
+  pub carried_word : (i : ℕ) → i < word_count b.head b.sections
+      → word_fits (counts_in k.entries) (wanted_at b.words i) ≡ true
+  carried_word i h =
+      let f = wanted_at b.words in
+      let n = word_count b.head b.sections in
+      let e = get_d_listed f 0 n i (f 0) h in
       let l = length-listed f 0 n in
       let z : 0 + i ≡ i = omega arith in
-      rw (e, z) at (every-place (f 0) (wordFits (countsIn k.entries)) (wantedFrom b.words 0 n) i (omega arith) carried-fits)
+      rw (e, z) at (every-place (f 0) (word_fits (counts_in k.entries)) (wanted_from b.words 0 n) i (omega arith) carried-fits)
 
-  pub carried-writable : (i : ℕ) → i < wordCount b.head b.sections → WritableWord (wantedAt b.words i)
-  carried-writable i h =
-      writable-word (countsIn k.entries) carried-limits (wantedAt b.words i) (carried-word i h)
+  pub carried_writable : (i : ℕ) → i < word_count b.head b.sections → WritableWord (wanted_at b.words i)
+  carried_writable i h =
+      writable_word (counts_in k.entries) carried_limits (wanted_at b.words i) (carried_word i h)
 
   -- and so do the words of a group
-  pub carried-group : (i n : ℕ) → i + n ≤ wordCount b.head b.sections
-      → every (wordFits (countsIn k.entries)) (wantedFrom b.words i n) ≡ true
-  carried-group i n h =
-      let f = wantedAt b.words in
+  pub carried_group : (i n : ℕ) → i + n ≤ word_count b.head b.sections
+      → every (word_fits (counts_in k.entries)) (wanted_from b.words i n) ≡ true
+  carried_group i n h =
+      let f = wanted_at b.words in
       let l = length-listed f i n in
-      every-by (f 0) (wordFits (countsIn k.entries)) (wantedFrom b.words i n)
-      (λ j g. rw (getD-listed f i n j (f 0) (omega arith)) (carried-word (i + j) (omega arith)))
+      every_by (f 0) (word_fits (counts_in k.entries)) (wanted_from b.words i n)
+      (λ j g. rw (get_d_listed f i n j (f 0) (omega arith)) (carried_word (i + j) (omega arith)))

@@ -1,9 +1,9 @@
 // How a program is cut: which piece comes next in a block.
 ghost use Rattle.std.specs.Prelude.{◌≡◌, ◌&&◌, ◌<◌, ◌^◌, length, eqb};
-ghost use Rattle.source.specs.Source.{headNumbers, wantedFrom};
-ghost use Rattle.forms.specs.Forms.{wordsFor};
-ghost use Rattle.cutting.specs.Cut.{item_at, taken_of, none_taken, pastItem, pastWords, groupFor, groupNext, headNext};
-ghost use Rattle.cutting.specs.Cut.{piece_size, next_at, isEnd};
+ghost use Rattle.source.specs.Source.{head_numbers, wanted_from};
+ghost use Rattle.forms.specs.Forms.{words_for};
+ghost use Rattle.cutting.specs.Cut.{item_at, taken_of, none_taken, past_item, past_words, group_for, group_next, head_next};
+ghost use Rattle.cutting.specs.Cut.{piece_size, next_at, is_end};
 ghost use Rattle.cutting.specs.HowFar.{TakeReady, NextReady, HeadReady, GroupReady, Counted, PastReady};
 
 use crate::{Cursor, Item, Next, Piece, Run, Taken, items};
@@ -13,7 +13,7 @@ use word::{Relative, WORD_BITS};
 // How many words so many bits need.
 fn words_for(bits: usize) -> usize
     requires { bits < 2 ^ 32 }
-    ensures { result ≡ wordsFor bits }
+    ensures { result ≡ words_for bits }
 {
     (bits + (WORD_BITS - 1)) / WORD_BITS
 }
@@ -21,7 +21,7 @@ fn words_for(bits: usize) -> usize
 // The longest group: as many of the words from `first` on as the room behind its identifier allows, with their indicators.
 fn take(words: &[u64], first: usize, count: usize, room: usize) -> Taken
     requires { TakeReady words.now first count room }
-    ensures { result ≡ taken_of room none_taken (wantedFrom words.now first count) }
+    ensures { result ≡ taken_of room none_taken (wanted_from words.now first count) }
 {
     let mut bits: usize = 0;
     let mut i: usize = 0;
@@ -58,7 +58,7 @@ pub fn next_at(head: &[u64], sections: &[u64], words: &[u64], p: usize, c: Curso
 // A head of so many words, where they go up to word 254 at most.
 fn head_next(head: &[u64], p: usize, c: Cursor, x: Piece, size: usize) -> Next
     requires { HeadReady head.now p c x size }
-    ensures { result ≡ headNext head.now p c x }
+    ensures { result ≡ head_next head.now p c x }
 {
     if LAST_WORD + 1 < p + size {
         return Next::Close;
@@ -69,7 +69,7 @@ fn head_next(head: &[u64], p: usize, c: Cursor, x: Piece, size: usize) -> Next
 // A group of the words taken; where none is, none fits.
 fn group_next(head: &[u64], r: Run, c: Cursor, t: Taken) -> Next
     requires { GroupReady head.now r c t }
-    ensures { result ≡ groupNext head.now r c t }
+    ensures { result ≡ group_next head.now r c t }
 {
     if t.words == 0 {
         return Next::Close;
@@ -83,7 +83,7 @@ fn group_next(head: &[u64], r: Run, c: Cursor, t: Taken) -> Next
 // The group of the words taken.
 fn group_for(r: Run, c: Cursor, t: Taken) -> Group
     requires { Counted r c t }
-    ensures { result ≡ groupFor r c t }
+    ensures { result ≡ group_for r c t }
 {
     Group {
         words: (t.words + words_for(t.bits)) as u64,
@@ -104,7 +104,7 @@ fn ends_with(r: Run, done: u64) -> bool
 // Behind n more words of the run.
 fn past_words(head: &[u64], r: Run, c: Cursor, n: usize) -> Cursor
     requires { PastReady head.now c n }
-    ensures { result ≡ pastWords head.now r c n }
+    ensures { result ≡ past_words head.now r c n }
 {
     if c.done + n as u64 == r.count {
         return past_item(head, c, n);
@@ -119,7 +119,7 @@ fn past_words(head: &[u64], r: Run, c: Cursor, n: usize) -> Cursor
 // Behind the item.
 fn past_item(head: &[u64], c: Cursor, n: usize) -> Cursor
     requires { PastReady head.now c n }
-    ensures { result ≡ pastItem head.now c n }
+    ensures { result ≡ past_item head.now c n }
 {
     Cursor {
         item: items::item_after(head, c.item),
@@ -130,8 +130,8 @@ fn past_item(head: &[u64], c: Cursor, n: usize) -> Cursor
 
 // Whether all is written.
 pub fn is_over(head: &[u64], sections: &[u64], c: Cursor) -> bool
-    requires { length head.now ≡ headNumbers }
-    ensures { result ≡ isEnd (item_at head.now sections.now c.item) }
+    requires { length head.now ≡ head_numbers }
+    ensures { result ≡ is_end (item_at head.now sections.now c.item) }
 {
     match items::item_at(head, sections, c.item) {
         Item::Segment(_) => false,

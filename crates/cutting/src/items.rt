@@ -1,8 +1,8 @@
 // What is to be written of a program, one item after another: the segment section's head, the words of the IBANK, those of the
 // DBANK; then for each table section its head and its words.
 ghost use Rattle.std.specs.Prelude.{◌≡◌, ◌<◌, ◌^◌, length};
-ghost use Rattle.source.specs.Source.{headNumbers};
-ghost use Rattle.cutting.specs.Cut.{ibankRun, dbankRun, sectionItem, item_at, itemAfter};
+ghost use Rattle.source.specs.Source.{head_numbers};
+ghost use Rattle.cutting.specs.Cut.{ibank_run, dbank_run, section_item, item_at, item_after};
 
 use crate::{Item, Run};
 use program::Segment;
@@ -13,7 +13,7 @@ const SECTIONS: usize = 3;
 
 // Item number k.
 pub fn item_at(head: &[u64], sections: &[u64], k: usize) -> Item
-    requires { length head.now ≡ headNumbers }
+    requires { length head.now ≡ head_numbers }
     ensures { result ≡ item_at head.now sections.now k }
 {
     if k == 0 {
@@ -33,8 +33,8 @@ pub fn item_at(head: &[u64], sections: &[u64], k: usize) -> Item
 
 // The IBANK's words end the segment section where the DBANK is empty.
 fn ibank_run(head: &[u64]) -> Run
-    requires { length head.now ≡ headNumbers }
-    ensures { result ≡ ibankRun head.now }
+    requires { length head.now ≡ head_numbers }
+    ensures { result ≡ ibank_run head.now }
 {
     let bank = source::ibank(head);
     let at = bank.at;
@@ -47,8 +47,8 @@ fn ibank_run(head: &[u64]) -> Run
 }
 
 fn dbank_run(head: &[u64]) -> Run
-    requires { length head.now ≡ headNumbers }
-    ensures { result ≡ dbankRun head.now }
+    requires { length head.now ≡ head_numbers }
+    ensures { result ≡ dbank_run head.now }
 {
     let bank = source::dbank(head);
     let at = bank.at;
@@ -62,7 +62,7 @@ fn dbank_run(head: &[u64]) -> Run
 
 // Section j's head, or its words; past the last nothing.
 fn section_item(sections: &[u64], j: usize, part: usize) -> Item
-    ensures { result ≡ sectionItem sections.now j part }
+    ensures { result ≡ section_item sections.now j part }
 {
     if sections.len() / 2 <= j {
         return Item::End;
@@ -81,8 +81,8 @@ fn section_item(sections: &[u64], j: usize, part: usize) -> Item
 
 // The number of the item after item k: an empty DBANK is passed over.
 pub fn item_after(head: &[u64], k: usize) -> usize
-    requires { (length head.now ≡ headNumbers) × (k < 2 ^ 32) }
-    ensures { result ≡ itemAfter head.now k }
+    requires { (length head.now ≡ head_numbers) × (k < 2 ^ 32) }
+    ensures { result ≡ item_after head.now k }
 {
     if k != 1 {
         return k + 1;

@@ -1,5 +1,5 @@
 -- The demands, proved: each has the type that specs/Demands.antt states for it.
-use Rattle.feed.proofs.Blocked.{block-laws}
+use Rattle.feed.proofs.Blocked.{block_laws}
 use Rattle.feed.proofs.Fed.{feed-sound}
 use Rattle.demands.specs.Demands.{Demand1One, Demand1Number, Demand1Unchanged, Demand1Broken, Demand1Sound, Demand1Blind}
 use Rattle.demands.specs.Demands.{Demand1Words, Demand1Place}
@@ -19,56 +19,56 @@ use Rattle.demands.proofs.Frames as frames
 use Rattle.demands.proofs.AnyOrder as any_order
 use Rattle.demands.proofs.Served as served
 
-pub demand-1-one : Demand1One
-demand-1-one = refused.one
+pub demand_1_one : Demand1One
+demand_1_one = refused.one
 
-pub demand-1-number : Demand1Number
-demand-1-number = refused.number
+pub demand_1_number : Demand1Number
+demand_1_number = refused.number
 
-pub demand-1-unchanged : Demand1Unchanged
-demand-1-unchanged = refused.unchanged
+pub demand_1_unchanged : Demand1Unchanged
+demand_1_unchanged = refused.unchanged
 
-pub demand-1-broken : Demand1Broken
-demand-1-broken = refused.broken
+pub demand_1_broken : Demand1Broken
+demand_1_broken = refused.broken
 
-pub demand-1-place : Demand1Place
-demand-1-place = refused.place
+pub demand_1_place : Demand1Place
+demand_1_place = refused.place
 
-pub demand-1-sound : Demand1Sound
-demand-1-sound = ready.sound-kept
+pub demand_1_sound : Demand1Sound
+demand_1_sound = ready.sound-kept
 
-pub demand-1-blind : Demand1Blind
-demand-1-blind = blind.blind
+pub demand_1_blind : Demand1Blind
+demand_1_blind = blind.blind
 
-pub demand-1-words : Demand1Words
-demand-1-words = ready.words-stored
+pub demand_1_words : Demand1Words
+demand_1_words = ready.words_stored
 
-pub demand-2 : Demand2
-demand-2 = completed.demand-2
+pub demand_2 : Demand2
+demand_2 = completed.demand_2
 
-pub demand-2-zeros : Demand2Zeros
-demand-2-zeros = completed.demand-2-zeros
+pub demand_2_zeros : Demand2Zeros
+demand_2_zeros = completed.demand_2_zeros
 
-pub demand-2-start : Demand2Start
-demand-2-start = starting.demand-2-start
+pub demand_2_start : Demand2Start
+demand_2_start = starting.demand_2_start
 
-pub demand-2-alone : Demand2Alone
-demand-2-alone = alone.demand-2-alone
+pub demand_2_alone : Demand2Alone
+demand_2_alone = alone.demand_2_alone
 
-pub demand-2-area : Demand2Area
-demand-2-area = completed.demand-2-area
+pub demand_2_area : Demand2Area
+demand_2_area = completed.demand_2_area
 
-pub demand-2-outside : Demand2Outside
-demand-2-outside = untouched.demand-2-outside block-laws
+pub demand_2_outside : Demand2Outside
+demand_2_outside = untouched.demand_2_outside block_laws
 
-pub demand-3-orders : Demand3Orders
-demand-3-orders = frames.demand-3-orders block-laws feed-sound
+pub demand_3_orders : Demand3Orders
+demand_3_orders = frames.demand_3_orders block_laws feed-sound
 
-pub demand-3-turns : Demand3Turns
-demand-3-turns = frames.demand-3-turns block-laws feed-sound
+pub demand_3_turns : Demand3Turns
+demand_3_turns = frames.demand_3_turns block_laws feed-sound
 
-pub demand-3-images : Demand3Images
-demand-3-images = any_order.demand-3-images demand-2 demand-3-orders
+pub demand_3_images : Demand3Images
+demand_3_images = any_order.demand_3_images demand_2 demand_3_orders
 
-pub demand-3-rooms : Demand3Rooms
-demand-3-rooms = served.demand-3-rooms
+pub demand_3_rooms : Demand3Rooms
+demand_3_rooms = served.demand_3_rooms

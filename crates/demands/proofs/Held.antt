@@ -7,59 +7,59 @@ use mathlib.Core.List.{List}
 use native.Mathlib.Omega.{arith}
 use lib.ListN.{get_or-eq_default}
 use borrow.Author.Tests.{ne_eqb}
-use Rattle.word.specs.Limits.{placeCount}
+use Rattle.word.specs.Limits.{place_count}
 use Rattle.word.specs.Runs.{Apart}
 use Rattle.word.specs.declared.Area.{Area}
 use Rattle.word.proofs.Cases.{by-lt}
-use Rattle.word.proofs.Says.{says-apart}
-use Rattle.layout.specs.Layout.{coreLength, place_in, holderIn, holderOf, own_of, stageIn, holds}
-use Rattle.layout.proofs.Places.{holder-at, holds-holder}
-use Rattle.desk.specs.Sound.{areasApart, sound}
-use Rattle.desk.proofs.Facts.{sound-says, sound-long}
-use Rattle.feed.specs.Feed.{loadIn}
+use Rattle.word.proofs.Says.{says_apart}
+use Rattle.layout.specs.Layout.{core_length, place_in, holder_in, holder_of, own_of, stage_in, holds}
+use Rattle.layout.proofs.Places.{holder_at_lem, holds_holder}
+use Rattle.desk.specs.Sound.{areas_apart, sound}
+use Rattle.desk.proofs.Facts.{sound_says, sound-long}
+use Rattle.feed.specs.Feed.{load_in}
 use Rattle.feed.proofs.Laws.{FitToFeed}
 use Rattle.feed.proofs.Held as feeding
 
-abbrev pub areaOf : List ℕ → Area
-areaOf l = (own_of l).given.area
+abbrev pub area_of : List ℕ → Area
+area_of l = (own_of l).given.area
 
 -- what the test of the holder has shown
-pub held_by : (d : List ℕ) (r p : ℕ) → holds d r p ≡ true → holderOf (place_in d p) ≡ r + 1
-held_by d r p q = sym (holder-at d p) ∙ holds-holder d r p q
+pub held_by_lem : (d : List ℕ) (r p : ℕ) → holds d r p ≡ true → holder_of (place_in d p) ≡ r + 1
+held_by_lem d r p q = sym (holder_at_lem d p) ∙ holds_holder d r p q
 
 module _ (d : List ℕ) (s : sound d ≡ true) where
-  pub free-past : (p : ℕ) → placeCount ≤ p → holderOf (place_in d p) ≡ 0
-  free-past p h = sym (holder-at d p) ∙ get_or-eq_default d 0 (omega (arith, sound-long d s))
+  pub free_past : (p : ℕ) → place_count ≤ p → holder_of (place_in d p) ≡ 0
+  free_past p h = sym (holder_at_lem d p) ∙ get_or-eq_default d 0 (omega (arith, sound-long d s))
 
-  module _ (p : ℕ) (held : holderOf (place_in d p) ≡ 0 → ⊥) where
-    pub held_place : p < placeCount
-    held_place = by-lt p 12 (λ h. h) (λ h. absurd (held (free-past p h)))
+  module _ (p : ℕ) (held : holder_of (place_in d p) ≡ 0 → ⊥) where
+    pub held_place : p < place_count
+    held_place = by-lt p 12 (λ h. h) (λ h. absurd (held (free_past p h)))
 
-    at-holder : holderIn d p ≡ 0 → ⊥
-    at-holder z = held (sym (holder-at d p) ∙ z)
+    at_holder : holder_in d p ≡ 0 → ⊥
+    at_holder z = held (sym (holder_at_lem d p) ∙ z)
 
-    pub held-inside : (areaOf (place_in d p)).at.0 + (areaOf (place_in d p)).size ≤ coreLength d
-    unfolding loadIn
-    held-inside = feeding.held-inside d s p held_place at-holder
+    pub held-inside : (area_of (place_in d p)).at.0 + (area_of (place_in d p)).size ≤ core_length d
+    unfolding load_in
+    held-inside = feeding.held-inside d s p held_place at_holder
 
-    pub held-fit : FitToFeed (loadIn (place_in d p)) (stageIn (place_in d p))
-    held-fit = feeding.held-fit d s p held_place at-holder
+    pub held_fit : FitToFeed (load_in (place_in d p)) (stage_in (place_in d p))
+    held_fit = feeding.held_fit d s p held_place at_holder
 
 -- ---- two that are held share no word
 abbrev ApartAreas : Area → Area → Type 0
 ApartAreas a b = Apart a.at.0 a.size b.at.0 b.size
 
-apart-says : (l k : List ℕ) → areasApart l k ≡ true → (holderOf l ≡ 0 → ⊥) → (holderOf k ≡ 0 → ⊥) → ApartAreas (areaOf l) (areaOf k)
-unfolding areasApart
-apart-says l k q h g =
-    (says-apart (areaOf l).at.0 (areaOf l).size (areaOf k).at.0 (areaOf k).size).fact
-    (rw (ne_eqb (holderOf l) 0 h, ne_eqb (holderOf k) 0 g) at q)
+apart_says : (l k : List ℕ) → areas_apart l k ≡ true → (holder_of l ≡ 0 → ⊥) → (holder_of k ≡ 0 → ⊥) → ApartAreas (area_of l) (area_of k)
+unfolding areas_apart
+apart_says l k q h g =
+    (says_apart (area_of l).at.0 (area_of l).size (area_of k).at.0 (area_of k).size).fact
+    (rw (ne_eqb (holder_of l) 0 h, ne_eqb (holder_of k) 0 g) at q)
 
-pub held-apart : (d : List ℕ) → sound d ≡ true → (p q : ℕ) → (p ≡ q → ⊥) → (holderOf (place_in d p) ≡ 0 → ⊥)
-    → (holderOf (place_in d q) ≡ 0 → ⊥)
-    → ApartAreas (areaOf (place_in d p)) (areaOf (place_in d q))
+pub held-apart : (d : List ℕ) → sound d ≡ true → (p q : ℕ) → (p ≡ q → ⊥) → (holder_of (place_in d p) ≡ 0 → ⊥)
+    → (holder_of (place_in d q) ≡ 0 → ⊥)
+    → ApartAreas (area_of (place_in d p)) (area_of (place_in d q))
 held-apart d s p q n h g =
-    let two = ((sound-says d).fact s).two in
+    let two = ((sound_says d).fact s).two in
     by-lt p q
-    (λ l. apart-says (place_in d p) (place_in d q) (two p q l (held_place d s q g)) h g)
-    (λ l i a b x y. apart-says (place_in d q) (place_in d p) (two q p (omega arith) (held_place d s p h)) g h i x y a b)
+    (λ l. apart_says (place_in d p) (place_in d q) (two p q l (held_place d s q g)) h g)
+    (λ l i a b x y. apart_says (place_in d q) (place_in d p) (two q p (omega arith) (held_place d s p h)) g h i x y a b)

@@ -7,20 +7,20 @@ use native.Mathlib.Omega.{arith}
 use lib.ListN.{length, get_or, drop}
 use lib.Dec.{eqb, ltb}
 use borrow.Author.Tests.{eqb-true, eqb-false, ltb-true, ltb-false}
-use Rattle.program.specs.Sections.{lastWord}
+use Rattle.program.specs.Sections.{last_word}
 use Rattle.word.specs.Lists.{every, range}
 use Rattle.word.proofs.Cases.{when, and_left, and_right}
-use Rattle.block.specs.Records.{ofRecord}
+use Rattle.block.specs.Records.{of_record}
 use Rattle.label.specs.declared.Label.{Label as LabelWords}
 use Rattle.label.specs.declared.LabelRead.{LabelRead}
 use Rattle.label.specs.declared.LabelRead.TheVariants.{Good as label-read, Bad as no_label}
-use Rattle.label.specs.Label.{label_of, channelCount, ioCount}
-use Rattle.modification.specs.Assignments.{assignmentsFit}
-use Rattle.modification.specs.Entries.{entryBlocks}
+use Rattle.label.specs.Label.{label_of, channel_count, io_count}
+use Rattle.modification.specs.Assignments.{assignments_fit}
+use Rattle.modification.specs.Entries.{entry_blocks}
 use Rattle.program.specs.declared.Bank.{Bank}
 use Rattle.program.specs.Pieces.{Piece}
-use Rattle.program.specs.Start.{start_of, inBank}
-use Rattle.lists.specs.Obey.{tableInside}
+use Rattle.program.specs.Start.{start_of, in_bank}
+use Rattle.lists.specs.Obey.{table_inside}
 use Rattle.group.specs.declared.Section.{Section}
 use Rattle.stage.specs.declared.LabelCounts.{LabelCounts}
 use Rattle.stage.specs.declared.Due.{Due}
@@ -29,23 +29,23 @@ use Rattle.stage.specs.declared.Stage.{Stage}
 use Rattle.stage.specs.declared.Stage.TheVariants.{Label, Entry, Program, Termination, Complete, Broken}
 use Rattle.stage.specs.declared.Step.{Step}
 use Rattle.stage.specs.declared.Step.TheVariants.{More, Done, Refused}
-use Rattle.stage.specs.Record.{recordDue, is_over}
-use Rattle.records.specs.Label.{labelCountsOf, afterLabel, withLabel, labelStep}
-use Rattle.records.specs.Entries.{entriesFit, afterEntries, entryStep}
-use Rattle.records.specs.Termination.{terminationStep}
+use Rattle.stage.specs.Record.{record_due, is_over}
+use Rattle.records.specs.Label.{label_counts_of, after_label, with_label, label_step}
+use Rattle.records.specs.Entries.{entries_fit, after_entries, entry_step}
+use Rattle.records.specs.Termination.{termination_step}
 use Rattle.lists.specs.Load.{Load}
-use Rattle.sections.specs.Program.{StepOutcome, programStep}
-use Rattle.sections.proofs.Blocks.{program-not-done}
-use Rattle.feed.specs.Block.{storesNothing, dueStep, blockStep}
-use Rattle.demands.specs.Image.{pieces, noSection, storesFrom, storesBeyond, stores_of, image_of}
+use Rattle.sections.specs.Program.{StepOutcome, program_step}
+use Rattle.sections.proofs.Blocks.{program-not_done}
+use Rattle.feed.specs.Block.{stores_nothing, due_step, block_step}
+use Rattle.demands.specs.Image.{pieces, no_section, stores_from, stores_beyond, stores_of, image_of}
 use Rattle.demands.specs.Taking.{TakesBy, Takes}
-use Rattle.demands.proofs.Stores.{storeAll, AllInside, stores-image}
+use Rattle.demands.proofs.Stores.{store_all, AllInside, stores_image}
 use Rattle.demands.proofs.FromHeads.{no_stores}
-use Rattle.demands.proofs.Running.{Comes, given, Awaits, Reads, program-leads}
+use Rattle.demands.proofs.Running.{Comes, given, Awaits, Reads, program_leads}
 
 -- a list without its first element
-drop-one : {A : Type 0} (n : ℕ) (b : A) (bs : List A) → drop (1 + n) (b ∷ bs) ≡ drop n bs
-drop-one n b bs = let e : 1 + n ≡ suc n = omega arith in rw e
+drop_one : {A : Type 0} (n : ℕ) (b : A) (bs : List A) → drop (1 + n) (b ∷ bs) ≡ drop n bs
+drop_one n b bs = let e : 1 + n ≡ suc n = omega arith in rw e
 
 module _ (x : Load) (after : List ℕ) where
   -- what a block's step leads to is taken, and then the blocks
@@ -53,86 +53,86 @@ module _ (x : Load) (after : List ℕ) where
   Then blocks o = TakesBy o.step (λ u. Takes x u o.core blocks Complete after)
 
   -- a load that is complete takes no more
-  nothing-more : (core : List ℕ) (blocks : List (List ℕ)) → Takes x Complete core blocks Complete after → core ≡ after
+  nothing_more : (core : List ℕ) (blocks : List (List ℕ)) → Takes x Complete core blocks Complete after → core ≡ after
   unfolding Takes is_over
-  nothing-more core [] h = h.1
-  nothing-more core (block ∷ blocks) h = let z : true ≡ false = h.0 in let y : ◌≡◌ {A = ℕ} 0 1 = cc in absurd (omega arith)
+  nothing_more core [] h = h.1
+  nothing_more core (block ∷ blocks) h = let z : true ≡ false = h.0 in let y : ◌≡◌ {A = ℕ} 0 1 = cc in absurd (omega arith)
 
   -- ---- program blocks, and the termination block
-  module _ (channels : ℕ) (tables : every (tableInside x.area) x.tables ≡ true) where
+  module _ (channels : ℕ) (tables : every (table_inside x.area) x.tables ≡ true) where
     module _ (block : List ℕ) (blocks : List (List ℕ)) (core : List ℕ)
         (ih : (s : Stage) (core' : List ℕ) → Takes x s core' blocks Complete after
         → Reads x channels after s core' (pieces blocks)) where
-      program-by : (c : LabelCounts) (due : Due) (r : Step) → (programStep x c due block core).step ≡ r
-          → TakesBy r (λ u. Takes x u (programStep x c due block core).core blocks Complete after)
+      program_by : (c : LabelCounts) (due : Due) (r : Step) → (program_step x c due block core).step ≡ r
+          → TakesBy r (λ u. Takes x u (program_step x c due block core).core blocks Complete after)
           → Reads x channels after (Program c due) core (pieces (block ∷ blocks))
-      unfolding programStep pieces
-      program-by c due (More t) e h =
-          program-leads x channels tables block t (pieces blocks) after lastWord c due 1 core e (ih t _ h)
-      program-by c due (Done a) e h = absurd (program-not-done x block c due core a e)
-      program-by c due (Refused f) e h = absurd h
+      unfolding program_step pieces
+      program_by c due (More t) e h =
+          program_leads x channels tables block t (pieces blocks) after last_word c due 1 core e (ih t _ h)
+      program_by c due (Done a) e h = absurd (program-not_done x block c due core a e)
+      program_by c due (Refused f) e h = absurd h
 
-      program-run : (c : LabelCounts) (due : Due) → Then blocks (programStep x c due block core)
+      program_run : (c : LabelCounts) (due : Due) → Then blocks (program_step x c due block core)
           → Reads x channels after (Program c due) core (pieces (block ∷ blocks))
-      unfolding programStep
-      program-run c due h = program-by c due (programStep x c due block core).step refl h
+      unfolding program_step
+      program_run c due h = program_by c due (program_step x c due block core).step refl h
 
       over : (section : Section) (ps : List Piece) → Takes x Complete core blocks Complete after
-          → Comes x.area core (storesFrom (given x channels) 0 section ps) after
-      unfolding storeAll AllInside
+          → Comes x.area core (stores_from (given x channels) 0 section ps) after
+      unfolding store_all AllInside
       over section ps h =
-          rw (no_stores (given x channels) section ps) (record { last = sym (nothing-more core blocks h); inside = tt })
+          rw (no_stores (given x channels) section ps) (record { last = sym (nothing_more core blocks h); inside = tt })
 
-      termination-run : (b : Bank) → Then blocks (storesNothing (terminationStep x.area b block) core)
+      termination_run : (b : Bank) → Then blocks (stores_nothing (termination_step x.area b block) core)
           → Reads x channels after (Termination b) core (pieces (block ∷ blocks))
-      unfolding terminationStep
-      termination-run b =
-          when (λ (r : Step). Then blocks (storesNothing r core)
+      unfolding termination_step
+      termination_run b =
+          when (λ (r : Step). Then blocks (stores_nothing r core)
           → Reads x channels after (Termination b) core (pieces (block ∷ blocks)))
-          (inBank b (start_of block))
+          (in_bank b (start_of block))
           (λ _ h section st. over section (pieces (block ∷ blocks)) h)
           (λ _ h. absurd h)
 
-      due-run : (s : Stage) → Then blocks (dueStep x s block core) → Reads x channels after s core (pieces (block ∷ blocks))
-      unfolding dueStep
-      due-run Label h section st = absurd st
-      due-run (Entry c exact b) h section st = absurd st
-      due-run (Program c due) h section st = program-run c due h section st
-      due-run (Termination b) h section st = termination-run b h section st
-      due-run Complete h section st = absurd st
-      due-run Broken h section st = absurd st
+      due_run : (s : Stage) → Then blocks (due_step x s block core) → Reads x channels after s core (pieces (block ∷ blocks))
+      unfolding due_step
+      due_run Label h section st = absurd st
+      due_run (Entry c exact b) h section st = absurd st
+      due_run (Program c due) h section st = program_run c due h section st
+      due_run (Termination b) h section st = termination_run b h section st
+      due_run Complete h section st = absurd st
+      due_run Broken h section st = absurd st
 
     run : (s : Stage) (core : List ℕ) (blocks : List (List ℕ)) → Takes x s core blocks Complete after
         → Reads x channels after s core (pieces blocks)
-    unfolding Takes blockStep
+    unfolding Takes block_step
     run s core [] h = λ section st. let z : Awaits x channels Complete section = rw h.0 at st in absurd z
     run s core (block ∷ blocks) h =
         when (λ (o : StepOutcome). Then blocks o → Reads x channels after s core (pieces (block ∷ blocks)))
-        (ofRecord (recordDue s) block)
-        (λ _ k. due-run block blocks core (λ u core' g. run u core' blocks g) s k)
+        (of_record (record_due s) block)
+        (λ _ k. due_run block blocks core (λ u core' g. run u core' blocks g) s k)
         (λ _ k. absurd k)
         h.1
 
     -- ---- modification blocks: from block b on there are as many as are still to come
     abbrev many : ℕ
-    many = entryBlocks (length x.ios) (length x.tables)
+    many = entry_blocks (length x.ios) (length x.tables)
 
     module _ (c : LabelCounts) (exact : Bool) where
       abbrev Left : ℕ → List ℕ → List (List ℕ) → Type 0
       Left n core blocks = Reads x channels after (Program c segment-due) core (pieces (drop n blocks))
 
-      entry-run : (b : ℕ) (core : List ℕ) (blocks : List (List ℕ)) → b < many → Takes x (Entry c exact b) core blocks Complete after
+      entry_run : (b : ℕ) (core : List ℕ) (blocks : List (List ℕ)) → b < many → Takes x (Entry c exact b) core blocks Complete after
           → Left (many - b) core blocks
-      unfolding Takes blockStep dueStep entryStep afterEntries
-      entry-run b core [] l h = let e : Entry c exact b ≡ Complete = h.0 in let z : ◌≡◌ {A = ℕ} 0 1 = cc in absurd (omega arith)
-      entry-run b core (block ∷ blocks) l h =
+      unfolding Takes block_step due_step entry_step after_entries
+      entry_run b core [] l h = let e : Entry c exact b ≡ Complete = h.0 in let z : ◌≡◌ {A = ℕ} 0 1 = cc in absurd (omega arith)
+      entry_run b core (block ∷ blocks) l h =
           when (λ (o : StepOutcome). Then blocks o → Left (many - b) core (block ∷ blocks))
-          (ofRecord (recordDue (Entry c exact b)) block)
-          (λ _. when (λ (r : Step). Then blocks (storesNothing r core) → Left (many - b) core (block ∷ blocks))
-          (entriesFit (length x.ios) x.tables exact b block)
+          (of_record (record_due (Entry c exact b)) block)
+          (λ _. when (λ (r : Step). Then blocks (stores_nothing r core) → Left (many - b) core (block ∷ blocks))
+          (entries_fit (length x.ios) x.tables exact b block)
           (λ _. when (λ (s : Stage). Takes x s core blocks Complete after → Left (many - b) core (block ∷ blocks))
           (ltb (b + 1) many)
-          (λ q k. rw (next (ltb-true (b + 1) many q)) (entry-run (b + 1) core blocks (ltb-true (b + 1) many q) k))
+          (λ q k. rw (next (ltb-true (b + 1) many q)) (entry_run (b + 1) core blocks (ltb-true (b + 1) many q) k))
           (λ q k. rw (last (ltb-false (b + 1) many q)) (run (Program c segment-due) core blocks k)))
           (λ _ k. absurd k))
           (λ _ k. absurd k)
@@ -145,60 +145,60 @@ module _ (x : Load) (after : List ℕ) where
           last k = omega arith
 
   -- ---- the label
-  module _ (tables : every (tableInside x.area) x.tables ≡ true) (core block : List ℕ) (blocks : List (List ℕ)) where
+  module _ (tables : every (table_inside x.area) x.tables ≡ true) (core block : List ℕ) (blocks : List (List ℕ)) where
     abbrev Whole : LabelRead → Type 0
-    Whole r = Comes x.area core (storesBeyond x.area x.tables x.ios r (block ∷ blocks)) after
+    Whole r = Comes x.area core (stores_beyond x.area x.tables x.ios r (block ∷ blocks)) after
 
     -- the lists have as many entries as the label says
-    beyond : (l : LabelWords) → assignmentsFit l x.ios (length x.tables) ≡ true
-        → Reads x (channelCount l) after (Program (labelCountsOf l) segment-due) core
-        (pieces (drop (many (channelCount l) tables) blocks)) → Whole (label-read l)
-    unfolding assignmentsFit storesBeyond
+    beyond : (l : LabelWords) → assignments_fit l x.ios (length x.tables) ≡ true
+        → Reads x (channel_count l) after (Program (label_counts_of l) segment-due) core
+        (pieces (drop (many (channel_count l) tables) blocks)) → Whole (label-read l)
+    unfolding assignments_fit stores_beyond
     beyond l q h =
-        let a : length x.ios ≡ ioCount l = eqb-true _ _ (and_left (eqb (length x.ios) (ioCount l)) _ q) in
+        let a : length x.ios ≡ io_count l = eqb-true _ _ (and_left (eqb (length x.ios) (io_count l)) _ q) in
         let b : length x.tables ≡ l.tables =
-        eqb-true _ _ (and_left (eqb (length x.tables) l.tables) _ (and_right (eqb (length x.ios) (ioCount l)) _ q)) in
+        eqb-true _ _ (and_left (eqb (length x.tables) l.tables) _ (and_right (eqb (length x.ios) (io_count l)) _ q)) in
         let e : 1 + l.sections ≡ suc l.sections = omega arith in
-        rw (← a, ← b, e, drop-one (many (channelCount l) tables) block blocks) (h noSection refl)
+        rw (← a, ← b, e, drop_one (many (channel_count l) tables) block blocks) (h no_section refl)
 
-    label-by : (l : LabelWords) → assignmentsFit l x.ios (length x.tables) ≡ true
-        → Takes x (afterLabel (length x.ios) (length x.tables) l) core blocks Complete after → Whole (label-read l)
-    unfolding afterLabel
-    label-by l f =
-        when (λ (s : Stage). Takes x s core blocks Complete after → Whole (label-read l)) (eqb (many (channelCount l) tables) 0)
-        (λ q k. beyond l f (rw (eqb-true (many (channelCount l) tables) 0 q)
-        (run (channelCount l) tables (Program (labelCountsOf l) segment-due) core blocks k)))
-        (λ q k. let e : many (channelCount l) tables - 0 ≡ many (channelCount l) tables = omega arith in
-        beyond l f (rw e at (entry-run (channelCount l) tables (labelCountsOf l) l.exact 0 core blocks (some q) k)))
+    label_by : (l : LabelWords) → assignments_fit l x.ios (length x.tables) ≡ true
+        → Takes x (after_label (length x.ios) (length x.tables) l) core blocks Complete after → Whole (label-read l)
+    unfolding after_label
+    label_by l f =
+        when (λ (s : Stage). Takes x s core blocks Complete after → Whole (label-read l)) (eqb (many (channel_count l) tables) 0)
+        (λ q k. beyond l f (rw (eqb-true (many (channel_count l) tables) 0 q)
+        (run (channel_count l) tables (Program (label_counts_of l) segment-due) core blocks k)))
+        (λ q k. let e : many (channel_count l) tables - 0 ≡ many (channel_count l) tables = omega arith in
+        beyond l f (rw e at (entry_run (channel_count l) tables (label_counts_of l) l.exact 0 core blocks (some q) k)))
       where
-        some : eqb (many (channelCount l) tables) 0 ≡ false → 0 < many (channelCount l) tables
-        some q = omega (arith, eqb-false (many (channelCount l) tables) 0 q)
+        some : eqb (many (channel_count l) tables) 0 ≡ false → 0 < many (channel_count l) tables
+        some q = omega (arith, eqb-false (many (channel_count l) tables) 0 q)
 
-    label-run : (r : LabelRead) → Then blocks (storesNothing (withLabel x.ios (length x.tables) r) core) → Whole r
-    unfolding withLabel
-    label-run (label-read l) =
-        when (λ (r : Step). Then blocks (storesNothing r core) → Whole (label-read l))
-        (assignmentsFit l x.ios (length x.tables))
-        (λ q k. label-by l q k)
+    label_run : (r : LabelRead) → Then blocks (stores_nothing (with_label x.ios (length x.tables) r) core) → Whole r
+    unfolding with_label
+    label_run (label-read l) =
+        when (λ (r : Step). Then blocks (stores_nothing r core) → Whole (label-read l))
+        (assignments_fit l x.ios (length x.tables))
+        (λ q k. label_by l q k)
         (λ _ k. absurd k)
-    label-run (no_label f) = λ k. absurd k
+    label_run (no_label f) = λ k. absurd k
 
-  pub file-comes : (core : List ℕ) (file : List (List ℕ)) → every (tableInside x.area) x.tables ≡ true
+  pub file_comes : (core : List ℕ) (file : List (List ℕ)) → every (table_inside x.area) x.tables ≡ true
       → Takes x Label core file Complete after
       → Comes x.area core (stores_of x.area x.tables x.ios file) after
-  unfolding Takes blockStep dueStep labelStep stores_of recordDue
-  file-comes core [] t h = let e : Label ≡ Complete = h.0 in let z : ◌≡◌ {A = ℕ} 0 1 = cc in absurd (omega arith)
-  file-comes core (block ∷ blocks) t h = label-run t core block blocks (label_of block) h.1
+  unfolding Takes block_step due_step label_step stores_of record_due
+  file_comes core [] t h = let e : Label ≡ Complete = h.0 in let z : ◌≡◌ {A = ℕ} 0 1 = cc in absurd (omega arith)
+  file_comes core (block ∷ blocks) t h = label_run t core block blocks (label_of block) h.1
 
 -- the image theorem for one load by itself
-pub image-is : (x : Load) (core after : List ℕ) (file : List (List ℕ))
+pub image_is : (x : Load) (core after : List ℕ) (file : List (List ℕ))
     → x.area.at.0 + x.area.size ≤ length core
-    → every (tableInside x.area) x.tables ≡ true
+    → every (table_inside x.area) x.tables ≡ true
     → ((k : ℕ) → k < x.area.size → get_or core (x.area.at.0 + k) 0 ≡ 0)
     → Takes x Label core file Complete after
     → range after x.area.at.0 x.area.size ≡ image_of x.area x.tables x.ios file
 unfolding image_of
-image-is x core after file h t z k =
-    let c = file-comes x after core file t k in
+image_is x core after file h t z k =
+    let c = file_comes x after core file t k in
     ap (λ (l : List ℕ). range l x.area.at.0 x.area.size) c.last
-    ∙ stores-image x.area (stores_of x.area x.tables x.ios file) core h c.inside z
+    ∙ stores_image x.area (stores_of x.area x.tables x.ios file) core h c.inside z

@@ -8,7 +8,7 @@ use native.Mathlib.Omega.{arith}
 use lib.ListN.{length}
 use lib.Dec.{eqb}
 use borrow.Author.Tests.{eq-eqb}
-use Rattle.word.specs.Limits.{placeCount}
+use Rattle.word.specs.Limits.{place_count}
 use Rattle.word.specs.Lists.{every, range}
 use Rattle.word.specs.declared.Absolute.{Absolute}
 use Rattle.stage.specs.declared.Stage.{Stage}
@@ -18,26 +18,26 @@ use Rattle.stage.specs.declared.Step.TheVariants.{More as step-more, Done as ste
 use Rattle.stage.specs.Record.{is_over}
 use Rattle.lists.specs.Load.{Load}
 use Rattle.layout.specs.declared.Place.{Place}
-use Rattle.layout.specs.Layout.{place_in, holderOf, own_of, stageIn}
+use Rattle.layout.specs.Layout.{place_in, holder_of, own_of, stage_in}
 use Rattle.calls.specs.declared.Answer.TheVariants.{More, Done}
 use Rattle.calls.specs.Outcome.{Outcome}
-use Rattle.feed.specs.Block.{blockStep}
-use Rattle.feed.specs.Feed.{loadIn, staged, settled_of, taken_of, feedOf}
-use Rattle.feed.proofs.Blocked.{block-laws}
+use Rattle.feed.specs.Block.{block_step}
+use Rattle.feed.specs.Feed.{load_in, staged, settled_of, taken_of, feed_of}
+use Rattle.feed.proofs.Blocked.{block_laws}
 use Rattle.group.proofs.Acts.{Alike}
 use Rattle.feed.proofs.Laws.{FitToFeed, Holds}
 use Rattle.demands.specs.Orders.{run}
-use Rattle.demands.specs.History.{State, answerTo, call, Event, event, told, takenIn, taken, startsIn, starts, isGone}
+use Rattle.demands.specs.History.{State, answer_to, call, Event, event, told, taken_in, taken, starts_in, starts, is_gone}
 use Rattle.demands.specs.History.{harmless}
 use Rattle.demands.specs.History.Call.{Feed}
 use Rattle.demands.specs.History.Event.{Here}
 use Rattle.demands.specs.Taking.{Takes}
 use Rattle.demands.proofs.Prepared.{Prepared}
-use Rattle.demands.proofs.Held.{areaOf, held-inside, held-fit, held_place}
-use Rattle.demands.proofs.Views.{view, words-held, range_inside, alike-range, staged-own, staged-stage, staged-load}
-use Rattle.demands.proofs.Reach.{leftBy}
-use Rattle.demands.proofs.Ready.{event-gone, event-ready}
-use Rattle.demands.proofs.Feeds.{cond_same, place_of, all_head, all_tail, sort-event, Quiet, quiet}
+use Rattle.demands.proofs.Held.{area_of, held-inside, held_fit, held_place}
+use Rattle.demands.proofs.Views.{view, words_held, range_inside, alike_range, staged_own, staged-stage, staged-load}
+use Rattle.demands.proofs.Reach.{left_by}
+use Rattle.demands.proofs.Ready.{event_gone, event_ready}
+use Rattle.demands.proofs.Feeds.{cond_same, place_of, all_head, all_tail, sort_event, Quiet, quiet}
 
 -- ---- a load that is answered `done`: what it would take by itself, from waiting for g with the core as it is
 pub record Ends (x : Load) (g : Stage) (core : List ℕ) (file : List (List ℕ)) (s : State) : Type 0 where
@@ -48,166 +48,166 @@ pub record Ends (x : Load) (g : Stage) (core : List ℕ) (file : List (List ℕ)
 module _ (r p : ℕ) (x : Load) (a : Absolute) (others : List Absolute) where
   abbrev Life : List Event → Type 0
   Life es =
-      (s : State) (core : List ℕ) (g : Stage) → Prepared s → holderOf (place_in s.desk p) ≡ r + 1
-      → loadIn (place_in s.desk p) ≡ x → stageIn (place_in s.desk p) ≡ g → Holds x core → Alike x.area s.core core
-      → every (harmless r p x.area) es ≡ true → isGone r p (told es s) ≡ false → starts r p (told es s) ≡ a ∷ others
+      (s : State) (core : List ℕ) (g : Stage) → Prepared s → holder_of (place_in s.desk p) ≡ r + 1
+      → load_in (place_in s.desk p) ≡ x → stage_in (place_in s.desk p) ≡ g → Holds x core → Alike x.area s.core core
+      → every (harmless r p x.area) es ≡ true → is_gone r p (told es s) ≡ false → starts r p (told es s) ≡ a ∷ others
       → Ends x g core (taken r p (told es s)) (run event es s)
 
   -- the block is taken
   module _ (es : List Event) (next : Life es) (s : State) (core : List ℕ) (g : Stage) (k : Prepared s)
-      (h : holderOf (place_in s.desk p) ≡ r + 1)
-      (lx : loadIn (place_in s.desk p) ≡ x) (sg : stageIn (place_in s.desk p) ≡ g) (hc : Holds x core)
+      (h : holder_of (place_in s.desk p) ≡ r + 1)
+      (lx : load_in (place_in s.desk p) ≡ x) (sg : stage_in (place_in s.desk p) ≡ g) (hc : Holds x core)
       (al : Alike x.area s.core core)
       (block : List ℕ) (over : is_over g ≡ false) (safe : every (harmless r p x.area) es ≡ true)
-      (fed : feedOf s.desk s.core r p block ≡ taken_of s.desk s.core p (loadIn (place_in s.desk p))
-      (stageIn (place_in s.desk p)) block) where
-    abbrev held : holderOf (place_in s.desk p) ≡ 0 → ⊥
+      (fed : feed_of s.desk s.core r p block ≡ taken_of s.desk s.core p (load_in (place_in s.desk p))
+      (stage_in (place_in s.desk p)) block) where
+    abbrev held : holder_of (place_in s.desk p) ≡ 0 → ⊥
     held z = omega (arith, h)
 
-    in_p : p < placeCount
+    in_p : p < place_count
     in_p = held_place s.desk k.desk p held
 
     fit : FitToFeed x g
-    fit = rw (lx, sg) at (held-fit s.desk k.desk p held)
+    fit = rw (lx, sg) at (held_fit s.desk k.desk p held)
 
-    area-is : areaOf (place_in s.desk p) ≡ x.area
-    unfolding loadIn
-    area-is = ap (λ (y : Load). y.area) lx
+    area_is : area_of (place_in s.desk p) ≡ x.area
+    unfolding load_in
+    area_is = ap (λ (y : Load). y.area) lx
 
     inside : Holds x s.core
-    inside = rw (← k.core, area-is) at (held-inside s.desk k.desk p held)
+    inside = rw (← k.core, area_is) at (held-inside s.desk k.desk p held)
 
     abbrev after : List ℕ
-    after = (blockStep x g block s.core).core
+    after = (block_step x g block s.core).core
 
     abbrev alone : List ℕ
-    alone = (blockStep x g block core).core
+    alone = (block_step x g block core).core
 
     after-long : length after ≡ length s.core
-    after-long = block-laws.long x g block s.core fit inside
+    after-long = block_laws.long x g block s.core fit inside
 
     alone-long : length alone ≡ length core
-    alone-long = block-laws.long x g block core fit hc
+    alone-long = block_laws.long x g block core fit hc
 
-    after-alike : Alike x.area after alone
-    after-alike = block-laws.same-words x g block s.core core fit inside hc al
+    after_alike : Alike x.area after alone
+    after_alike = block_laws.same_words x g block s.core core fit inside hc al
 
     alone-holds : Holds x alone
     alone-holds = rw alone-long hc
 
-    words-alike : range after x.area.at.0 x.area.size ≡ range alone x.area.at.0 x.area.size
-    words-alike = range_inside after alone _ _ (rw after-long inside) alone-holds after-alike
+    words_alike : range after x.area.at.0 x.area.size ≡ range alone x.area.at.0 x.area.size
+    words_alike = range_inside after alone _ _ (rw after-long inside) alone-holds after_alike
 
-    out : feedOf s.desk s.core r p block
-        ≡ settled_of s.desk s.core p x.area (blockStep x g block s.core).step after
+    out : feed_of s.desk s.core r p block
+        ≡ settled_of s.desk s.core p x.area (block_step x g block s.core).step after
     unfolding taken_of
     out = fed ∙ rw (lx, sg)
 
     -- with what the feed answered and left
     abbrev Ending : Outcome → Type 0
     Ending o =
-        isGone r p (told es (leftBy o)) ≡ false
-        → startsIn r p (Feed r p block) o.answer (starts r p (told es (leftBy o))) ≡ a ∷ others
-        → Ends x g core (takenIn r p (Feed r p block) o.answer (taken r p (told es (leftBy o))))
-        (run event es (leftBy o))
+        is_gone r p (told es (left_by o)) ≡ false
+        → starts_in r p (Feed r p block) o.answer (starts r p (told es (left_by o))) ≡ a ∷ others
+        → Ends x g core (taken_in r p (Feed r p block) o.answer (taken r p (told es (left_by o))))
+        (run event es (left_by o))
 
     -- the place with another stage, and any core
     module _ (t : Stage) (m : List ℕ) (ready : Prepared (record { desk = staged s.desk p t; core = m })) where
       abbrev n : State
       n = record { desk = staged s.desk p t; core = m }
 
-      holder-n : holderOf (place_in (staged s.desk p t) p) ≡ r + 1
+      holder_n : holder_of (place_in (staged s.desk p t) p) ≡ r + 1
       unfolding own_of
-      holder-n = ap (λ (o : Place). o.holder) (staged-own s.desk k.desk p in_p t) ∙ h
+      holder_n = ap (λ (o : Place). o.holder) (staged_own s.desk k.desk p in_p t) ∙ h
 
-      area-n : areaOf (place_in (staged s.desk p t) p) ≡ x.area
-      area-n = ap (λ (o : Place). o.given.area) (staged-own s.desk k.desk p in_p t) ∙ area-is
+      area-n : area_of (place_in (staged s.desk p t) p) ≡ x.area
+      area-n = ap (λ (o : Place). o.given.area) (staged_own s.desk k.desk p in_p t) ∙ area_is
 
-      quiet-n : is_over t ≡ true → isGone r p (told es n) ≡ false → Quiet r p es n
-      quiet-n o q = quiet r p x.area es n ready holder-n area-n (rw (staged-stage s.desk k.desk p in_p t) o) safe q
+      quiet_n : is_over t ≡ true → is_gone r p (told es n) ≡ false → Quiet r p es n
+      quiet_n o q = quiet r p x.area es n ready holder_n area-n (rw (staged-stage s.desk k.desk p in_p t) o) safe q
 
-      next-n : Holds x alone → Alike x.area m alone → isGone r p (told es n) ≡ false → starts r p (told es n) ≡ a ∷ others
+      next_n : Holds x alone → Alike x.area m alone → is_gone r p (told es n) ≡ false → starts r p (told es n) ≡ a ∷ others
           → Ends x t alone (taken r p (told es n)) (run event es n)
-      next-n h z =
-          next n alone t ready holder-n (staged-load s.desk k.desk p in_p t ∙ lx)
+      next_n h z =
+          next n alone t ready holder_n (staged-load s.desk k.desk p in_p t ∙ lx)
           (staged-stage s.desk k.desk p in_p t) h z safe
 
-      words-n : Quiet r p es n
+      words_n : Quiet r p es n
           → range (run event es n).core x.area.at.0 x.area.size ≡ range m x.area.at.0 x.area.size
-      words-n q = rw area-n at (words-held p n (run event es n) q.same (λ z. omega (arith, holder-n)))
+      words_n q = rw area-n at (words_held p n (run event es n) q.same (λ z. omega (arith, holder_n)))
 
     abbrev Says : Step → Type 0
-    Says g' = (blockStep x g block s.core).step ≡ g'
+    Says g' = (block_step x g block s.core).step ≡ g'
 
-    alone-says : (g' : Step) → Says g' → (blockStep x g block core).step ≡ g'
-    alone-says g' e = block-laws.same_step x g block core s.core fit hc inside ∙ e
+    alone_says : (g' : Step) → Says g' → (block_step x g block core).step ≡ g'
+    alone_says g' e = block_laws.same_step x g block core s.core fit hc inside ∙ e
 
-    more-ends : (t : Stage) (m : State) → Says (step-more t) → Ends x t alone (taken r p (told es m)) (run event es m)
-        → Ends x g core (takenIn r p (Feed r p block) More (taken r p (told es m))) (run event es m)
+    more_ends : (t : Stage) (m : State) → Says (step-more t) → Ends x t alone (taken r p (told es m)) (run event es m)
+        → Ends x g core (taken_in r p (Feed r p block) More (taken r p (told es m))) (run event es m)
     unfolding Takes
-    more-ends t m e y =
+    more_ends t m e y =
         rw (eq-eqb r r refl, eq-eqb p p refl) (record {
           left = y.left;
-          takes = (over, rw (alone-says (step-more t) e) y.takes);
+          takes = (over, rw (alone_says (step-more t) e) y.takes);
           area = y.area;
         })
 
-    done-ends : (b : Absolute) (m : State) → Says (step-done b) → taken r p (told es m) ≡ []
+    done_ends : (b : Absolute) (m : State) → Says (step-done b) → taken r p (told es m) ≡ []
         → range (run event es m).core x.area.at.0 x.area.size ≡ range after x.area.at.0 x.area.size
-        → Ends x g core (takenIn r p (Feed r p block) (Done b) (taken r p (told es m))) (run event es m)
+        → Ends x g core (taken_in r p (Feed r p block) (Done b) (taken r p (told es m))) (run event es m)
     unfolding Takes
-    done-ends b m e q w =
+    done_ends b m e q w =
         rw (eq-eqb r r refl, eq-eqb p p refl, q) (record {
           left = alone;
-          takes = (over, rw (alone-says (step-done b) e) (refl, refl));
-          area = w ∙ words-alike;
+          takes = (over, rw (alone_says (step-done b) e) (refl, refl));
+          area = w ∙ words_alike;
         })
 
-    ending : (g' : Step) → Says g' → Prepared (leftBy (settled_of s.desk s.core p x.area g' after))
+    ending : (g' : Step) → Says g' → Prepared (left_by (settled_of s.desk s.core p x.area g' after))
         → Ending (settled_of s.desk s.core p x.area g' after)
     unfolding settled_of
     ending (step-more t) e y q z =
-        more-ends t _ e (next-n t after y alone-holds after-alike q (sym (cond_same (eqb r r && eqb p p) _) ∙ z))
+        more_ends t _ e (next_n t after y alone-holds after_alike q (sym (cond_same (eqb r r && eqb p p) _) ∙ z))
     ending (step-done b) e y q z =
-        let n = quiet-n Complete after y (unfold is_over in refl) q in
-        done-ends b _ e n.none (words-n Complete after y n)
+        let n = quiet_n Complete after y (unfold is_over in refl) q in
+        done_ends b _ e n.none (words_n Complete after y n)
     ending (step-refused f) e y q z =
-        let n = quiet-n Broken _ y (unfold is_over in refl) q in
+        let n = quiet_n Broken _ y (unfold is_over in refl) q in
         absurd (omega (arith, ap length (sym n.no_start ∙ sym (cond_same (eqb r r && eqb p p) _) ∙ z)))
 
     -- the feed leaves the state ready
-    ready-after : Prepared (call (Feed r p block) s)
-    unfolding isGone event
-    ready-after = event-ready r p (Here (Feed r p block)) s [] k refl
+    ready_after : Prepared (call (Feed r p block) s)
+    unfolding is_gone event
+    ready_after = event_ready r p (Here (Feed r p block)) s [] k refl
 
-    fed-ends : isGone r p (told (Here (Feed r p block) ∷ es) s) ≡ false → starts r p (told (Here (Feed r p block) ∷ es) s) ≡ a
+    fed-ends : is_gone r p (told (Here (Feed r p block) ∷ es) s) ≡ false → starts r p (told (Here (Feed r p block) ∷ es) s) ≡ a
         ∷ others
         → Ends x g core (taken r p (told (Here (Feed r p block) ∷ es) s)) (run event (Here (Feed r p block) ∷ es) s)
-    unfolding told isGone starts taken run event call answerTo
-    fed-ends = subst Ending (sym out) (ending _ refl (subst (λ (o : Outcome). Prepared (leftBy o)) out ready-after))
+    unfolding told is_gone starts taken run event call answer_to
+    fed-ends = subst Ending (sym out) (ending _ refl (subst (λ (o : Outcome). Prepared (left_by o)) out ready_after))
 
   -- the area's words are as they were where the view is
-  kept-alike : (s t : State) (core : List ℕ) → view p t ≡ view p s → holderOf (place_in s.desk p) ≡ r + 1
-      → loadIn (place_in s.desk p) ≡ x → Alike x.area s.core core → Alike x.area t.core core
-  unfolding loadIn
-  kept-alike s t core v h lx al j b e =
-      let i : areaOf (place_in s.desk p) ≡ x.area = ap (λ (y : Load). y.area) lx in
-      alike-range t.core s.core _ _ (rw i at (words-held p s t v (λ z. omega (arith, h)))) j b e ∙ al j b e
+  kept_alike : (s t : State) (core : List ℕ) → view p t ≡ view p s → holder_of (place_in s.desk p) ≡ r + 1
+      → load_in (place_in s.desk p) ≡ x → Alike x.area s.core core → Alike x.area t.core core
+  unfolding load_in
+  kept_alike s t core v h lx al j b e =
+      let i : area_of (place_in s.desk p) ≡ x.area = ap (λ (y : Load). y.area) lx in
+      alike_range t.core s.core _ _ (rw i at (words_held p s t v (λ z. omega (arith, h)))) j b e ∙ al j b e
 
   abbrev EndsWith : List Event → State → List ℕ → Stage → Event → Type 0
   EndsWith es s core g e =
-      isGone r p (told (e ∷ es) s) ≡ false → starts r p (told (e ∷ es) s) ≡ a ∷ others
+      is_gone r p (told (e ∷ es) s) ≡ false → starts r p (told (e ∷ es) s) ≡ a ∷ others
       → Ends x g core (taken r p (told (e ∷ es) s)) (run event (e ∷ es) s)
 
   pub lives : (es : List Event) → Life es
-  unfolding told run loadIn starts
+  unfolding told run load_in starts
   lives [] s core g k h lx sg hc al f q z = absurd (omega (arith, ap length z))
   lives (e ∷ es) s core g k h lx sg hc al f q z =
       let tail = all_tail r p x.area e es f in
       ⊎_elim
       (λ i. let o = place_of p s (event e s) i.same in
-      rw (i.takes_none _) (lives es (event e s) core g (event-ready r p e s _ k q) (rw o h) (rw o lx) (rw o sg) hc
-      (kept-alike s (event e s) core i.same h lx al) tail (event-gone r p e s _ q) (sym (i.starts_none _) ∙ z)))
+      rw (i.takes_none _) (lives es (event e s) core g (event_ready r p e s _ k q) (rw o h) (rw o lx) (rw o sg) hc
+      (kept_alike s (event e s) core i.same h lx al) tail (event_gone r p e s _ q) (sym (i.starts_none _) ∙ z)))
       (λ w. subst (EndsWith es s core g) (sym w.1)
       (fed-ends es (lives es) s core g k h lx sg hc al w.0 (rw sg at w.2) tail w.3) q z)
-      (sort-event r p x.area s k.desk h (ap (λ (y : Load). y.area) lx) e _ (all_head r p x.area e es f) q)
+      (sort_event r p x.area s k.desk h (ap (λ (y : Load). y.area) lx) e _ (all_head r p x.area e es f) q)

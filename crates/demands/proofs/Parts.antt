@@ -25,10 +25,10 @@ module _ {S E W A R : Type 0} {part : E → ℕ} {step : E → S → S} {answer 
   run_ok [] s h = h
   run_ok (e ∷ es) s h = run_ok es (step e s) (F.kept e s h)
 
-  run-rest : (es : List E) (s : S) → Ok s → rest (run step es s) ≡ rest s
+  run_rest : (es : List E) (s : S) → Ok s → rest (run step es s) ≡ rest s
   unfolding run
-  run-rest [] s h = refl
-  run-rest (e ∷ es) s h = run-rest es (step e s) (F.kept e s h) ∙ F.still e s h
+  run_rest [] s h = refl
+  run_rest (e ∷ es) s h = run_rest es (step e s) (F.kept e s h) ∙ F.still e s h
 
   own_at : (e : E) (p : ℕ) (s t : S) → Ok s → Ok t → part e ≡ p → view p s ≡ view p t → view p (step e s) ≡ view p (step e t)
   own_at e p s t h k q v = rw q at (F.own e s t h k (rw q v))
@@ -68,10 +68,10 @@ module _ {S E W A R : Type 0} {part : E → ℕ} {step : E → S → S} {answer 
           a.1 ∙ ap (λ (l : List E). answersOf part step answer p l s) (k p) ∙ sym b.1,
         )
 
-    pub same-state : run step es s ≡ run step fs s
-    same-state =
+    pub same_state : run step es s ≡ run step fs s
+    same_state =
         F.whole (run step es s) (run step fs s) (run_ok es s h) (run_ok fs s h)
-        (run-rest es s h ∙ sym (run-rest fs s h)) (λ p. (as_one p).0)
+        (run_rest es s h ∙ sym (run_rest fs s h)) (λ p. (as_one p).0)
 
-    pub same-answers : (p : ℕ) → answersOf part step answer p es s ≡ answersOf part step answer p fs s
-    same-answers p = (as_one p).1
+    pub same_answers : (p : ℕ) → answersOf part step answer p es s ≡ answersOf part step answer p fs s
+    same_answers p = (as_one p).1

@@ -8,7 +8,7 @@ use native.Mathlib.Omega.{arith}
 use lib.ListN.{length}
 use lib.Dec.{eqb}
 use borrow.Author.Tests.{eq-eqb}
-use Rattle.word.specs.Limits.{placeCount}
+use Rattle.word.specs.Limits.{place_count}
 use Rattle.word.specs.declared.Absolute.{Absolute}
 use Rattle.word.specs.declared.Area.{Area}
 use Rattle.lists.specs.Load.{Load}
@@ -18,54 +18,54 @@ use Rattle.stage.specs.declared.Step.{Step}
 use Rattle.stage.specs.declared.Step.TheVariants.{More as step-more, Done as step-done, Refused as step-refused}
 use Rattle.stage.specs.Record.{is_over}
 use Rattle.layout.specs.declared.Place.{Place}
-use Rattle.layout.specs.Layout.{place_in, holderOf, own_of, stageIn}
+use Rattle.layout.specs.Layout.{place_in, holder_of, own_of, stage_in}
 use Rattle.desk.specs.Sound.{sound}
 use Rattle.calls.specs.Outcome.{Outcome}
-use Rattle.feed.specs.Block.{blockStep}
-use Rattle.feed.specs.Feed.{loadIn, staged, settled_of, taken_of, feedOf}
-use Rattle.feed.proofs.Blocked.{block-laws}
-use Rattle.demands.specs.Image.{lastBlock, fileStart}
-use Rattle.demands.specs.History.{State, Call, answerTo, call, Event, lent, event, Told, toldBy, told}
-use Rattle.demands.specs.History.{takenIn, taken, startsIn, starts, goneBy, isGone}
+use Rattle.feed.specs.Block.{block_step}
+use Rattle.feed.specs.Feed.{load_in, staged, settled_of, taken_of, feed_of}
+use Rattle.feed.proofs.Blocked.{block_laws}
+use Rattle.demands.specs.Image.{last_block, file_start}
+use Rattle.demands.specs.History.{State, Call, answer_to, call, Event, lent, event, Told, told_by, told}
+use Rattle.demands.specs.History.{taken_in, taken, starts_in, starts, gone_by, is_gone}
 use Rattle.demands.specs.History.Call.{Feed}
 use Rattle.demands.specs.History.Event.{Here, Elsewhere, OutsideStore}
-use Rattle.demands.specs.Opening.{afterOpen}
+use Rattle.demands.specs.Opening.{after_open}
 use Rattle.demands.specs.Demands.{Demand2Start}
-use Rattle.demands.proofs.Held.{areaOf, held_place}
+use Rattle.demands.proofs.Held.{area_of, held_place}
 use Rattle.demands.proofs.Views.{staged-stage}
-use Rattle.demands.proofs.Ready.{neither, event-sound, event-gone}
-use Rattle.demands.proofs.Feeds.{place_of, cond_same, sort-call}
+use Rattle.demands.proofs.Ready.{neither, event-sound, event_gone}
+use Rattle.demands.proofs.Feeds.{place_of, cond_same, sort_call}
 use Rattle.demands.proofs.Begun.{begun}
-use Rattle.demands.proofs.Kept.{holder-of, event-own}
+use Rattle.demands.proofs.Kept.{holder_of_lem, event_own}
 
 -- what a feed of the load's own comes to whose block it takes, lent some core
 abbrev takes : ℕ → List ℕ → List ℕ → State → Outcome
-takes p block core s = taken_of s.desk core p (loadIn (place_in s.desk p)) (stageIn (place_in s.desk p)) block
+takes p block core s = taken_of s.desk core p (load_in (place_in s.desk p)) (stage_in (place_in s.desk p)) block
 
 -- ---- an event leaves the load's place as it was, and no answer of it counts; or the load takes a block
 pub record Still (r p : ℕ) (e : Event) (s : State) : Type 0 where
   pub place : place_in (event e s).desk p ≡ place_in s.desk p
-  pub takes_none : (rest : List Told) → taken r p (toldBy e s rest) ≡ taken r p rest
-  pub starts_none : (rest : List Told) → starts r p (toldBy e s rest) ≡ starts r p rest
+  pub takes_none : (rest : List Told) → taken r p (told_by e s rest) ≡ taken r p rest
+  pub starts_none : (rest : List Told) → starts r p (told_by e s rest) ≡ starts r p rest
 
 pub record Took (r p : ℕ) (e : Event) (s : State) : Type 0 where
   pub block : List ℕ
   pub core : List ℕ
-  pub waits : is_over (stageIn (place_in s.desk p)) ≡ false
+  pub waits : is_over (stage_in (place_in s.desk p)) ≡ false
   pub desk : (event e s).desk ≡ (takes p block core s).desk
-  pub told-so : (rest : List Told) → toldBy e s rest ≡ record { call = Feed r p block; answer = (takes p block core s).answer }
+  pub told_so : (rest : List Told) → told_by e s rest ≡ record { call = Feed r p block; answer = (takes p block core s).answer }
       ∷ rest
 
-module _ (r p : ℕ) (s : State) (ok : sound s.desk ≡ true) (held : holderOf (place_in s.desk p) ≡ r + 1) where
+module _ (r p : ℕ) (s : State) (ok : sound s.desk ≡ true) (held : holder_of (place_in s.desk p) ≡ r + 1) where
   took : (c : Call) (core block : List ℕ) → c ≡ Feed r p block
-      → feedOf s.desk core r p block ≡ takes p block core s
-      → ((call c (lent core s)).desk ≡ (takes p block core s).desk) × (answerTo c (lent core s) ≡ (takes p block core s).answer)
-  unfolding call answerTo
+      → feed_of s.desk core r p block ≡ takes p block core s
+      → ((call c (lent core s)).desk ≡ (takes p block core s).desk) × (answer_to c (lent core s) ≡ (takes p block core s).answer)
+  unfolding call answer_to
   took c core block e f = rw e (ap (λ (o : Outcome). o.desk) f, ap (λ (o : Outcome). o.answer) f)
 
-  sort-any : (e : Event) (rest : List Told) → isGone r p (toldBy e s rest) ≡ false → Still r p e s ⊎ Took r p e s
-  unfolding event taken starts isGone
-  sort-any (Here c) rest q =
+  sort_any : (e : Event) (rest : List Told) → is_gone r p (told_by e s rest) ≡ false → Still r p e s ⊎ Took r p e s
+  unfolding event taken starts is_gone
+  sort_any (Here c) rest q =
       ⊎_elim
       (λ x. inl (record {
         place = place_of p s _
@@ -79,10 +79,10 @@ module _ (r p : ℕ) (s : State) (ok : sound s.desk ≡ true) (held : holderOf (
         core = s.core;
         waits = x.2;
         desk = k.0;
-        told-so = λ l. rw (k.1, x.1);
+        told_so = λ l. rw (k.1, x.1);
       }))
-      (sort-call r p s ok held c (neither (goneBy r p c (answerTo c s)) (isGone r p rest) q).0)
-  sort-any (Elsewhere other c) rest q =
+      (sort_call r p s ok held c (neither (gone_by r p c (answer_to c s)) (is_gone r p rest) q).0)
+  sort_any (Elsewhere other c) rest q =
       let t = lent other s in
       ⊎_elim
       (λ x. inl (record {
@@ -97,28 +97,28 @@ module _ (r p : ℕ) (s : State) (ok : sound s.desk ≡ true) (held : holderOf (
         core = other;
         waits = x.2;
         desk = k.0;
-        told-so = λ l. rw (k.1, x.1);
+        told_so = λ l. rw (k.1, x.1);
       }))
-      (sort-call r p t ok held c (neither (goneBy r p c (answerTo c t)) (isGone r p rest) q).0)
-  sort-any (OutsideStore j v) rest q = inl (record { place = refl; takes_none = λ l. refl; starts_none = λ l. refl })
+      (sort_call r p t ok held c (neither (gone_by r p c (answer_to c t)) (is_gone r p rest) q).0)
+  sort_any (OutsideStore j v) rest q = inl (record { place = refl; takes_none = λ l. refl; starts_none = λ l. refl })
 
 -- ---- a load that is over
 module _ (r p : ℕ) where
-  over_none : (es : List Event) (s : State) → sound s.desk ≡ true → holderOf (place_in s.desk p) ≡ r + 1
-      → is_over (stageIn (place_in s.desk p)) ≡ true → isGone r p (told es s) ≡ false
+  over_none : (es : List Event) (s : State) → sound s.desk ≡ true → holder_of (place_in s.desk p) ≡ r + 1
+      → is_over (stage_in (place_in s.desk p)) ≡ true → is_gone r p (told es s) ≡ false
       → (taken r p (told es s) ≡ []) × (starts r p (told es s) ≡ [])
   unfolding told
   over_none [] s ok h o q = (unfold taken in refl, unfold starts in refl)
   over_none (e ∷ es) s ok h o q =
       ⊎_elim
-      (λ x. let n = over_none es (event e s) (event-sound e s ok) (rw x.place h) (rw x.place o) (event-gone r p e s _ q) in
+      (λ x. let n = over_none es (event e s) (event-sound e s ok) (rw x.place h) (rw x.place o) (event_gone r p e s _ q) in
       (x.takes_none _ ∙ n.0, x.starts_none _ ∙ n.1))
       (λ x. absurd (true≢false (sym o ∙ x.waits)))
-      (sort-any r p s ok h e _ q)
+      (sort_any r p s ok h e _ q)
 
-last-later : (b : List ℕ) (file : List (List ℕ)) → 0 < length file → lastBlock (b ∷ file) ≡ lastBlock file
-last-later b [] h = absurd (omega arith)
-last-later b (f ∷ file) h =
+last_later : (b : List ℕ) (file : List (List ℕ)) → 0 < length file → last_block (b ∷ file) ≡ last_block file
+last_later b [] h = absurd (omega arith)
+last_later b (f ∷ file) h =
     let e : suc (suc (length file)) - 1 ≡ suc (suc (length file) - 1) = omega arith in rw e
 
 abbrev first_of : (d : Absolute) → List Absolute → Absolute
@@ -133,54 +133,54 @@ rest_of (x ∷ xs) = xs
 module _ (r p : ℕ) (area : Area) (a : Absolute) (others : List Absolute) where
   pub record Found (file : List (List ℕ)) : Type 0 where
     pub some : 0 < length file
-    pub start : a ≡ fileStart area file
+    pub start : a ≡ file_start area file
     pub once : others ≡ []
 
   abbrev Finds : List Event → Type 0
   Finds es =
-      (s : State) → sound s.desk ≡ true → holderOf (place_in s.desk p) ≡ r + 1 → areaOf (place_in s.desk p) ≡ area
-      → isGone r p (told es s) ≡ false → starts r p (told es s) ≡ a ∷ others → Found (taken r p (told es s))
+      (s : State) → sound s.desk ≡ true → holder_of (place_in s.desk p) ≡ r + 1 → area_of (place_in s.desk p) ≡ area
+      → is_gone r p (told es s) ≡ false → starts r p (told es s) ≡ a ∷ others → Found (taken r p (told es s))
 
   -- it takes a block, and has rest before it
   module _ (es : List Event) (next : Finds es) (s t : State) (ok : sound s.desk ≡ true)
-      (held : holderOf (place_in s.desk p) ≡ r + 1)
-      (its : areaOf (place_in s.desk p) ≡ area) (sound-t : sound t.desk ≡ true)
-      (own : own_of (place_in t.desk p) ≡ own_of (place_in s.desk p)) (stays : isGone r p (told es t) ≡ false)
+      (held : holder_of (place_in s.desk p) ≡ r + 1)
+      (its : area_of (place_in s.desk p) ≡ area) (sound-t : sound t.desk ≡ true)
+      (own : own_of (place_in t.desk p) ≡ own_of (place_in s.desk p)) (stays : is_gone r p (told es t) ≡ false)
       (core block : List ℕ) where
     abbrev x : Load
-    x = loadIn (place_in s.desk p)
+    x = load_in (place_in s.desk p)
 
     abbrev due : Stage
-    due = stageIn (place_in s.desk p)
+    due = stage_in (place_in s.desk p)
 
-    in_p : p < placeCount
+    in_p : p < place_count
     in_p = held_place s.desk ok p (λ z. omega (arith, held))
 
-    holder-t : holderOf (place_in t.desk p) ≡ r + 1
-    holder-t = holder-of _ _ own ∙ held
+    holder_t : holder_of (place_in t.desk p) ≡ r + 1
+    holder_t = holder_of_lem _ _ own ∙ held
 
-    area-t : areaOf (place_in t.desk p) ≡ area
+    area-t : area_of (place_in t.desk p) ≡ area
     area-t = ap (λ (q : Place). q.given.area) own ∙ its
 
     none : (g : Stage) → is_over g ≡ true → t.desk ≡ staged s.desk p g → (taken r p (told es t) ≡ [])
         × (starts r p (told es t) ≡ [])
     none g o e =
-        over_none r p es t sound-t holder-t
-        (ap (λ (d : List ℕ). is_over (stageIn (place_in d p))) e ∙ ap is_over (staged-stage s.desk ok p in_p g) ∙ o) stays
+        over_none r p es t sound-t holder_t
+        (ap (λ (d : List ℕ). is_over (stage_in (place_in d p))) e ∙ ap is_over (staged-stage s.desk ok p in_p g) ∙ o) stays
 
     abbrev Ending : Outcome → Type 0
     Ending o =
-        t.desk ≡ o.desk → startsIn r p (Feed r p block) o.answer (starts r p (told es t)) ≡ a ∷ others
-        → Found (takenIn r p (Feed r p block) o.answer (taken r p (told es t)))
+        t.desk ≡ o.desk → starts_in r p (Feed r p block) o.answer (starts r p (told es t)) ≡ a ∷ others
+        → Found (taken_in r p (Feed r p block) o.answer (taken r p (told es t)))
 
-    ending : (g : Step) (after : List ℕ) → (blockStep x due block core).step ≡ g
+    ending : (g : Step) (after : List ℕ) → (block_step x due block core).step ≡ g
         → Ending (settled_of s.desk core p x.area g after)
-    unfolding settled_of loadIn
+    unfolding settled_of load_in
     ending (step-more g) after e d z =
-        let y = next t sound-t holder-t area-t stays (sym (cond_same (eqb r r && eqb p p) _) ∙ z) in
+        let y = next t sound-t holder_t area-t stays (sym (cond_same (eqb r r && eqb p p) _) ∙ z) in
         rw (eq-eqb r r refl, eq-eqb p p refl) (record {
           some = omega arith;
-          start = y.start ∙ rw (last-later block (taken r p (told es t)) y.some);
+          start = y.start ∙ rw (last_later block (taken r p (told es t)) y.some);
           once = y.once;
         })
     ending (step-done b) after e d z =
@@ -188,7 +188,7 @@ module _ (r p : ℕ) (area : Area) (a : Absolute) (others : List Absolute) where
         let st : b ∷ starts r p (told es t) ≡ a ∷ others = rw (eq-eqb r r refl, eq-eqb p p refl) at z in
         rw (eq-eqb r r refl, eq-eqb p p refl, n.0) (record {
           some = omega arith;
-          start = sym (ap (first_of a) st) ∙ block-laws.starts x due block core b e ∙ rw its;
+          start = sym (ap (first_of a) st) ∙ block_laws.starts x due block core b e ∙ rw its;
           once = sym (ap rest_of st) ∙ n.1;
         })
     ending (step-refused f) after e d z =
@@ -203,21 +203,21 @@ module _ (r p : ℕ) (area : Area) (a : Absolute) (others : List Absolute) where
   finds [] s ok h its q z = absurd (omega (arith, ap length z))
   finds (e ∷ es) s ok h its q z =
       let t = event e s in
-      let o = event-own r p e s _ ok h q in
-      let g = event-gone r p e s _ q in
+      let o = event_own r p e s _ ok h q in
+      let g = event_gone r p e s _ q in
       let k = event-sound e s ok in
       ⊎_elim
       (λ x. rw (x.takes_none _)
       (finds es t k (rw x.place h) (rw x.place its) g (sym (x.starts_none _) ∙ z)))
-      (λ x. subst (λ (ts : List Told). starts r p ts ≡ a ∷ others → Found (taken r p ts)) (sym (x.told-so (told es t)))
+      (λ x. subst (λ (ts : List Told). starts r p ts ≡ a ∷ others → Found (taken r p ts)) (sym (x.told_so (told es t)))
       (ending es (finds es) s t ok h its k o g x.core x.block _ _ refl x.desk) z)
-      (sort-any r p s ok h e _ q)
+      (sort_any r p s ok h e _ q)
 
 -- ---- Demand 2, of the start
-pub demand-2-start : Demand2Start
-unfolding loadIn
-demand-2-start o es a others grant stays done =
+pub demand_2_start : Demand2Start
+unfolding load_in
+demand_2_start o es a others grant stays done =
     let b = begun o grant in
-    let y = finds o.room o.place o.area a others es (afterOpen o) b.ready.desk b.holder
+    let y = finds o.room o.place o.area a others es (after_open o) b.ready.desk b.holder
     (ap (λ (x : Load). x.area) b.load) stays done in
     (y.start, y.once)

@@ -13,11 +13,11 @@ module _ {E : Type 0} (part : E → ℕ) where
   unfolding only
   only_no e es p q = rw (ne_eqb (part e) p q)
 
-  only-append : (p : ℕ) (xs ys : List E) → only part p (xs ++ ys) ≡ only part p xs ++ only part p ys
+  only_append : (p : ℕ) (xs ys : List E) → only part p (xs ++ ys) ≡ only part p xs ++ only part p ys
   unfolding only
-  only-append p [] ys = refl
-  only-append p (e ∷ xs) ys =
-      let ih = only-append p xs ys in
+  only_append p [] ys = refl
+  only_append p (e ∷ xs) ys =
+      let ih = only_append p xs ys in
       by-test (eqb (part e) p) (λ q. simp (q, ih)) (λ q. simp (q, ih))
 
   only_same : (p : ℕ) (es : List E) → only part p (only part p es) ≡ only part p es
@@ -27,29 +27,29 @@ module _ {E : Type 0} (part : E → ℕ) where
       let ih = only_same p es in
       by-test (eqb (part e) p) (λ q. simp (q, ih)) (λ q. simp (q, ih))
 
-  only-other : (p q : ℕ) (es : List E) → (p ≡ q → ⊥) → only part q (only part p es) ≡ []
+  only_other : (p q : ℕ) (es : List E) → (p ≡ q → ⊥) → only part q (only part p es) ≡ []
   unfolding only
-  only-other p q [] h = refl
-  only-other p q (e ∷ es) h =
-      let ih = only-other p q es h in
+  only_other p q [] h = refl
+  only_other p q (e ∷ es) h =
+      let ih = only_other p q es h in
       by-eq (part e) p
       (λ k. rw (eq-eqb (part e) p k) (only_no e (only part p es) q (λ m. h (sym k ∙ m)) ∙ ih))
       (λ k. rw (ne_eqb (part e) p k) ih)
 
-  in-turn-out : (n p : ℕ) (es : List E) → n ≤ p → only part p (in_turn part n es) ≡ []
+  in_turn_out : (n p : ℕ) (es : List E) → n ≤ p → only part p (in_turn part n es) ≡ []
   unfolding in_turn
-  in-turn-out zero p es h = unfold only in refl
-  in-turn-out (suc n) p es h =
-      rw (only-append p (in_turn part n es) (only part n es), in-turn-out n p es (omega arith), only-other n p es (λ q. omega arith))
+  in_turn_out zero p es h = unfold only in refl
+  in_turn_out (suc n) p es h =
+      rw (only_append p (in_turn part n es) (only part n es), in_turn_out n p es (omega arith), only_other n p es (λ q. omega arith))
 
-  in-turn-in : (n p : ℕ) (es : List E) → p < n → only part p (in_turn part n es) ≡ only part p es
+  in_turn_in : (n p : ℕ) (es : List E) → p < n → only part p (in_turn part n es) ≡ only part p es
   unfolding in_turn
-  in-turn-in zero p es h = absurd (omega arith)
-  in-turn-in (suc n) p es h =
-      rw (only-append p (in_turn part n es) (only part n es))
+  in_turn_in zero p es h = absurd (omega arith)
+  in_turn_in (suc n) p es h =
+      rw (only_append p (in_turn part n es) (only part n es))
       (by-eq p n
-      (λ q. rw (q, in-turn-out n n es (omega arith), only_same n es))
-      (λ q. rw (in-turn-in n p es (omega arith), only-other n p es (λ k. q (sym k)), append-nil)))
+      (λ q. rw (q, in_turn_out n n es (omega arith), only_same n es))
+      (λ q. rw (in_turn_in n p es (omega arith), only_other n p es (λ k. q (sym k)), append-nil)))
 
   -- where every event's part is below n
   module _ (n : ℕ) (below : (e : E) → part e < n) where
@@ -57,7 +57,7 @@ module _ {E : Type 0} (part : E → ℕ) where
     only_none p [] h = unfold only in refl
     only_none p (e ∷ es) h = only_no e es p (λ q. omega (arith, below e)) ∙ only_none p es h
 
-    pub only-in-turn : (es : List E) (p : ℕ) → only part p es ≡ only part p (in_turn part n es)
-    only-in-turn es p =
-        by-lt p n (λ h. sym (in-turn-in n p es h))
-        (λ h. only_none p es h ∙ sym (in-turn-out n p es h))
+    pub only_in_turn : (es : List E) (p : ℕ) → only part p es ≡ only part p (in_turn part n es)
+    only_in_turn es p =
+        by-lt p n (λ h. sym (in_turn_in n p es h))
+        (λ h. only_none p es h ∙ sym (in_turn_out n p es h))

@@ -1,48 +1,48 @@
 -- Lives of loads, event by event: the hand deck in its room as 01 has it, two rooms interleaved, a load that breaks beside one that
--- completes, and a day in which programs run while others load. What each leads to is computed whole (`not-empty`, crate witness),
+-- completes, and a day in which programs run while others load. What each leads to is computed whole (`not_empty`, crate witness),
 -- so that the demands are not vacuous.
 use Rattle.std.specs.Prelude.{ℕ, ◌≡◌, List, [], ◌∷◌, replicate, set}
 use Rattle.word.specs.Fault.{fault}
 use Rattle.word.specs.Lists.{splice, cleared}
 use Rattle.word.specs.declared.Area.{Area}
-use Rattle.layout.specs.Layout.{deskWords}
+use Rattle.layout.specs.Layout.{desk_words}
 use Rattle.calls.specs.declared.Answer.{Answer}
 use Rattle.calls.specs.declared.Answer.TheVariants.{Refused, Made, Opened, More, Done, Released}
-use Rattle.hand_deck.specs.Blocks.{deckLabel, deckProgram, deckTermination}
-use Rattle.demands.specs.HandDeck.{deckGiven}
+use Rattle.hand_deck.specs.Blocks.{deck_label, deck_program, deck_termination}
+use Rattle.demands.specs.HandDeck.{deck_given}
 use Rattle.demands.specs.Orders.{run}
 use Rattle.demands.specs.History.{State, Event, event, Told, told}
 use Rattle.demands.specs.History.Call.{Make, Open, Feed, Release}
 use Rattle.demands.specs.History.Event.{Here, Elsewhere, OutsideStore}
 
 -- what C lends for a desk, and a core of 4,096 words, with something in each
-unfoldable pub oldDesk : List ℕ
-oldDesk = replicate deskWords 9
+unfoldable pub old_desk : List ℕ
+old_desk = replicate desk_words 9
 
-unfoldable pub oldCore : List ℕ
-oldCore = replicate 4096 5
+unfoldable pub old_core : List ℕ
+old_core = replicate 4096 5
 
 unfoldable pub old : State
-old = record { desk = oldDesk; core = oldCore }
+old = record { desk = old_desk; core = old_core }
 
 -- "room 0's stretch all of them, other stretches empty", and half of them each for rooms 0 and 1
-abbrev pub oneRoom : List ℕ
-oneRoom = 0 ∷ 4096 ∷ 0 ∷ 0 ∷ 0 ∷ 0 ∷ 0 ∷ 0 ∷ 0 ∷ 0 ∷ 0 ∷ 0 ∷ 0 ∷ 0 ∷ 0 ∷ 0 ∷ []
+abbrev pub one_room : List ℕ
+one_room = 0 ∷ 4096 ∷ 0 ∷ 0 ∷ 0 ∷ 0 ∷ 0 ∷ 0 ∷ 0 ∷ 0 ∷ 0 ∷ 0 ∷ 0 ∷ 0 ∷ 0 ∷ 0 ∷ []
 
-abbrev pub twoRooms : List ℕ
-twoRooms = 0 ∷ 2048 ∷ 2048 ∷ 2048 ∷ 0 ∷ 0 ∷ 0 ∷ 0 ∷ 0 ∷ 0 ∷ 0 ∷ 0 ∷ 0 ∷ 0 ∷ 0 ∷ 0 ∷ []
+abbrev pub two_rooms : List ℕ
+two_rooms = 0 ∷ 2048 ∷ 2048 ∷ 2048 ∷ 0 ∷ 0 ∷ 0 ∷ 0 ∷ 0 ∷ 0 ∷ 0 ∷ 0 ∷ 0 ∷ 0 ∷ 0 ∷ 0 ∷ []
 
 abbrev pub make : List ℕ → Event
 make m = Here (Make 4096 m)
 
 -- the answers alone
-unfoldable pub answersIn : List Told → List Answer
-answersIn [] = []
-answersIn (t ∷ ts) = t.answer ∷ answersIn ts
+unfoldable pub answers_in : List Told → List Answer
+answers_in [] = []
+answers_in (t ∷ ts) = t.answer ∷ answers_in ts
 
 -- area 2560 of size 64, for room 1
-abbrev pub otherArea : Area
-otherArea = record { at = record { 0 = 2560 }; size = 64 }
+abbrev pub other_area : Area
+other_area = record { at = record { 0 = 2560 }; size = 64 }
 
 -- an area of one word
 abbrev pub one_word : ℕ → Area
@@ -50,10 +50,10 @@ one_word j = record { at = record { 0 = j }; size = 1 }
 
 -- room 0 feeds place 0, room 1 place 1
 abbrev pub open0 : Event
-open0 = Here (Open 0 deckGiven.area [] [])
+open0 = Here (Open 0 deck_given.area [] [])
 
 abbrev pub open1 : Event
-open1 = Here (Open 1 otherArea [] [])
+open1 = Here (Open 1 other_area [] [])
 
 abbrev pub fed0 : List ℕ → Event
 fed0 block = Here (Feed 0 0 block)
@@ -62,48 +62,48 @@ abbrev pub fed1 : List ℕ → Event
 fed1 block = Here (Feed 1 1 block)
 
 -- the hand deck
-abbrev pub deckFeeds : List Event
-deckFeeds = fed0 deckLabel ∷ fed0 deckProgram ∷ fed0 deckTermination ∷ []
+abbrev pub deck_feeds : List Event
+deck_feeds = fed0 deck_label ∷ fed0 deck_program ∷ fed0 deck_termination ∷ []
 
-abbrev pub deckLife : List Event
-deckLife = make oneRoom ∷ open0 ∷ deckFeeds
+abbrev pub deck_life : List Event
+deck_life = make one_room ∷ open0 ∷ deck_feeds
 
 -- both rooms load it, interleaved
-abbrev pub byTurns : List Event
-byTurns =
-    make twoRooms ∷ open0 ∷ open1
-    ∷ fed0 deckLabel ∷ fed1 deckLabel
-    ∷ fed1 deckProgram ∷ fed0 deckProgram
-    ∷ fed0 deckTermination ∷ fed1 deckTermination ∷ []
+abbrev pub by_turns : List Event
+by_turns =
+    make two_rooms ∷ open0 ∷ open1
+    ∷ fed0 deck_label ∷ fed1 deck_label
+    ∷ fed1 deck_program ∷ fed0 deck_program
+    ∷ fed0 deck_termination ∷ fed1 deck_termination ∷ []
 
 -- room 0 feeds its program block again where the termination block is due, and then goes on
-abbrev pub oneBroken : List Event
-oneBroken =
-    make twoRooms ∷ open0 ∷ open1
-    ∷ fed0 deckLabel ∷ fed1 deckLabel
-    ∷ fed0 deckProgram ∷ fed0 deckProgram
-    ∷ fed1 deckProgram ∷ fed0 deckTermination ∷ fed1 deckTermination ∷ []
+abbrev pub one_broken : List Event
+one_broken =
+    make two_rooms ∷ open0 ∷ open1
+    ∷ fed0 deck_label ∷ fed1 deck_label
+    ∷ fed0 deck_program ∷ fed0 deck_program
+    ∷ fed1 deck_program ∷ fed0 deck_termination ∷ fed1 deck_termination ∷ []
 
 -- room 1's program, loaded before, stores into its own area while room 0 loads; a feed of room 1 is lent a core of two words; room
 -- 1 opens another load and is lent another core for it; a make is given a map of no numbers; and room 1 gives its first place back
-abbrev pub whileItLoads : List Event
-whileItLoads =
-    fed0 deckLabel
+abbrev pub while_it_loads : List Event
+while_it_loads =
+    fed0 deck_label
     ∷ OutsideStore 2600 77
-    ∷ fed0 deckProgram
-    ∷ Elsewhere (1 ∷ 2 ∷ []) (Feed 1 1 deckLabel)
+    ∷ fed0 deck_program
+    ∷ Elsewhere (1 ∷ 2 ∷ []) (Feed 1 1 deck_label)
     ∷ Elsewhere (replicate 4096 7) (Open 1 (one_word 3000) [] [])
     ∷ Here (Make 4096 [])
     ∷ Here (Release 4096 1 1)
-    ∷ fed0 deckTermination ∷ []
+    ∷ fed0 deck_termination ∷ []
 
-abbrev pub dayLife : List Event
-dayLife = make twoRooms ∷ open0 ∷ open1 ∷ fed1 deckLabel ∷ fed1 deckProgram ∷ fed1 deckTermination ∷ whileItLoads
+abbrev pub day_life : List Event
+day_life = make two_rooms ∷ open0 ∷ open1 ∷ fed1 deck_label ∷ fed1 deck_program ∷ fed1 deck_termination ∷ while_it_loads
 
 -- eight rooms of 512 words each. Rooms 0 to 3 hold two places and room 4 one, so that three are free and three rooms hold none:
 -- room 4 is refused a second one (6) and room 0 a third (5), and room 5 is given its first. On a new desk room 0 holds none again.
-abbrev pub eightRooms : List ℕ
-eightRooms =
+abbrev pub eight_rooms : List ℕ
+eight_rooms =
     0 ∷ 512 ∷ 512 ∷ 512 ∷ 1024 ∷ 512 ∷ 1536 ∷ 512 ∷ 2048 ∷ 512 ∷ 2560 ∷ 512 ∷ 3072 ∷ 512 ∷ 3584 ∷ 512 ∷ []
 
 abbrev pub asks : ℕ → ℕ → Event
@@ -111,26 +111,26 @@ asks r j = Here (Open r (one_word j) [] [])
 
 abbrev pub crowded : List Event
 crowded =
-    make eightRooms
+    make eight_rooms
     ∷ asks 0 0 ∷ asks 0 1 ∷ asks 1 512 ∷ asks 1 513 ∷ asks 2 1024 ∷ asks 2 1025 ∷ asks 3 1536 ∷ asks 3 1537 ∷ asks 4 2048
-    ∷ asks 4 2049 ∷ asks 0 2 ∷ asks 5 2560 ∷ make eightRooms ∷ asks 0 2 ∷ []
+    ∷ asks 4 2049 ∷ asks 0 2 ∷ asks 5 2560 ∷ make eight_rooms ∷ asks 0 2 ∷ []
 
 -- what they lead to
 pub record NotEmpty : Type 0 where
-  pub deck : answersIn (told deckLife old) ≡ Made ∷ Opened 0 ∷ More ∷ More ∷ Done (record { 0 = 512 }) ∷ []
-  pub deck-left : (run event deckLife old).core ≡ splice oldCore 512 (519 ∷ replicate 63 0)
-  pub turns : answersIn (told byTurns old)
+  pub deck : answers_in (told deck_life old) ≡ Made ∷ Opened 0 ∷ More ∷ More ∷ Done (record { 0 = 512 }) ∷ []
+  pub deck-left : (run event deck_life old).core ≡ splice old_core 512 (519 ∷ replicate 63 0)
+  pub turns : answers_in (told by_turns old)
       ≡ Made ∷ Opened 0 ∷ Opened 1 ∷ More ∷ More ∷ More ∷ More ∷ Done (record { 0 = 512 }) ∷ Done (record { 0 = 2560 }) ∷ []
-  pub turns-left : (run event byTurns old).core ≡ splice (splice oldCore 512 (519 ∷ replicate 63 0)) 2560 (2567 ∷ replicate 63 0)
-  pub broken : answersIn (told oneBroken old)
+  pub turns_left : (run event by_turns old).core ≡ splice (splice old_core 512 (519 ∷ replicate 63 0)) 2560 (2567 ∷ replicate 63 0)
+  pub broken : answers_in (told one_broken old)
       ≡ Made ∷ Opened 0 ∷ Opened 1 ∷ More ∷ More ∷ More ∷ Refused (fault 13) ∷ More ∷ Refused (fault 10)
       ∷ Done (record { 0 = 2560 }) ∷ []
-  pub broken-left : (run event oneBroken old).core ≡ splice (cleared oldCore 512 64) 2560 (2567 ∷ replicate 63 0)
-  pub day : answersIn (told dayLife old)
+  pub broken_left : (run event one_broken old).core ≡ splice (cleared old_core 512 64) 2560 (2567 ∷ replicate 63 0)
+  pub day : answers_in (told day_life old)
       ≡ Made ∷ Opened 0 ∷ Opened 1 ∷ More ∷ More ∷ Done (record { 0 = 2560 })
       ∷ More ∷ More ∷ Refused (fault 2) ∷ Opened 2 ∷ Refused (fault 3) ∷ Released ∷ Done (record { 0 = 512 }) ∷ []
-  pub day-left : (run event dayLife old).core
-      ≡ set (splice (splice oldCore 512 (519 ∷ replicate 63 0)) 2560 (2567 ∷ replicate 63 0)) 2600 77
-  pub crowd : answersIn (told crowded old)
+  pub day_left : (run event day_life old).core
+      ≡ set (splice (splice old_core 512 (519 ∷ replicate 63 0)) 2560 (2567 ∷ replicate 63 0)) 2600 77
+  pub crowd : answers_in (told crowded old)
       ≡ Made ∷ Opened 0 ∷ Opened 1 ∷ Opened 2 ∷ Opened 3 ∷ Opened 4 ∷ Opened 5 ∷ Opened 6 ∷ Opened 7 ∷ Opened 8
       ∷ Refused (fault 6) ∷ Refused (fault 5) ∷ Opened 9 ∷ Made ∷ Opened 0 ∷ []

@@ -1,12 +1,12 @@
 -- Who holds how many places, counted from the grants and releases since the desk was last made, not from the desk's numbers: "Say F
 -- places are free and H rooms hold none".
 use Rattle.std.specs.Prelude.{ℕ, zero, suc, ◌+◌, ◌-◌, Bool, true, false, cond, ◌&&◌, List, [], ◌∷◌, set, eqb}
-use Rattle.word.specs.Limits.{roomCount, placeCount}
-use Rattle.rooms.specs.Rooms.{allFree}
-use Rattle.layout.specs.Layout.{coreLength, mapNumbers}
+use Rattle.word.specs.Limits.{room_count, place_count}
+use Rattle.rooms.specs.Rooms.{all_free}
+use Rattle.layout.specs.Layout.{core_length, map_numbers}
 use Rattle.calls.specs.declared.Answer.{Answer}
 use Rattle.calls.specs.declared.Answer.TheVariants.{Refused, Made, Opened, More, Done, Released}
-use Rattle.demands.specs.History.{Call, Told, isMade, isReleased}
+use Rattle.demands.specs.History.{Call, Told, is_made, is_released}
 use Rattle.demands.specs.History.Call.{Make, Open, Feed, Release}
 
 -- what comes of w through the calls that were told, each by its answer
@@ -14,60 +14,60 @@ unfoldable pub through : {A : Type 0} → (A → Call → Answer → A) → A �
 through step w [] = w
 through step w (t ∷ ts) = through step (step w t.call t.answer) ts
 
-abbrev pub isOpened : Answer → Bool
-isOpened (Refused f) = false
-isOpened Made = false
-isOpened (Opened p) = true
-isOpened More = false
-isOpened (Done a) = false
-isOpened Released = false
+abbrev pub is_opened : Answer → Bool
+is_opened (Refused f) = false
+is_opened Made = false
+is_opened (Opened p) = true
+is_opened More = false
+is_opened (Done a) = false
+is_opened Released = false
 
 -- what room r holds after a call, if it held n places before: `opened` adds one, `released` takes one, and on a new desk it holds
 -- none. That no release is lost where it holds none already is `freed` of PlacesGiven.
-abbrev pub heldThen : ℕ → ℕ → Call → Answer → ℕ
-heldThen r n (Make k m) answer = cond (isMade answer) 0 n
-heldThen r n (Open q area ios tables) answer = cond (isOpened answer && eqb q r) (n + 1) n
-heldThen r n (Feed q p block) answer = n
-heldThen r n (Release k q p) answer = cond (isReleased answer && eqb q r) (n - 1) n
+abbrev pub held_then : ℕ → ℕ → Call → Answer → ℕ
+held_then r n (Make k m) answer = cond (is_made answer) 0 n
+held_then r n (Open q area ios tables) answer = cond (is_opened answer && eqb q r) (n + 1) n
+held_then r n (Feed q p block) answer = n
+held_then r n (Release k q p) answer = cond (is_released answer && eqb q r) (n - 1) n
 
 -- how many places room r holds, where nobody held one before
-abbrev pub heldBy : ℕ → List Told → ℕ
-heldBy r ts = through (heldThen r) 0 ts
+abbrev pub held_by : ℕ → List Told → ℕ
+held_by r ts = through (held_then r) 0 ts
 
 -- how many the first n rooms hold, and how many of them hold none
-unfoldable pub heldByAll : ℕ → List Told → ℕ
-heldByAll zero ts = 0
-heldByAll (suc r) ts = heldByAll r ts + heldBy r ts
+unfoldable pub held_by_all : ℕ → List Told → ℕ
+held_by_all zero ts = 0
+held_by_all (suc r) ts = held_by_all r ts + held_by r ts
 
-unfoldable pub noneOf : ℕ → List Told → ℕ
-noneOf zero ts = 0
-noneOf (suc r) ts = noneOf r ts + cond (eqb (heldBy r ts) 0) 1 0
+unfoldable pub none_of : ℕ → List Told → ℕ
+none_of zero ts = 0
+none_of (suc r) ts = none_of r ts + cond (eqb (held_by r ts) 0) 1 0
 
 -- F and H
-unfoldable pub freePlaces : List Told → ℕ
-freePlaces ts = placeCount - heldByAll roomCount ts
+unfoldable pub free_places : List Told → ℕ
+free_places ts = place_count - held_by_all room_count ts
 
-unfoldable pub idleRooms : List Told → ℕ
-idleRooms ts = noneOf roomCount ts
+unfoldable pub idle_rooms : List Told → ℕ
+idle_rooms ts = none_of room_count ts
 
 -- ---- who holds each place: room r by r + 1, nobody by 0. After a call, if l was before:
-abbrev pub withPlace : List ℕ → ℕ → Answer → List ℕ
-withPlace l q (Refused f) = l
-withPlace l q Made = l
-withPlace l q (Opened p) = set l p (q + 1)
-withPlace l q More = l
-withPlace l q (Done a) = l
-withPlace l q Released = l
+abbrev pub with_place : List ℕ → ℕ → Answer → List ℕ
+with_place l q (Refused f) = l
+with_place l q Made = l
+with_place l q (Opened p) = set l p (q + 1)
+with_place l q More = l
+with_place l q (Done a) = l
+with_place l q Released = l
 
-abbrev pub holdersThen : List ℕ → Call → Answer → List ℕ
-holdersThen l (Make n m) answer = cond (isMade answer) allFree l
-holdersThen l (Open q area ios tables) answer = withPlace l q answer
-holdersThen l (Feed q p block) answer = l
-holdersThen l (Release n q p) answer = cond (isReleased answer) (set l p 0) l
+abbrev pub holders_then : List ℕ → Call → Answer → List ℕ
+holders_then l (Make n m) answer = cond (is_made answer) all_free l
+holders_then l (Open q area ios tables) answer = with_place l q answer
+holders_then l (Feed q p block) answer = l
+holders_then l (Release n q p) answer = cond (is_released answer) (set l p 0) l
 
 -- where nobody held one before
-abbrev pub holdersBy : List Told → List ℕ
-holdersBy ts = through holdersThen allFree ts
+abbrev pub holders_by : List Told → List ℕ
+holders_by ts = through holders_then all_free ts
 
 -- ---- what the desk was last made with: the core length and the map
 pub record MadeWith : Type 0 where
@@ -75,12 +75,12 @@ pub record MadeWith : Type 0 where
   pub map : List ℕ
 
 -- after a call, if it was w before
-abbrev pub madeThen : MadeWith → Call → Answer → MadeWith
-madeThen w (Make n m) answer = cond (isMade answer) (record { core = n; map = m }) w
-madeThen w (Open q area ios tables) answer = w
-madeThen w (Feed q p block) answer = w
-madeThen w (Release n q p) answer = w
+abbrev pub made_then : MadeWith → Call → Answer → MadeWith
+made_then w (Make n m) answer = cond (is_made answer) (record { core = n; map = m }) w
+made_then w (Open q area ios tables) answer = w
+made_then w (Feed q p block) answer = w
+made_then w (Release n q p) answer = w
 
 -- what the desk's numbers say of it
-abbrev pub saysMade : List ℕ → MadeWith
-saysMade d = record { core = coreLength d; map = mapNumbers d }
+abbrev pub says_made : List ℕ → MadeWith
+says_made d = record { core = core_length d; map = map_numbers d }

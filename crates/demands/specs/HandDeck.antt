@@ -2,5 +2,5 @@
 use Rattle.std.specs.Prelude.{[]}
 use Rattle.lists.specs.Load.{Load}
 
-abbrev pub deckGiven : Load
-deckGiven = record { area = record { at = record { 0 = 512 }; size = 64 }; tables = []; ios = [] }
+abbrev pub deck_given : Load
+deck_given = record { area = record { at = record { 0 = 512 }; size = 64 }; tables = []; ios = [] }

@@ -4,25 +4,25 @@
 -- not met is refused with 16.
 use Rattle.std.specs.Prelude.{ℕ, ◌+◌, ◌-◌, Bool, false, cond, ◌&&◌, ◌||◌, List, [], ◌∷◌, ◌++◌, map, length, get_or, drop, eqb, leb, ltb}
 use Rattle.word.specs.Lists.{tab}
-use Rattle.word.specs.Sorts.{absoluteOf}
+use Rattle.word.specs.Sorts.{absolute_of}
 use Rattle.word.specs.declared.Absolute.{Absolute}
 use Rattle.word.specs.declared.Area.{Area}
 use Rattle.label.specs.declared.Label.{Label}
 use Rattle.label.specs.declared.LabelRead.{LabelRead}
 use Rattle.label.specs.declared.LabelRead.TheVariants.{Good as label-read, Bad as no_label}
-use Rattle.label.specs.Label.{label_of, channelCount, ioCount}
-use Rattle.modification.specs.Entries.{entryBlocks}
+use Rattle.label.specs.Label.{label_of, channel_count, io_count}
+use Rattle.modification.specs.Entries.{entry_blocks}
 use Rattle.program.specs.declared.TableSection.{TableSection}
 use Rattle.program.specs.declared.Group.{Group}
 use Rattle.program.specs.Pieces.{Head, Piece, pieces_of}
 use Rattle.program.specs.Pieces.Head.{SegmentHead, TableHead, GroupHead, NoHead}
 use Rattle.program.specs.Start.{start_of}
 use Rattle.lists.specs.declared.Table.{Table as CoreTable}
-use Rattle.lists.specs.Obey.{noTable}
+use Rattle.lists.specs.Obey.{no_table}
 use Rattle.field.specs.Field.{Assignments}
 use Rattle.group.specs.declared.Section.{Section}
 use Rattle.group.specs.declared.Section.TheVariants.{Segment as InSegment, Table as InTable}
-use Rattle.group.specs.Group.{Words, changedWords, programWords, indicatorBitsIn, wordsLie, address_of}
+use Rattle.group.specs.Group.{Words, changed_words, program_words, indicator_bits_in, words_lie, address_of}
 use Rattle.group.specs.Group.Words.{Become, Refuse}
 
 -- ---- the pieces of the program blocks, one block after another
@@ -37,18 +37,18 @@ pub record Store : Type 0 where
 
 -- a group whose fields are refused, or whose words do not lie where they must, stores nothing; in a file that is loaded there is
 -- none
-abbrev pub wordsOr : Words → List ℕ
-wordsOr (Become vs) = vs
-wordsOr (Refuse f) = []
+abbrev pub words_or : Words → List ℕ
+words_or (Become vs) = vs
+words_or (Refuse f) = []
 
 -- a group of a section: its program words, changed by their indicators, where the section puts them
 unfoldable pub store_of : Assignments → Section → List ℕ → ℕ → Group → Store
 store_of a section block i g =
-    cond (wordsLie section g)
+    cond (words_lie section g)
     (record {
       at = (address_of a.area section g).0;
-      words = wordsOr
-          (changedWords a (indicatorBitsIn block i g) 0 (programWords block i g));
+      words = words_or
+          (changed_words a (indicator_bits_in block i g) 0 (program_words block i g));
     })
     (record { at = 0; words = [] })
 
@@ -60,38 +60,38 @@ pub record SectionGroup : Type 0 where
   pub group : Group
 
 -- before the first head no bank has a word
-abbrev pub noSection : Section
-noSection = InSegment (record {
+abbrev pub no_section : Section
+no_section = InSegment (record {
   ibank = record { at = record { 0 = 0 }; count = 0 };
   dbank = record { at = record { 0 = 0 }; count = 0 };
 })
 
-abbrev pub tableSection : List CoreTable → TableSection → Section
-tableSection tables t = InTable (get_or tables t.number.0 noTable) t.count
+abbrev pub table_section : List CoreTable → TableSection → Section
+table_section tables t = InTable (get_or tables t.number.0 no_table) t.count
 
 -- a section's head leads to its groups; `next` are the groups of the pieces after it, by the section that they begin in
-abbrev pub groupsBy : List CoreTable → Section → List ℕ → ℕ → Head → (Section → List SectionGroup) → List SectionGroup
-groupsBy tables section block i (SegmentHead g) next = next (InSegment g)
-groupsBy tables section block i (TableHead t) next = next (tableSection tables t)
-groupsBy tables section block i (GroupHead g) next = record { section = section; block = block; at = i; group = g } ∷ next section
-groupsBy tables section block i NoHead next = next section
+abbrev pub groups_by : List CoreTable → Section → List ℕ → ℕ → Head → (Section → List SectionGroup) → List SectionGroup
+groups_by tables section block i (SegmentHead g) next = next (InSegment g)
+groups_by tables section block i (TableHead t) next = next (table_section tables t)
+groups_by tables section block i (GroupHead g) next = record { section = section; block = block; at = i; group = g } ∷ next section
+groups_by tables section block i NoHead next = next section
 
-unfoldable pub groupsFrom : List CoreTable → Section → List Piece → List SectionGroup
-groupsFrom tables section [] = []
-groupsFrom tables section (p ∷ ps) = groupsBy tables section p.block p.at p.head (λ s. groupsFrom tables s ps)
+unfoldable pub groups_from : List CoreTable → Section → List Piece → List SectionGroup
+groups_from tables section [] = []
+groups_from tables section (p ∷ ps) = groups_by tables section p.block p.at p.head (λ s. groups_from tables s ps)
 
 -- "bit 17 set on the section's last group"; "After the last section's last group the rest of the block is disregarded": the groups
 -- up to the n-th that is the last of its section
-unfoldable pub upToLast : ℕ → List SectionGroup → List SectionGroup
-upToLast n [] = []
-upToLast n (g ∷ gs) = cond (eqb n 0) [] (g ∷ upToLast (cond g.group.last (n - 1) n) gs)
+unfoldable pub up_to_last : ℕ → List SectionGroup → List SectionGroup
+up_to_last n [] = []
+up_to_last n (g ∷ gs) = cond (eqb n 0) [] (g ∷ up_to_last (cond g.group.last (n - 1) n) gs)
 
 -- what they store
-abbrev pub storeIn : Assignments → SectionGroup → Store
-storeIn a g = store_of a g.section g.block g.at g.group
+abbrev pub store_in : Assignments → SectionGroup → Store
+store_in a g = store_of a g.section g.block g.at g.group
 
-unfoldable pub storesFrom : Assignments → ℕ → Section → List Piece → List Store
-storesFrom a n section ps = map (storeIn a) (upToLast n (groupsFrom a.tables section ps))
+unfoldable pub stores_from : Assignments → ℕ → Section → List Piece → List Store
+stores_from a n section ps = map (store_in a) (up_to_last n (groups_from a.tables section ps))
 
 -- ---- "Where groups overlap, the later word stands": the word at address j is that of the last store that reaches it, and zero
 -- where none does
@@ -102,36 +102,36 @@ unfoldable pub reached : List Store → ℕ → Bool
 reached [] j = false
 reached (s ∷ later) j = reached later j || reaches s j
 
-unfoldable pub wordFrom : List Store → ℕ → ℕ
-wordFrom [] j = 0
-wordFrom (s ∷ later) j =
-    cond (reached later j) (wordFrom later j) (cond (reaches s j) (get_or s.words (j - s.at) 0) 0)
+unfoldable pub word_from : List Store → ℕ → ℕ
+word_from [] j = 0
+word_from (s ∷ later) j =
+    cond (reached later j) (word_from later j) (cond (reaches s j) (get_or s.words (j - s.at) 0) 0)
 
 -- ---- the file: "one label, modification blocks, program blocks, one termination block"
-abbrev pub firstBlock : List (List ℕ) → List ℕ
-firstBlock file = get_or file 0 []
+abbrev pub first_block : List (List ℕ) → List ℕ
+first_block file = get_or file 0 []
 
-abbrev pub lastBlock : List (List ℕ) → List ℕ
-lastBlock file = get_or file (length file - 1) []
+abbrev pub last_block : List (List ℕ) → List ℕ
+last_block file = get_or file (length file - 1) []
 
-abbrev pub assignmentsOf : Area → List CoreTable → List ℕ → Label → Assignments
-assignmentsOf area tables ios l =
-    record { area = area; tables = tables; ios = ios; channels = channelCount l }
+abbrev pub assignments_of : Area → List CoreTable → List ℕ → Label → Assignments
+assignments_of area tables ios l =
+    record { area = area; tables = tables; ios = ios; channels = channel_count l }
 
 -- one segment section and as many table sections as the label says
-unfoldable pub storesBeyond : Area → List CoreTable → List ℕ → LabelRead → List (List ℕ) → List Store
-storesBeyond area tables ios (label-read l) file =
-    storesFrom (assignmentsOf area tables ios l) (1 + l.sections) noSection
-    (pieces (drop (1 + entryBlocks (ioCount l) l.tables) file))
-storesBeyond area tables ios (no_label f) file = []
+unfoldable pub stores_beyond : Area → List CoreTable → List ℕ → LabelRead → List (List ℕ) → List Store
+stores_beyond area tables ios (label-read l) file =
+    stores_from (assignments_of area tables ios l) (1 + l.sections) no_section
+    (pieces (drop (1 + entry_blocks (io_count l) l.tables) file))
+stores_beyond area tables ios (no_label f) file = []
 
 unfoldable pub stores_of : Area → List CoreTable → List ℕ → List (List ℕ) → List Store
-stores_of area tables ios file = storesBeyond area tables ios (label_of (firstBlock file)) file
+stores_of area tables ios file = stores_beyond area tables ios (label_of (first_block file)) file
 
 -- the area's words
 unfoldable pub image_of : Area → List CoreTable → List ℕ → List (List ℕ) → List ℕ
-image_of area tables ios file = tab (λ k. wordFrom (stores_of area tables ios file) (area.at.0 + k)) area.size
+image_of area tables ios file = tab (λ k. word_from (stores_of area tables ios file) (area.at.0 + k)) area.size
 
 -- "Termination: word 1 bits 15-0 give the start, relative to the Program Name": moved by the area's address
-abbrev pub fileStart : Area → List (List ℕ) → Absolute
-fileStart area file = absoluteOf area (start_of (lastBlock file))
+abbrev pub file_start : Area → List (List ℕ) → Absolute
+file_start area file = absolute_of area (start_of (last_block file))

@@ -6,7 +6,7 @@ use Rattle.stage.specs.declared.Step.{Step}
 use Rattle.stage.specs.declared.Step.TheVariants.{More, Done, Refused}
 use Rattle.stage.specs.Record.{is_over}
 use Rattle.lists.specs.Load.{Load}
-use Rattle.feed.specs.Block.{blockStep}
+use Rattle.feed.specs.Block.{block_step}
 
 abbrev pub TakesBy : Step → (Stage → Type 0) → Type 0
 TakesBy (More s) next = next s
@@ -18,4 +18,4 @@ unfoldable pub Takes : Load → Stage → List ℕ → List (List ℕ) → Stage
 Takes x s core [] t after = (s ≡ t) × (core ≡ after)
 Takes x s core (block ∷ blocks) t after =
     (is_over s ≡ false)
-    × TakesBy (blockStep x s block core).step (λ u. Takes x u (blockStep x s block core).core blocks t after)
+    × TakesBy (block_step x s block core).step (λ u. Takes x u (block_step x s block core).core blocks t after)

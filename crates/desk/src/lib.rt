@@ -2,8 +2,8 @@
 ghost use Rattle.std.specs.Prelude.{◌≡◌, ◌&&◌, ◌||◌, ◌-◌, length, eqb};
 ghost use Rattle.rooms.specs.Rooms.{fair};
 ghost use Rattle.lists.specs.Load.{Readable};
-ghost use Rattle.layout.specs.Layout.{placeWords, place_in, listsIn, holders};
-ghost use Rattle.desk.specs.Sound.{areaIn, countsFit, loadFits, heldFits, areasApart, placesFit, sound};
+ghost use Rattle.layout.specs.Layout.{place_words, place_in, lists_in, holders};
+ghost use Rattle.desk.specs.Sound.{area_in, counts_fit, load_fits, held_fits, areas_apart, places_fit, sound};
 ghost use Rattle.desk.specs.Sound.{SmallStretch, MapTested, HeldNamed, LastHeld, FirstHeld};
 
 use layout::{AREA_AT, CORE_AT, DESK_WORDS, HOLDER_AT, SIZE_AT};
@@ -35,7 +35,7 @@ pub fn is_sound(desk: &[u64]) -> bool
 // Whether the holders are fair, each held place is in order, and no two held areas share a word.
 fn holders_fit(desk: &[u64]) -> bool
     requires { MapTested desk.now }
-    ensures { result ≡ (fair (holders desk.now) && placesFit desk.now) }
+    ensures { result ≡ (fair (holders desk.now) && places_fit desk.now) }
 {
     let h = layout::read_holders(desk);
     if !rooms::fair(&h) {
@@ -53,7 +53,7 @@ fn holders_fit(desk: &[u64]) -> bool
 // room can; and no room holds over two places, so that an area is compared with the last one of its room.
 fn places_fit(desk: &[u64], held: &[usize]) -> bool
     requires { HeldNamed desk.now held.now }
-    ensures { result ≡ placesFit desk.now }
+    ensures { result ≡ places_fit desk.now }
 {
     let mut last = [0usize; ROOMS];
     let mut past: usize = 0;
@@ -78,7 +78,7 @@ fn places_fit(desk: &[u64], held: &[usize]) -> bool
 // Whether a place's area shares no word with that of place q - 1, which is held too; where q is 0 there is none.
 fn apart_from_last(desk: &[u64], q: usize, place: &[u64]) -> bool
     requires { LastHeld desk.now q place.now }
-    ensures { result ≡ (eqb q 0 || areasApart (place_in desk.now (q - 1)) place.now) }
+    ensures { result ≡ (eqb q 0 || areas_apart (place_in desk.now (q - 1)) place.now) }
 {
     if q == 0 {
         return true;
@@ -89,7 +89,7 @@ fn apart_from_last(desk: &[u64], q: usize, place: &[u64]) -> bool
 // The first of the two places is held.
 fn apart_from_held(one: &[u64], other: &[u64]) -> bool
     requires { FirstHeld one.now other.now }
-    ensures { result ≡ areasApart one.now other.now }
+    ensures { result ≡ areas_apart one.now other.now }
 {
     if other[HOLDER_AT] == 0 {
         return true;
@@ -99,8 +99,8 @@ fn apart_from_held(one: &[u64], other: &[u64]) -> bool
 
 // Whether a held place is in order, s its room's stretch.
 fn held_fits(place: &[u64], s: Stretch) -> bool
-    requires { (length place.now ≡ placeWords) × (SmallStretch s) }
-    ensures { result ≡ heldFits s place.now }
+    requires { (length place.now ≡ place_words) × (SmallStretch s) }
+    ensures { result ≡ held_fits s place.now }
 {
     let o = layout::own_of(place);
     let g = o.given;
@@ -116,7 +116,7 @@ fn held_fits(place: &[u64], s: Stretch) -> bool
 
 // Whether an area is not empty and lies in a stretch.
 pub fn area_in(s: Stretch, a: Area) -> bool
-    ensures { result ≡ areaIn s a }
+    ensures { result ≡ area_in s a }
 {
     if a.size < 1 {
         return false;
@@ -125,7 +125,7 @@ pub fn area_in(s: Stretch, a: Area) -> bool
 }
 
 fn counts_fit(g: Given) -> bool
-    ensures { result ≡ countsFit g }
+    ensures { result ≡ counts_fit g }
 {
     if (IO_MOST as u64) < g.io {
         return false;
@@ -138,8 +138,8 @@ fn counts_fit(g: Given) -> bool
 
 // Whether the kept tables and the stage of a held place are in order.
 fn load_fits(place: &[u64], g: Given) -> bool
-    requires { (length place.now ≡ placeWords) × (Readable g (listsIn place.now)) }
-    ensures { result ≡ loadFits g place.now }
+    requires { (length place.now ≡ place_words) × (Readable g (lists_in place.now)) }
+    ensures { result ≡ load_fits g place.now }
 {
     let numbers = layout::lists_of(place);
     if !lists::load::kept_fits(g, numbers) {

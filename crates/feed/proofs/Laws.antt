@@ -5,26 +5,26 @@ use mathlib.Core.Bool.{true}
 use mathlib.Core.List.{List}
 use lib.ListN.{length, get_or}
 use Rattle.word.specs.Lists.{every}
-use Rattle.word.specs.Sorts.{absoluteOf}
-use Rattle.word.specs.Word.{isWord}
+use Rattle.word.specs.Sorts.{absolute_of}
+use Rattle.word.specs.Word.{is_word}
 use Rattle.word.specs.declared.Absolute.{Absolute}
 use Rattle.word.specs.declared.Fault.{Fault}
 use Rattle.word.proofs.Stretch.{Beside}
 use Rattle.program.specs.Start.{start_of}
-use Rattle.lists.specs.Obey.{tableInside}
+use Rattle.lists.specs.Obey.{table_inside}
 use Rattle.group.specs.Places.{Placed}
 use Rattle.group.proofs.Acts.{Alike}
 use Rattle.group.proofs.Stored.{StoredWords}
 use Rattle.stage.specs.declared.Stage.{Stage}
-use Rattle.stage.specs.Ranges.{stageFits}
+use Rattle.stage.specs.Ranges.{stage_fits}
 use Rattle.stage.specs.declared.Step.TheVariants.{More, Done, Refused}
 use Rattle.lists.specs.Load.{Load}
-use Rattle.feed.specs.Block.{blockStep}
+use Rattle.feed.specs.Block.{block_step}
 
 -- the stage of a load is in range, and its tables lie in the area
 pub record FitToFeed (x : Load) (s : Stage) : Type 0 where
-  pub tables : every (tableInside x.area) x.tables ≡ true
-  pub stage : stageFits x.area x.tables (length x.ios) s ≡ true
+  pub tables : every (table_inside x.area) x.tables ≡ true
+  pub stage : stage_fits x.area x.tables (length x.ios) s ≡ true
 
 -- the area lies in the core
 abbrev pub Holds : Load → List ℕ → Type 0
@@ -37,21 +37,21 @@ pub record OfBlock (block : List ℕ) (f : Fault) : Type 0 where
   pub place : Placed block f
 
 pub record BlockLaws : Type 0 where
-  pub fits : (x : Load) (s t : Stage) (block core : List ℕ) → FitToFeed x s → (blockStep x s block core).step ≡ More t
-      → stageFits x.area x.tables (length x.ios) t ≡ true
-  pub faults : (x : Load) (s : Stage) (block core : List ℕ) (f : Fault) → (blockStep x s block core).step ≡ Refused f
+  pub fits : (x : Load) (s t : Stage) (block core : List ℕ) → FitToFeed x s → (block_step x s block core).step ≡ More t
+      → stage_fits x.area x.tables (length x.ios) t ≡ true
+  pub faults : (x : Load) (s : Stage) (block core : List ℕ) (f : Fault) → (block_step x s block core).step ≡ Refused f
       → OfBlock block f
   pub long : (x : Load) (s : Stage) (block core : List ℕ) → FitToFeed x s → Holds x core
-      → length (blockStep x s block core).core ≡ length core
+      → length (block_step x s block core).core ≡ length core
   pub beside : (x : Load) (s : Stage) (block core : List ℕ) → FitToFeed x s → Holds x core
-      → (j : ℕ) → Beside j x.area.at.0 x.area.size → get_or (blockStep x s block core).core j 0 ≡ get_or core j 0
+      → (j : ℕ) → Beside j x.area.at.0 x.area.size → get_or (block_step x s block core).core j 0 ≡ get_or core j 0
   pub same_step : (x : Load) (s : Stage) (block core other : List ℕ) → FitToFeed x s → Holds x core → Holds x other
-      → (blockStep x s block core).step ≡ (blockStep x s block other).step
-  pub same-words : (x : Load) (s : Stage) (block core other : List ℕ) → FitToFeed x s → Holds x core → Holds x other
+      → (block_step x s block core).step ≡ (block_step x s block other).step
+  pub same_words : (x : Load) (s : Stage) (block core other : List ℕ) → FitToFeed x s → Holds x core → Holds x other
       → Alike x.area core other
-      → Alike x.area (blockStep x s block core).core (blockStep x s block other).core
+      → Alike x.area (block_step x s block core).core (block_step x s block other).core
   -- what is stored is words below 2^36, where the block's are
-  pub words : (x : Load) (s : Stage) (block core : List ℕ) → FitToFeed x s → Holds x core → every isWord block ≡ true
-      → StoredWords core (blockStep x s block core).core
-  pub starts : (x : Load) (s : Stage) (block core : List ℕ) (a : Absolute) → (blockStep x s block core).step ≡ Done a
-      → a ≡ absoluteOf x.area (start_of block)
+  pub words : (x : Load) (s : Stage) (block core : List ℕ) → FitToFeed x s → Holds x core → every is_word block ≡ true
+      → StoredWords core (block_step x s block core).core
+  pub starts : (x : Load) (s : Stage) (block core : List ℕ) (a : Absolute) → (block_step x s block core).step ≡ Done a
+      → a ≡ absolute_of x.area (start_of block)

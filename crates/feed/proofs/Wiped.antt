@@ -12,15 +12,15 @@ use Rattle.stage.specs.declared.Step.{Step}
 use Rattle.stage.specs.declared.Step.TheVariants.{More, Done, Refused}
 use Rattle.feed.specs.Feed.{settled_of}
 use Rattle.word.proofs.Cases.{by-lt}
-use Rattle.word.proofs.Lists.{getD-splice-in}
-use Rattle.word.proofs.Stretch.{Beside, length-cleared, getD-cleared-beside}
+use Rattle.word.proofs.Lists.{get_d_splice_in}
+use Rattle.word.proofs.Stretch.{Beside, length-cleared, get_d_cleared_beside}
 
 -- inside it is zero
-pub getD-cleared-in : (l : List ℕ) (a n i : ℕ) → a + n ≤ length l → a ≤ i → i < a + n → get_or (cleared l a n) i 0 ≡ 0
+pub get_d_cleared_in : (l : List ℕ) (a n i : ℕ) → a + n ≤ length l → a ≤ i → i < a + n → get_or (cleared l a n) i 0 ≡ 0
 unfolding cleared
-getD-cleared-in l a n i h k m =
+get_d_cleared_in l a n i h k m =
     let e : a + (i - a) ≡ i = omega arith in
-    let v = getD-splice-in l a (replicate n 0) (i - a) (rw length-replicate (omega arith)) (rw length-replicate h) in
+    let v = get_d_splice_in l a (replicate n 0) (i - a) (rw length-replicate (omega arith)) (rw length-replicate h) in
     ap (λ (j : ℕ). get_or (cleared l a n) j 0) (sym e) ∙ v ∙ get_or-replicate n (i - a) 0 0 (omega arith)
 
 pub wiped-same : (core after : List ℕ) (a n : ℕ) → a + n ≤ length core → length after ≡ length core
@@ -30,10 +30,10 @@ wiped-same core after a n h e b =
     let y = length-cleared core a n h in
     ext_get_or 0 (cleared after a n) (cleared core a n) (x ∙ e ∙ sym y)
     (λ j k. by-lt j a
-    (λ u. getD-cleared-beside after a n j (omega arith) (inl u) ∙ b j (inl u) ∙ sym (getD-cleared-beside core a n j h (inl u)))
+    (λ u. get_d_cleared_beside after a n j (omega arith) (inl u) ∙ b j (inl u) ∙ sym (get_d_cleared_beside core a n j h (inl u)))
     (λ u. by-lt j (a + n)
-    (λ w. getD-cleared-in after a n j (omega arith) u w ∙ sym (getD-cleared-in core a n j h u w))
-    (λ w. getD-cleared-beside after a n j (omega arith) (inr w) ∙ b j (inr w) ∙ sym (getD-cleared-beside core a n j h (inr w)))))
+    (λ w. get_d_cleared_in after a n j (omega arith) u w ∙ sym (get_d_cleared_in core a n j h u w))
+    (λ w. get_d_cleared_beside after a n j (omega arith) (inr w) ∙ b j (inr w) ∙ sym (get_d_cleared_beside core a n j h (inr w)))))
 
 -- so what a step leads to is the same, whether the core before the block or after it is wiped
 pub settled_same : (d core after : List ℕ) (p : ℕ) (area : Area) (r : Step) → area.at.0 + area.size ≤ length core

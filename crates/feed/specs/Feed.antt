@@ -10,28 +10,28 @@ use Rattle.block.specs.declared.Verdict.TheVariants.{Pass, Refused as refused-bl
 use Rattle.block.specs.Block.{verdict}
 use Rattle.stage.specs.declared.Stage.{Stage}
 use Rattle.stage.specs.declared.Stage.TheVariants.{Complete, Broken}
-use Rattle.stage.specs.Stage.{numbersOf}
+use Rattle.stage.specs.Stage.{numbers_of}
 use Rattle.stage.specs.declared.Step.{Step}
 use Rattle.stage.specs.declared.Step.TheVariants.{More as step-more, Done as step-done, Refused as step-refused}
-use Rattle.stage.specs.Record.{recordDue, is_over}
-use Rattle.word.specs.Limits.{placeCount}
+use Rattle.stage.specs.Record.{record_due, is_over}
+use Rattle.word.specs.Limits.{place_count}
 use Rattle.sections.specs.Waits.{KeptWaits}
 use Rattle.lists.specs.Load.{Load, load_of}
 use Rattle.sections.specs.Program.{StepOutcome}
-use Rattle.layout.specs.Layout.{deskWords, coreLength, base, place_in, own_of, stageIn, stageAt, listsIn, holderIn, holds}
+use Rattle.layout.specs.Layout.{desk_words, core_length, base, place_in, own_of, stage_in, stage_at, lists_in, holder_in, holds}
 use Rattle.desk.specs.Sound.{sound}
 use Rattle.calls.specs.declared.Answer.TheVariants.{Refused, More, Done}
 use Rattle.calls.specs.Outcome.{Outcome, refused}
 use Rattle.calls.specs.Entry.{entered}
-use Rattle.feed.specs.Block.{blockStep}
+use Rattle.feed.specs.Block.{block_step}
 
 -- what the load at a place was given, from the place's numbers
-unfoldable pub loadIn : List ℕ → Load
-loadIn l = load_of (own_of l).given (listsIn l)
+unfoldable pub load_in : List ℕ → Load
+load_in l = load_of (own_of l).given (lists_in l)
 
 -- place p waits for s
 unfoldable pub staged : List ℕ → ℕ → Stage → List ℕ
-staged d p s = splice d (base p + stageAt) (numbersOf s)
+staged d p s = splice d (base p + stage_at) (numbers_of s)
 
 -- the area's words, all zero
 abbrev pub wiped : Area → List ℕ → List ℕ
@@ -43,28 +43,28 @@ settled_of d core p area (step-more s) after = record { answer = More; desk = st
 settled_of d core p area (step-done a) after = record { answer = Done a; desk = staged d p Complete; core = after }
 settled_of d core p area (step-refused f) after = record { answer = Refused f; desk = staged d p Broken; core = wiped area core }
 
-abbrev pub settledBy : List ℕ → List ℕ → ℕ → Area → StepOutcome → Outcome
-settledBy d core p area o = settled_of d core p area o.step o.core
+abbrev pub settled_by : List ℕ → List ℕ → ℕ → Area → StepOutcome → Outcome
+settled_by d core p area o = settled_of d core p area o.step o.core
 
 -- from refusal 13 on: the load at place p was given x and waits for s
 unfoldable pub taken_of : List ℕ → List ℕ → ℕ → Load → Stage → List ℕ → Outcome
-taken_of d core p x s block = settledBy d core p x.area (blockStep x s block core)
+taken_of d core p x s block = settled_by d core p x.area (block_step x s block core)
 
 -- 11 and 12 change nothing; a block that passes is taken
-unfoldable pub checkedOf : List ℕ → List ℕ → Outcome → Verdict → Outcome
-checkedOf d core taken Pass = taken
-checkedOf d core taken (refused-block f) = record { answer = Refused f; desk = d; core = core }
+unfoldable pub checked_of : List ℕ → List ℕ → Outcome → Verdict → Outcome
+checked_of d core taken Pass = taken
+checked_of d core taken (refused-block f) = record { answer = Refused f; desk = d; core = core }
 
 -- from refusal 10 on; the checksum word is where the record that is due has it
-abbrev pub waitingOf : List ℕ → List ℕ → ℕ → Load → Stage → List ℕ → Outcome
-waitingOf d core p x s block =
-    cond (is_over s) (refused 10 d core) (checkedOf d core (taken_of d core p x s block) (verdict (recordDue s) block))
+abbrev pub waiting_of : List ℕ → List ℕ → ℕ → Load → Stage → List ℕ → Outcome
+waiting_of d core p x s block =
+    cond (is_over s) (refused 10 d core) (checked_of d core (taken_of d core p x s block) (verdict (record_due s) block))
 
 unfoldable pub held_of : List ℕ → List ℕ → ℕ → List ℕ → Outcome
-held_of d core p block = waitingOf d core p (loadIn (place_in d p)) (stageIn (place_in d p)) block
+held_of d core p block = waiting_of d core p (load_in (place_in d p)) (stage_in (place_in d p)) block
 
-unfoldable pub feedOf : List ℕ → List ℕ → ℕ → ℕ → List ℕ → Outcome
-feedOf d core r p block =
+unfoldable pub feed_of : List ℕ → List ℕ → ℕ → ℕ → List ℕ → Outcome
+feed_of d core r p block =
     entered d (length core) r core
     (unless (holds d r p) (refused 9 d core)
     (held_of d core p block))
@@ -72,16 +72,16 @@ feedOf d core r p block =
 -- ---- what has been seen to before a held place is fed, before a block is taken, and before its outcome is settled
 pub record HeldReady (d core : List ℕ) (p : ℕ) : Type 0 where
   pub desk : sound d ≡ true
-  pub long : length core ≡ coreLength d
-  pub place : p < placeCount
-  pub held : 1 ≤ holderIn d p
+  pub long : length core ≡ core_length d
+  pub place : p < place_count
+  pub held : 1 ≤ holder_in d p
 
 pub record TakeReady (d : List ℕ) (p : ℕ) (s : Stage) (block core : List ℕ) : Type 0 where
-  pub long : length d ≡ deskWords
-  pub place : p < placeCount
-  pub load : KeptWaits (own_of (place_in d p)).given (listsIn (place_in d p)) s block core
+  pub long : length d ≡ desk_words
+  pub place : p < place_count
+  pub load : KeptWaits (own_of (place_in d p)).given (lists_in (place_in d p)) s block core
 
 pub record SettleReady (d core : List ℕ) (p : ℕ) (area : Area) : Type 0 where
-  pub long : length d ≡ deskWords
-  pub place : p < placeCount
+  pub long : length d ≡ desk_words
+  pub place : p < place_count
   pub inside : area.at.0 + area.size ≤ length core

@@ -1,14 +1,14 @@
 // Feed: one block for a load, with its refusals in 01's order. Refusals 1, 2, 4 and 9 to 12 change nothing; 13 to 22 set the load's
 // area to zero and break the load.
 ghost use Rattle.std.specs.Prelude.{◌≡◌, ◌<◌, length};
-ghost use Rattle.word.specs.Limits.{placeCount};
-ghost use Rattle.layout.specs.Layout.{deskWords, place_in};
+ghost use Rattle.word.specs.Limits.{place_count};
+ghost use Rattle.layout.specs.Layout.{desk_words, place_in};
 ghost use Rattle.calls.specs.Outcome.{Meets};
 ghost use Rattle.lists.specs.Load.{load_of};
 ghost use Rattle.sections.specs.Waits.{KeptWaits};
 ghost use Rattle.sections.specs.Program.{StepMeets};
-ghost use Rattle.feed.specs.Block.{dueStep, blockStep};
-ghost use Rattle.feed.specs.Feed.{loadIn, staged, settled_of, taken_of, held_of, feedOf, HeldReady, TakeReady, SettleReady};
+ghost use Rattle.feed.specs.Block.{due_step, block_step};
+ghost use Rattle.feed.specs.Feed.{load_in, staged, settled_of, taken_of, held_of, feed_of, HeldReady, TakeReady, SettleReady};
 
 use block::Verdict;
 use calls::Answer;
@@ -26,7 +26,7 @@ pub fn feed_block(
     place: u64,
     block: &[u64],
 ) -> Answer
-    ensures { Meets (feedOf desk.old core.old room place block.now)
+    ensures { Meets (feed_of desk.old core.old room place block.now)
         result desk.new core.new }
 {
     let n = calls::entry_refusal(desk, core.len() as u64, room);
@@ -58,7 +58,7 @@ fn feed_held(desk: &mut [u64], core: &mut [u64], p: usize, block: &[u64]) -> Ans
 // A block that is whole and has its checksum, for the load at place p, which waits for s.
 fn take_block(desk: &mut [u64], core: &mut [u64], p: usize, s: Stage, block: &[u64]) -> Answer
     requires { TakeReady desk.old p s block.now core.old }
-    ensures { Meets (taken_of desk.old core.old p (loadIn (place_in desk.old p)) s
+    ensures { Meets (taken_of desk.old core.old p (load_in (place_in desk.old p)) s
         block.now) result desk.new core.new }
 {
     let place = layout::place_at(desk, p);
@@ -71,7 +71,7 @@ fn take_block(desk: &mut [u64], core: &mut [u64], p: usize, s: Stage, block: &[u
 // What the block leads to for a load that waits for s.
 fn load_step(g: Given, lists: &[u64], s: Stage, block: &[u64], core: &mut [u64]) -> Step
     requires { KeptWaits g lists.now s block.now core.old }
-    ensures { StepMeets (blockStep (load_of g lists.now) s block.now core.old)
+    ensures { StepMeets (block_step (load_of g lists.now) s block.now core.old)
         result core.new }
 {
     if !block::of_record(block, stage::record_due(s)) {
@@ -83,7 +83,7 @@ fn load_step(g: Given, lists: &[u64], s: Stage, block: &[u64], core: &mut [u64])
 // A block of the record that is due.
 fn due_step(g: Given, lists: &[u64], s: Stage, block: &[u64], core: &mut [u64]) -> Step
     requires { KeptWaits g lists.now s block.now core.old }
-    ensures { StepMeets (dueStep (load_of g lists.now) s block.now core.old)
+    ensures { StepMeets (due_step (load_of g lists.now) s block.now core.old)
         result core.new }
 {
     match s {
@@ -121,7 +121,7 @@ fn settle(desk: &mut [u64], core: &mut [u64], p: usize, area: Area, r: Step) -> 
 
 // Place p waits for s.
 fn write_stage(desk: &mut [u64], p: usize, s: Stage)
-    requires { (length desk.old ≡ deskWords) × (p < placeCount) }
+    requires { (length desk.old ≡ desk_words) × (p < place_count) }
     ensures { desk.new ≡ staged desk.old p s }
 {
     let n = stage::stage_numbers(s);

@@ -6,12 +6,12 @@ use Rattle.word.specs.declared.Half.{Half}
 use Rattle.word.specs.declared.Half.TheVariants.{Left, Right}
 use Rattle.word.specs.declared.Reference.{Reference}
 use Rattle.word.specs.declared.Relative.{Relative}
-use Rattle.word.specs.Fault.{fault, inHalf}
-use Rattle.word.specs.Sorts.{absoluteOf}
+use Rattle.word.specs.Fault.{fault, in_half}
+use Rattle.word.specs.Sorts.{absolute_of}
 use Rattle.word.specs.Word.{bits, put, is_set, lowest, field_of, a_field}
 use Rattle.lists.specs.declared.Table.{Table}
-use Rattle.lists.specs.Load.{coreTables, ioNumbers}
-use Rattle.lists.specs.Obey.{noTable}
+use Rattle.lists.specs.Load.{core_tables, io_numbers}
+use Rattle.lists.specs.Obey.{no_table}
 use Rattle.field.specs.declared.Becomes.{Becomes}
 use Rattle.field.specs.declared.Becomes.TheVariants.{Value, Bad}
 use Rattle.field.specs.declared.Changed.{Changed}
@@ -34,64 +34,64 @@ abbrev pub reference : ℕ → Reference
 reference n = record { 0 = n }
 
 -- refusal 21: "value outside 0 to 65,535"
-abbrev pub valueLimit : ℕ
-valueLimit = 65536
+abbrev pub value_limit : ℕ
+value_limit = 65536
 
 unfoldable pub valued : ℕ → Becomes
-valued v = cond (ltb v valueLimit) (Value v) (Bad (fault 21))
+valued v = cond (ltb v value_limit) (Value v) (Bad (fault 21))
 
 -- "plus or minus": neither the sum nor the difference wraps
-unfoldable pub plusOrMinus : Bool → ℕ → ℕ → Becomes
-plusOrMinus minus base amount =
+unfoldable pub plus_or_minus : Bool → ℕ → ℕ → Becomes
+plus_or_minus minus base amount =
     cond minus
     (cond (leb amount base) (valued (base - amount)) (Bad (fault 21)))
     (valued (base + amount))
 
 -- type 000: "field plus the area's address"
-unfoldable pub movedField : Area → Relative → Becomes
-movedField area r = valued (absoluteOf area r).0
+unfoldable pub moved_field : Area → Relative → Becomes
+moved_field area r = valued (absolute_of area r).0
 
 -- core table k; `referred` and `pair` first test that there is one
 unfoldable pub table : List Table → Reference → Table
-table ts k = get_or ts k.0 noTable
+table ts k = get_or ts k.0 no_table
 
 -- "table address or length"
-abbrev pub addressOrLength : Bool → Table → ℕ
-addressOrLength sized t = cond sized t.len t.at.0
+abbrev pub address_or_length : Bool → Table → ℕ
+address_or_length sized t = cond sized t.len t.at.0
 
 -- the one or the other, plus or minus an amount; 20 where there is no such table. A table's address is absolute already: the
 -- area's is not added.
 unfoldable pub referred : List Table → Bool → Reference → Bool → ℕ → Becomes
 referred ts sized k minus amount =
-    cond (ltb k.0 (length ts)) (plusOrMinus minus (addressOrLength sized (table ts k)) amount) (Bad (fault 20))
+    cond (ltb k.0 (length ts)) (plus_or_minus minus (address_or_length sized (table ts k)) amount) (Bad (fault 20))
 
 -- type 001: "bit 15 zero, bit 14 set for minus, bits 13-7 the address's number, bits 6-0 the length's"
 unfoldable pub pair : List Table → ℕ → Becomes
 pair ts f =
     cond (is_set 15 f) (Bad (fault 19))
     (cond (ltb (bits 6 0 f) (length ts))
-    (referred ts false (reference (bits 13 7 f)) (is_set 14 f) (addressOrLength true (table ts (reference (bits 6 0 f)))))
+    (referred ts false (reference (bits 13 7 f)) (is_set 14 f) (address_or_length true (table ts (reference (bits 6 0 f)))))
     (Bad (fault 20)))
 
 -- "minus with constant 0"
-unfoldable pub minusZero : Bool → ℕ → Bool
-minusZero minus amount = minus && eqb amount 0
+unfoldable pub minus_zero : Bool → ℕ → Bool
+minus_zero minus amount = minus && eqb amount 0
 
 -- type 010 short: "bit 15 zero, bit 14 set for minus, bit 13 set for a length, bits 12-6 the number, bits 5-0 the constant"
 unfoldable pub short : List Table → ℕ → Becomes
 short ts f =
-    cond (minusZero (is_set 14 f) (bits 5 0 f)) (Bad (fault 19))
+    cond (minus_zero (is_set 14 f) (bits 5 0 f)) (Bad (fault 19))
     (referred ts (is_set 13 f) (reference (bits 12 6 f)) (is_set 14 f) (bits 5 0 f))
 
 -- "a constant of 64 or more"
-abbrev pub longLeast : ℕ
-longLeast = 64
+abbrev pub long_least : ℕ
+long_least = 64
 
 -- type 010 long: "bit 15 set, bit 14 set for minus, bits 13-0 a constant of 64 or more, and nine more indicator bits: set for a
 -- length, a zero, and seven bits of number"; x is these nine
 unfoldable pub long : List Table → ℕ → ℕ → Becomes
 long ts f x =
-    cond (ltb (bits 13 0 f) longLeast) (Bad (fault 19))
+    cond (ltb (bits 13 0 f) long_least) (Bad (fault 19))
     (cond (is_set 7 x) (Bad (fault 19))
     (referred ts (is_set 8 x) (reference (bits 6 0 x)) (is_set 14 f) (bits 13 0 f)))
 
@@ -116,7 +116,7 @@ unit ios channels k =
 -- what the bits that type t changes in half h of the word w become; "Others are 19."
 unfoldable pub becomes : Assignments → Half → ℕ → ℕ → ℕ → Becomes
 becomes a h t w x =
-    cond (eqb t 0) (movedField a.area (relative (field_of h w)))
+    cond (eqb t 0) (moved_field a.area (relative (field_of h w)))
     (cond (eqb t 1) (pair a.tables (field_of h w))
     (cond (eqb t 2) (constant a.tables (field_of h w) x)
     (cond (eqb t 4) (switch a.ios a.channels h (reference (a_field w)))
@@ -124,11 +124,11 @@ becomes a h t w x =
     (Bad (fault 19))))))
 
 -- these bits: 25-22 for type 100, else the field of the half
-abbrev pub changedLowest : Half → ℕ → ℕ
-changedLowest h t = cond (eqb t 4) 22 (lowest h)
+abbrev pub changed_lowest : Half → ℕ → ℕ
+changed_lowest h t = cond (eqb t 4) 22 (lowest h)
 
-abbrev pub changedWidth : ℕ → ℕ
-changedWidth t = cond (eqb t 4) 4 16
+abbrev pub changed_width : ℕ → ℕ
+changed_width t = cond (eqb t 4) 4 16
 
 -- the word with what its n bits from bit k up become
 unfoldable pub put_back : ℕ → ℕ → ℕ → Becomes → Changed
@@ -137,18 +137,18 @@ put_back k n w (Bad f) = Refused f
 
 -- what becomes of a word by a change of type t in its half h, or the number of a refusal; x is the nine more indicator bits of a long
 -- type 010
-unfoldable pub fieldChange : Assignments → Half → ℕ → ℕ → ℕ → Changed
-fieldChange a h t w x = put_back (changedLowest h t) (changedWidth t) w (becomes a h t w x)
+unfoldable pub field_change : Assignments → Half → ℕ → ℕ → ℕ → Changed
+field_change a h t w x = put_back (changed_lowest h t) (changed_width t) w (becomes a h t w x)
 
 -- a refusal with its half and bit
-abbrev pub toldIn : Half → ℕ → Changed → Changed
-toldIn h b (Word v) = Word v
-toldIn h b (Refused f) = Refused (inHalf h b f)
+abbrev pub told_in : Half → ℕ → Changed → Changed
+told_in h b (Word v) = Word v
+told_in h b (Refused f) = Refused (in_half h b f)
 
 -- "The field step shall tell which half and at which bit of the indicators it stopped": b bits of the group's indicators stand before
 -- this half's own
-unfoldable pub fieldStep : Assignments → Half → ℕ → ℕ → ℕ → ℕ → Changed
-fieldStep a h b t w x = toldIn h b (fieldChange a h t w x)
+unfoldable pub field_step : Assignments → Half → ℕ → ℕ → ℕ → ℕ → Changed
+field_step a h b t w x = told_in h b (field_change a h t w x)
 
 -- a value that n bits can hold
 abbrev pub Fits : ℕ → Becomes → Type 0
@@ -156,10 +156,10 @@ Fits n (Value v) = v < 2 ^ n
 Fits n (Bad f) = Unit {0}
 
 -- the assignments of a load whose lists the desk keeps as crate `lists` says
-unfoldable pub assignedBy : Assigned → List ℕ → Assignments
-assignedBy s l = record {
+unfoldable pub assigned_by : Assigned → List ℕ → Assignments
+assigned_by s l = record {
   area = s.given.area;
-  tables = coreTables s.given l;
-  ios = ioNumbers s.given l;
+  tables = core_tables s.given l;
+  ios = io_numbers s.given l;
   channels = s.channels;
 }

@@ -7,8 +7,8 @@ use Rattle.field.specs.declared.Stepped.{Stepped}
 use Rattle.field.specs.declared.Stepped.TheVariants.{Word as SteppedWord, Long, Refused as SteppedRefused}
 
 -- type 010 with the field's bit 15 set has nine indicator bits more
-abbrev pub isLong : ℕ → ℕ → Bool
-isLong t f = eqb t 2 && is_set 15 f
+abbrev pub is_long : ℕ → ℕ → Bool
+is_long t f = eqb t 2 && is_set 15 f
 
 -- the word, marked as one by a long type; of a refusal nothing but that it is one
 abbrev pub stepped : Bool → Changed → Stepped

@@ -1,12 +1,12 @@
 // One field of a program word: what it becomes by its modification type, or why it is refused.
 ghost use Rattle.std.specs.Prelude.{◌≡◌, true, false, ◌+◌, ◌<◌, ◌≤◌, ◌^◌};
-ghost use Rattle.word.specs.Limits.{coreMost};
+ghost use Rattle.word.specs.Limits.{core_most};
 ghost use Rattle.word.specs.declared.Half.TheVariants.{Left, Right};
 ghost use Rattle.word.specs.Word.{lowest, field_of};
-ghost use Rattle.lists.specs.Load.{coreTables, ioNumbers, Readable};
-ghost use Rattle.field.specs.Field.{valued, plusOrMinus, movedField, table, addressOrLength, referred, pair, minusZero};
-ghost use Rattle.field.specs.Field.{short, long, switch, unit, Fits, put_back, assignedBy, fieldChange, fieldStep};
-ghost use Rattle.field.specs.HowField.{isLong, stepped};
+ghost use Rattle.lists.specs.Load.{core_tables, io_numbers, Readable};
+ghost use Rattle.field.specs.Field.{valued, plus_or_minus, moved_field, table, address_or_length, referred, pair, minus_zero};
+ghost use Rattle.field.specs.Field.{short, long, switch, unit, Fits, put_back, assigned_by, field_change, field_step};
+ghost use Rattle.field.specs.HowField.{is_long, stepped};
 
 use lists::Given;
 use word::faults::{FAULT_19, FAULT_20, FAULT_21};
@@ -52,7 +52,7 @@ pub struct Assigned {
 // with its half and with how many of the group's indicator bits stand before that half's own.
 pub fn field_step(s: Assigned, lists: &[u64], h: Half, bit: u64, t: u64, w: u64, x: u64) -> Changed
     requires { (Readable s.given lists.now) × (w < 2 ^ 36) }
-    ensures { result ≡ fieldStep (assignedBy s lists.now) h bit t w x }
+    ensures { result ≡ field_step (assigned_by s lists.now) h bit t w x }
 {
     match field_change(s, lists, h, t, w, x) {
         Changed::Word(v) => Changed::Word(v),
@@ -64,7 +64,7 @@ pub fn field_step(s: Assigned, lists: &[u64], h: Half, bit: u64, t: u64, w: u64,
 // refusal for each half"). Only a left half has type 100.
 fn field_change(s: Assigned, lists: &[u64], h: Half, t: u64, w: u64, x: u64) -> Changed
     requires { (Readable s.given lists.now) × (w < 2 ^ 36) }
-    ensures { result ≡ fieldChange (assignedBy s lists.now) h t w x }
+    ensures { result ≡ field_change (assigned_by s lists.now) h t w x }
 {
     let g = s.given;
     let area = g.area;
@@ -94,7 +94,7 @@ fn field_change(s: Assigned, lists: &[u64], h: Half, t: u64, w: u64, x: u64) -> 
 // needs no test before its jump; and each half has its function, so that the compiler makes its code for that half alone.
 pub fn left_step(s: Assigned, lists: &[u64], t: u64, w: u64, x: u64) -> Stepped
     requires { (Readable s.given lists.now) × (w < 2 ^ 36) × (t < 8) }
-    ensures { result ≡ stepped (isLong t (field_of Left w)) (fieldChange (assignedBy s lists.now) Left t w x) }
+    ensures { result ≡ stepped (is_long t (field_of Left w)) (field_change (assigned_by s lists.now) Left t w x) }
 {
     let g = s.given;
     let area = g.area;
@@ -122,7 +122,7 @@ pub fn left_step(s: Assigned, lists: &[u64], t: u64, w: u64, x: u64) -> Stepped
 // The same for a right half.
 pub fn right_step(s: Assigned, lists: &[u64], t: u64, w: u64, x: u64) -> Stepped
     requires { (Readable s.given lists.now) × (w < 2 ^ 36) × (t < 8) }
-    ensures { result ≡ stepped (isLong t (field_of Right w)) (fieldChange (assignedBy s lists.now) Right t w x) }
+    ensures { result ≡ stepped (is_long t (field_of Right w)) (field_change (assigned_by s lists.now) Right t w x) }
 {
     let g = s.given;
     let area = g.area;
@@ -146,8 +146,8 @@ pub fn right_step(s: Assigned, lists: &[u64], t: u64, w: u64, x: u64) -> Stepped
 
 // Type 000.
 fn moved_field(area: Area, r: Relative) -> Becomes
-    requires { (area.at.0 ≤ coreMost) × (r.0 < 2 ^ 16) }
-    ensures { result ≡ movedField area r }
+    requires { (area.at.0 ≤ core_most) × (r.0 < 2 ^ 16) }
+    ensures { result ≡ moved_field area r }
 {
     let a = word::placed(area, r);
     valued_of(a.0)
@@ -156,7 +156,7 @@ fn moved_field(area: Area, r: Relative) -> Becomes
 // Type 001: bits 13-7 are the number of the table with the address, bits 6-0 of the one with the length.
 fn pair_of(g: Given, lists: &[u64], f: u64) -> Becomes
     requires { Readable g lists.now }
-    ensures { result ≡ pair (coreTables g lists.now) f }
+    ensures { result ≡ pair (core_tables g lists.now) f }
 {
     if word::is_set(f, 15) {
         return Becomes::Bad(FAULT_19);
@@ -173,7 +173,7 @@ fn pair_of(g: Given, lists: &[u64], f: u64) -> Becomes
 // Type 010, short, with bit 15 zero.
 fn short_of(g: Given, lists: &[u64], f: u64) -> Becomes
     requires { Readable g lists.now }
-    ensures { result ≡ short (coreTables g lists.now) f }
+    ensures { result ≡ short (core_tables g lists.now) f }
 {
     let minus = word::is_set(f, 14);
     let amount = word::bits(f, 5, 0);
@@ -187,7 +187,7 @@ fn short_of(g: Given, lists: &[u64], f: u64) -> Becomes
 // Type 010, long, with bit 15 set: the number, and whether its length is meant, are in the nine more bits.
 fn long_of(g: Given, lists: &[u64], f: u64, x: u64) -> Becomes
     requires { Readable g lists.now }
-    ensures { result ≡ long (coreTables g lists.now) f x }
+    ensures { result ≡ long (core_tables g lists.now) f x }
 {
     let amount = word::bits(f, 13, 0);
     if amount < LONG_LEAST {
@@ -203,7 +203,7 @@ fn long_of(g: Given, lists: &[u64], f: u64, x: u64) -> Becomes
 // Type 100: only a left half has it.
 fn switch_of(g: Given, lists: &[u64], channels: u64, k: Reference) -> Becomes
     requires { Readable g lists.now }
-    ensures { result ≡ switch (ioNumbers g lists.now) channels Left k }
+    ensures { result ≡ switch (io_numbers g lists.now) channels Left k }
 {
     if channels <= k.0 {
         return Becomes::Bad(FAULT_20);
@@ -214,7 +214,7 @@ fn switch_of(g: Given, lists: &[u64], channels: u64, k: Reference) -> Becomes
 // Type 111: the numbers of the type 3 entries come after those of types 0 and 2.
 fn unit_of(g: Given, lists: &[u64], channels: u64, k: Reference) -> Becomes
     requires { Readable g lists.now }
-    ensures { result ≡ unit (ioNumbers g lists.now) channels k }
+    ensures { result ≡ unit (io_numbers g lists.now) channels k }
 {
     if k.0 < channels {
         return Becomes::Bad(FAULT_20);
@@ -228,7 +228,7 @@ fn unit_of(g: Given, lists: &[u64], channels: u64, k: Reference) -> Becomes
 // The address of table k, or its length.
 fn address_or_length(g: Given, lists: &[u64], sized: bool, k: Reference) -> u64
     requires { (Readable g lists.now) × (k.0 < g.tables) }
-    ensures { (result ≡ addressOrLength sized (table (coreTables g lists.now) k)) × (result < 2 ^ 24) }
+    ensures { (result ≡ address_or_length sized (table (core_tables g lists.now) k)) × (result < 2 ^ 24) }
 {
     let t = lists::load::core_table(g, lists, k);
     if sized {
@@ -240,7 +240,7 @@ fn address_or_length(g: Given, lists: &[u64], sized: bool, k: Reference) -> u64
 // A table's address or length, plus or minus an amount. The address is absolute already.
 fn refer(g: Given, lists: &[u64], sized: bool, k: Reference, minus: bool, amount: u64) -> Becomes
     requires { (Readable g lists.now) × (amount < 2 ^ 24) }
-    ensures { result ≡ referred (coreTables g lists.now) sized k minus amount }
+    ensures { result ≡ referred (core_tables g lists.now) sized k minus amount }
 {
     if k.0 < g.tables {
         return plus_or_minus(minus, address_or_length(g, lists, sized, k), amount);
@@ -250,7 +250,7 @@ fn refer(g: Given, lists: &[u64], sized: bool, k: Reference, minus: bool, amount
 
 // A form that takes 0 away.
 fn minus_zero(minus: bool, amount: u64) -> bool
-    ensures { result ≡ minusZero minus amount }
+    ensures { result ≡ minus_zero minus amount }
 {
     if minus { amount == 0 } else { false }
 }
@@ -258,7 +258,7 @@ fn minus_zero(minus: bool, amount: u64) -> bool
 // The sum or the difference, which does not wrap.
 fn plus_or_minus(minus: bool, base: u64, amount: u64) -> Becomes
     requires { (base < 2 ^ 24) × (amount < 2 ^ 24) }
-    ensures { result ≡ plusOrMinus minus base amount }
+    ensures { result ≡ plus_or_minus minus base amount }
 {
     if minus {
         if amount <= base {

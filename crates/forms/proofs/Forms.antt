@@ -11,74 +11,74 @@ use Rattle.word.specs.declared.Half.{Half}
 use Rattle.word.specs.declared.Half.TheVariants.{Left, Right}
 use Rattle.word.specs.declared.Reference.{Reference}
 use Rattle.word.specs.Word.{part, put, bit, is_set, bits, lowest, field_of, a_field}
-use Rattle.word.proofs.Word.{flag-below, part-put, low-put, high-put, put-below}
+use Rattle.word.proofs.Word.{flag_below, part-put, low_put, high_put, put_below}
 use Rattle.word.proofs.Cases.{by-test, when, and_left, and_right}
 use Rattle.label.specs.declared.Counts.{Counts}
-use Rattle.label.specs.Tables.{withinLimits}
+use Rattle.label.specs.Tables.{within_limits}
 use Rattle.field.specs.Field.{reference}
 use Rattle.indicator.specs.declared.Indicator.{Indicator}
-use Rattle.indicator.specs.declared.Indicator.TheVariants.{Same as no_change, Change as of-type, Long as of-long}
+use Rattle.indicator.specs.declared.Indicator.TheVariants.{Same as no_change, Change as of_type_lem, Long as of-long}
 use Rattle.source.specs.declared.Change.{Change}
 use Rattle.source.specs.declared.Change.TheVariants.{Same, Move, Pair, Constant, ToChannel, ToUnit}
 use Rattle.word.specs.Word.{flag}
-use Rattle.source.specs.Change.{filledLowest, filledWidth, clearFor}
-use Rattle.source.specs.Fits.{standsIn}
-use Rattle.forms.specs.Forms.{form_of, filled, indicatorFor}
-use Rattle.forms.specs.Read.{changeOfType, changeRead, unfilled}
+use Rattle.source.specs.Change.{filled_lowest, filled_width, clear_for}
+use Rattle.source.specs.Fits.{stands_in}
+use Rattle.forms.specs.Forms.{form_of, filled, indicator_for}
+use Rattle.forms.specs.Read.{change_of_type, change_read, unfilled}
 use Rattle.forms.specs.HowForms.{Writable}
 
 -- ---- what fits a file can be written
 
 -- the limits on a file's entries, each by itself
-module _ (n : Counts) (l : withinLimits n ≡ true) where
-  few-channels : n.switches + n.channels ≤ 16
-  unfolding withinLimits
-  few-channels = leb-true _ 16 (and_left _ _ l)
+module _ (n : Counts) (l : within_limits n ≡ true) where
+  few_channels : n.switches + n.channels ≤ 16
+  unfolding within_limits
+  few_channels = leb-true _ 16 (and_left _ _ l)
 
-  few-units : n.switches + n.channels + n.units ≤ 128
-  unfolding withinLimits
-  few-units = leb-true _ 128 (and_left _ _ (and_right (leb (n.switches + n.channels) 16) _ l))
+  few_units : n.switches + n.channels + n.units ≤ 128
+  unfolding within_limits
+  few_units = leb-true _ 128 (and_left _ _ (and_right (leb (n.switches + n.channels) 16) _ l))
 
-  few-tables : n.tables ≤ 128
-  unfolding withinLimits
-  few-tables = leb-true _ 128
+  few_tables : n.tables ≤ 128
+  unfolding within_limits
+  few_tables = leb-true _ 128
       (and_right (leb (n.switches + n.channels + n.units) 128) _ (and_right (leb (n.switches + n.channels) 16) _ l))
 
-pub writable : (n : Counts) (h : Half) (c : Change) → withinLimits n ≡ true → standsIn n h c ≡ true → Writable h c
-unfolding standsIn
+pub writable : (n : Counts) (h : Half) (c : Change) → within_limits n ≡ true → stands_in n h c ≡ true → Writable h c
+unfolding stands_in
 writable n h Same l s = tt
 writable n h Move l s = tt
 writable n h (Pair minus address length) l s =
-    let t = few-tables n l in
+    let t = few_tables n l in
     let p = ltb-true address.0 n.tables (and_left _ _ s) in
     let q = ltb-true length.0 n.tables (and_right (ltb address.0 n.tables) _ s) in
     (omega arith, omega arith)
 writable n h (Constant minus sized table amount) l s =
-    let t = few-tables n l in
+    let t = few_tables n l in
     let p = ltb-true table.0 n.tables (and_left _ _ s) in
     let r = and_right (ltb table.0 n.tables) _ s in
     let q = leb-true amount 16383 (and_left _ _ r) in
     (omega arith, omega arith, and_right (leb amount 16383) _ r)
 writable n Left (ToChannel k) l s =
-    let t = few-channels n l in
+    let t = few_channels n l in
     let p = ltb-true k.0 (n.switches + n.channels) s in
     omega arith
 writable n Right (ToChannel k) l s = let z : ◌≡◌ {A = ℕ} 0 1 = cc in omega arith
 writable n h (ToUnit k) l s =
-    let t = few-units n l in
+    let t = few_units n l in
     let p = ltb-true k.0 (n.switches + n.channels + n.units) (and_right (leb (n.switches + n.channels) k.0) _ s) in
     omega arith
 
 -- ---- the form fits the bits that it fills
 
-pub form_small : (h : Half) (c : Change) → Writable h c → form_of c < 2 ^ filledWidth c
+pub form_small : (h : Half) (c : Change) → Writable h c → form_of c < 2 ^ filled_width c
 unfolding form_of
 form_small h Same r = omega arith
 form_small h Move r = omega arith
-form_small h (Pair minus address length) r = let m = flag-below minus in omega arith
+form_small h (Pair minus address length) r = let m = flag_below minus in omega arith
 form_small h (Constant minus sized table amount) r =
-    let m = flag-below minus in
-    let s = flag-below sized in
+    let m = flag_below minus in
+    let s = flag_below sized in
     when (λ (v : ℕ). v < 2 ^ 16) (ltb amount 64)
     (λ q. let l = ltb-true amount 64 q in omega arith)
     (λ q. omega arith)
@@ -87,67 +87,67 @@ form_small Right (ToChannel k) r = absurd r
 form_small h (ToUnit k) r = r
 
 -- what was written is read
-pub part_filled : (h : Half) (c : Change) (w : ℕ) → Writable h c → part (filledLowest h c) (filledWidth c) (filled h c w) ≡ form_of c
+pub part_filled : (h : Half) (c : Change) (w : ℕ) → Writable h c → part (filled_lowest h c) (filled_width c) (filled h c w) ≡ form_of c
 unfolding filled
-part_filled h c w r = part-put (filledLowest h c) (filledWidth c) w (form_of c) (form_small h c r)
+part_filled h c w r = part-put (filled_lowest h c) (filled_width c) w (form_of c) (form_small h c r)
 
 -- ---- the bits that are filled: none, the field, or in a left half bits 25-22. What holds of these holds whatever the change is
-on-left : (P : ℕ → ℕ → Type 0) → P 18 0 → P 18 16 → P 22 4 → (c : Change) → Writable Left c
-    → P (filledLowest Left c) (filledWidth c)
-on-left P none field a Same r = none
-on-left P none field a Move r = none
-on-left P none field a (Pair minus address length) r = field
-on-left P none field a (Constant minus sized table amount) r = field
-on-left P none field a (ToChannel k) r = a
-on-left P none field a (ToUnit k) r = field
+on_left : (P : ℕ → ℕ → Type 0) → P 18 0 → P 18 16 → P 22 4 → (c : Change) → Writable Left c
+    → P (filled_lowest Left c) (filled_width c)
+on_left P none field a Same r = none
+on_left P none field a Move r = none
+on_left P none field a (Pair minus address length) r = field
+on_left P none field a (Constant minus sized table amount) r = field
+on_left P none field a (ToChannel k) r = a
+on_left P none field a (ToUnit k) r = field
 
-on-right : (P : ℕ → ℕ → Type 0) → P 0 0 → P 0 16 → (c : Change) → Writable Right c → P (filledLowest Right c) (filledWidth c)
-on-right P none field Same r = none
-on-right P none field Move r = none
-on-right P none field (Pair minus address length) r = field
-on-right P none field (Constant minus sized table amount) r = field
-on-right P none field (ToChannel k) r = absurd r
-on-right P none field (ToUnit k) r = field
+on_right : (P : ℕ → ℕ → Type 0) → P 0 0 → P 0 16 → (c : Change) → Writable Right c → P (filled_lowest Right c) (filled_width c)
+on_right P none field Same r = none
+on_right P none field Move r = none
+on_right P none field (Pair minus address length) r = field
+on_right P none field (Constant minus sized table amount) r = field
+on_right P none field (ToChannel k) r = absurd r
+on_right P none field (ToUnit k) r = field
 
 -- a word stays a word
-pub filled-word : (h : Half) (c : Change) (w : ℕ) → Writable h c → w < 2 ^ 36 → filled h c w < 2 ^ 36
+pub filled_word : (h : Half) (c : Change) (w : ℕ) → Writable h c → w < 2 ^ 36 → filled h c w < 2 ^ 36
 unfolding filled
-filled-word Left c w r l =
-    on-left (λ k n. (v : ℕ) → v < 2 ^ n → put k n w v < 2 ^ 36)
-    (λ v. put-below 18 0 w v 18 l) (λ v. put-below 18 16 w v 2 l) (λ v. put-below 22 4 w v 10 l)
+filled_word Left c w r l =
+    on_left (λ k n. (v : ℕ) → v < 2 ^ n → put k n w v < 2 ^ 36)
+    (λ v. put_below 18 0 w v 18 l) (λ v. put_below 18 16 w v 2 l) (λ v. put_below 22 4 w v 10 l)
     c r (form_of c) (form_small Left c r)
-filled-word Right c w r l =
-    on-right (λ k n. (v : ℕ) → v < 2 ^ n → put k n w v < 2 ^ 36)
-    (λ v. put-below 0 0 w v 36 l) (λ v. put-below 0 16 w v 20 l)
+filled_word Right c w r l =
+    on_right (λ k n. (v : ℕ) → v < 2 ^ n → put k n w v < 2 ^ 36)
+    (λ v. put_below 0 0 w v 36 l) (λ v. put_below 0 16 w v 20 l)
     c r (form_of c) (form_small Right c r)
 
 -- the other half stays as it was, and so do bits 25-22 beside a right change
-pub left-beside : (c : Change) (w : ℕ) → Writable Right c → field_of Left (filled Right c w) ≡ field_of Left w
+pub left_beside : (c : Change) (w : ℕ) → Writable Right c → field_of Left (filled Right c w) ≡ field_of Left w
 unfolding filled
-left-beside c w r =
-    on-right (λ k n. (v : ℕ) → v < 2 ^ n → field_of Left (put k n w v) ≡ field_of Left w)
+left_beside c w r =
+    on_right (λ k n. (v : ℕ) → v < 2 ^ n → field_of Left (put k n w v) ≡ field_of Left w)
     (λ v l. omega arith) (λ v l. omega arith) c r (form_of c) (form_small Right c r)
 
-pub a-beside : (c : Change) (w : ℕ) → Writable Right c → a_field (filled Right c w) ≡ a_field w
+pub a_beside : (c : Change) (w : ℕ) → Writable Right c → a_field (filled Right c w) ≡ a_field w
 unfolding filled
-a-beside c w r =
-    on-right (λ k n. (v : ℕ) → v < 2 ^ n → a_field (put k n w v) ≡ a_field w)
+a_beside c w r =
+    on_right (λ k n. (v : ℕ) → v < 2 ^ n → a_field (put k n w v) ≡ a_field w)
     (λ v l. omega arith) (λ v l. omega arith) c r (form_of c) (form_small Right c r)
 
-pub right-beside : (c : Change) (w : ℕ) → Writable Left c → field_of Right (filled Left c w) ≡ field_of Right w
+pub right_beside : (c : Change) (w : ℕ) → Writable Left c → field_of Right (filled Left c w) ≡ field_of Right w
 unfolding filled
-right-beside c w r =
-    on-left (λ k n. (v : ℕ) → v < 2 ^ n → field_of Right (put k n w v) ≡ field_of Right w)
+right_beside c w r =
+    on_left (λ k n. (v : ℕ) → v < 2 ^ n → field_of Right (put k n w v) ≡ field_of Right w)
     (λ v l. omega arith) (λ v l. omega arith) (λ v l. omega arith) c r (form_of c) (form_small Left c r)
 
 -- so that the bits of a right change are clear, or not, whatever the left one filled
-pub clear-beside : (c d : Change) (w : ℕ) → Writable Left c → Writable Right d
-    → clearFor Right d (filled Left c w) ≡ clearFor Right d w
-unfolding clearFor
-clear-beside c d w r s =
-    let e = right-beside c w r in
+pub clear_beside : (c d : Change) (w : ℕ) → Writable Left c → Writable Right d
+    → clear_for Right d (filled Left c w) ≡ clear_for Right d w
+unfolding clear_for
+clear_beside c d w r s =
+    let e = right_beside c w r in
     let z : part 0 0 (filled Left c w) ≡ part 0 0 w = omega arith in
-    on-right (λ k n. eqb (part k n (filled Left c w)) 0 ≡ eqb (part k n w) 0)
+    on_right (λ k n. eqb (part k n (filled Left c w)) 0 ≡ eqb (part k n w) 0)
     (ap (λ (x : ℕ). eqb x 0) z) (ap (λ (x : ℕ). eqb x 0) e) d s
 
 -- ---- what is written reads back
@@ -160,10 +160,10 @@ flag-read false x e = rw e
 -- the field that a change writes, where it writes one
 module _ (h : Half) (w : ℕ) where
   pair_read : (minus : Bool) (address length : Reference) → Writable h (Pair minus address length)
-      → changeRead h (of-type 1) (filled h (Pair minus address length) w) ≡ Pair minus address length
-  unfolding changeRead changeOfType form_of
+      → change_read h (of_type_lem 1) (filled h (Pair minus address length) w) ≡ Pair minus address length
+  unfolding change_read change_of_type form_of
   pair_read minus address length r =
-      let m = flag-below minus in
+      let m = flag_below minus in
       let f = 2 ^ 14 * flag minus + 2 ^ 7 * address.0 + length.0 in
       let a : is_set 14 f ≡ minus = flag-read minus (bit 14 f) (omega arith) in
       let b : bits 13 7 f ≡ address.0 = omega arith in
@@ -172,11 +172,11 @@ module _ (h : Half) (w : ℕ) where
 
   short-read : (minus sized : Bool) (table : Reference) (amount : ℕ) → Writable h (Constant minus sized table amount)
       → ltb amount 64 ≡ true
-      → changeRead h (of-type 2) (filled h (Constant minus sized table amount) w) ≡ Constant minus sized table amount
-  unfolding changeRead changeOfType form_of
+      → change_read h (of_type_lem 2) (filled h (Constant minus sized table amount) w) ≡ Constant minus sized table amount
+  unfolding change_read change_of_type form_of
   short-read minus sized table amount r q =
-      let m = flag-below minus in
-      let s = flag-below sized in
+      let m = flag_below minus in
+      let s = flag_below sized in
       let l = ltb-true amount 64 q in
       let f = 2 ^ 14 * flag minus + 2 ^ 13 * flag sized + 2 ^ 6 * table.0 + amount in
       let a : is_set 14 f ≡ minus = flag-read minus (bit 14 f) (omega arith) in
@@ -187,12 +187,12 @@ module _ (h : Half) (w : ℕ) where
 
   long-read : (minus sized : Bool) (table : Reference) (amount : ℕ) → Writable h (Constant minus sized table amount)
       → ltb amount 64 ≡ false
-      → changeRead h (of-long (2 ^ 8 * flag sized + table.0)) (filled h (Constant minus sized table amount) w)
+      → change_read h (of-long (2 ^ 8 * flag sized + table.0)) (filled h (Constant minus sized table amount) w)
       ≡ Constant minus sized table amount
-  unfolding changeRead form_of
+  unfolding change_read form_of
   long-read minus sized table amount r q =
-      let m = flag-below minus in
-      let s = flag-below sized in
+      let m = flag_below minus in
+      let s = flag_below sized in
       let x = 2 ^ 8 * flag sized + table.0 in
       let f = 2 ^ 15 + 2 ^ 14 * flag minus + amount in
       let a : is_set 14 f ≡ minus = flag-read minus (bit 14 f) (omega arith) in
@@ -202,8 +202,8 @@ module _ (h : Half) (w : ℕ) where
       rw (part_filled h (Constant minus sized table amount) w r, q, a, b, c, d)
 
 -- the round trip: once over number and constant, and for either half
-pub read-filled : (h : Half) (c : Change) (w : ℕ) → Writable h c → changeRead h (indicatorFor c) (filled h c w) ≡ c
-unfolding changeRead changeOfType indicatorFor form_of
+pub read-filled : (h : Half) (c : Change) (w : ℕ) → Writable h c → change_read h (indicator_for c) (filled h c w) ≡ c
+unfolding change_read change_of_type indicator_for form_of
 read-filled h Same w r = refl
 read-filled h Move w r = refl
 read-filled h (Pair minus address length) w r = pair_read h w minus address length r
@@ -217,18 +217,18 @@ read-filled h (ToUnit k) w r = ap (λ n. ToUnit (reference n)) (part_filled h (T
 -- ---- and the word without what was filled is the word that was given, whose bits there were clear
 
 -- over any bits of a word: what is stored last stands, and what stands there already may be stored
-put-again : (k n w v u : ℕ) → v < 2 ^ n → put k n (put k n w v) u ≡ put k n w u
-put-again k n w v u l = rw (high-put k n w v l, low-put k n w v)
+put_again : (k n w v u : ℕ) → v < 2 ^ n → put k n (put k n w v) u ≡ put k n w u
+put_again k n w v u l = rw (high_put k n w v l, low_put k n w v)
 
 put_same : (k n w : ℕ) → put k n w (part k n w) ≡ w
 put_same k n w = rw (← shr-shr w k n, split (w / 2 ^ k) n) (split w k)
 
-pub filled-back : (h : Half) (c : Change) (w : ℕ) → Writable h c → clearFor h c w ≡ true → unfilled h c (filled h c w) ≡ w
-unfolding unfilled filled clearFor
-filled-back h c w r q =
-    put-again (filledLowest h c) (filledWidth c) w (form_of c) 0 (form_small h c r)
-    ∙ ap (put (filledLowest h c) (filledWidth c) w) (sym (eqb-true (part (filledLowest h c) (filledWidth c) w) 0 q))
-    ∙ put_same (filledLowest h c) (filledWidth c) w
+pub filled_back : (h : Half) (c : Change) (w : ℕ) → Writable h c → clear_for h c w ≡ true → unfilled h c (filled h c w) ≡ w
+unfolding unfilled filled clear_for
+filled_back h c w r q =
+    put_again (filled_lowest h c) (filled_width c) w (form_of c) 0 (form_small h c r)
+    ∙ ap (put (filled_lowest h c) (filled_width c) w) (sym (eqb-true (part (filled_lowest h c) (filled_width c) w) 0 q))
+    ∙ put_same (filled_lowest h c) (filled_width c) w
 
 -- so that a change which fills no bits leaves the word as it is: none, and a field that is moved
 put-none : (k w : ℕ) → put k 0 w 0 ≡ w
@@ -238,14 +238,14 @@ pub filled-same : (h : Half) (w : ℕ) → filled h Same w ≡ w
 unfolding filled form_of
 filled-same h w = put-none (lowest h) w
 
-pub filled-move : (h : Half) (w : ℕ) → filled h Move w ≡ w
+pub filled_move : (h : Half) (w : ℕ) → filled h Move w ≡ w
 unfolding filled form_of
-filled-move h w = put-none (lowest h) w
+filled_move h w = put-none (lowest h) w
 
 -- what a left half says does not hang on what a right change filled
-pub read-beside : (m : Indicator) (c : Change) (w : ℕ) → Writable Right c
-    → changeRead Left m (filled Right c w) ≡ changeRead Left m w
-unfolding changeRead
-read-beside no_change c w r = refl
-read-beside (of-type t) c w r = rw (left-beside c w r, a-beside c w r)
-read-beside (of-long x) c w r = rw (left-beside c w r)
+pub read_beside : (m : Indicator) (c : Change) (w : ℕ) → Writable Right c
+    → change_read Left m (filled Right c w) ≡ change_read Left m w
+unfolding change_read
+read_beside no_change c w r = refl
+read_beside (of_type_lem t) c w r = rw (left_beside c w r, a_beside c w r)
+read_beside (of-long x) c w r = rw (left_beside c w r)

@@ -13,45 +13,45 @@ use borrow.Author.Tests.{ltb-true, eqb-true}
 use Rattle.word.specs.declared.Half.{Half}
 use Rattle.word.specs.declared.Half.TheVariants.{Left, Right}
 use Rattle.word.specs.declared.Reference.{Reference}
-use Rattle.word.specs.Word.{bit, is_set, isWord, part, field_of}
+use Rattle.word.specs.Word.{bit, is_set, is_word, part, field_of}
 use Rattle.word.specs.Lists.{every}
 use Rattle.word.proofs.Cases.{by-test, and_left, and_right}
 use Rattle.indicator.specs.declared.Indicator.{Indicator}
-use Rattle.indicator.specs.declared.Indicator.TheVariants.{Same as no_change, Change as of-type, Long as of-long}
-use Rattle.indicator.specs.Indicator.{number_at, indicatorAt, width_of, afterField, afterWord, afterAll}
+use Rattle.indicator.specs.declared.Indicator.TheVariants.{Same as no_change, Change as of_type_lem, Long as of-long}
+use Rattle.indicator.specs.Indicator.{number_at, indicator_at, width_of, after_field, after_word, after_all}
 use Rattle.label.specs.declared.Counts.{Counts}
-use Rattle.label.specs.Tables.{withinLimits}
+use Rattle.label.specs.Tables.{within_limits}
 use Rattle.source.specs.declared.Change.{Change}
 use Rattle.source.specs.declared.Change.TheVariants.{Same, Move, Pair, Constant, ToChannel, ToUnit}
 use Rattle.source.specs.declared.Wanted.{Wanted}
 use Rattle.word.specs.Word.{flag}
-use Rattle.source.specs.Change.{changeNumber, changeIn, hasForm, clearFor}
-use Rattle.source.specs.Fits.{standsIn, changeFits, wordFits}
-use Rattle.forms.specs.Forms.{form_of, filled, programWord, indicatorFor, indicatorNumber, marksOf, wordMarks, wordWidth}
-use Rattle.forms.specs.Forms.{groupMarks}
-use Rattle.forms.specs.Read.{unfilled, leftRead, rightRead, wantedRead, groupRead}
+use Rattle.source.specs.Change.{change_number, change_in, has_form, clear_for}
+use Rattle.source.specs.Fits.{stands_in, change_fits, word_fits}
+use Rattle.forms.specs.Forms.{form_of, filled, program_word, indicator_for, indicator_number, marks_of, word_marks, word_width}
+use Rattle.forms.specs.Forms.{group_marks}
+use Rattle.forms.specs.Read.{unfilled, left_read, right_read, wanted_read, group_read}
 use Rattle.forms.specs.HowForms.{Writable, WritableWord}
-use Rattle.word.proofs.Word.{flag-below}
-use Rattle.forms.proofs.Forms.{writable, part_filled, left-beside, clear-beside, read-filled, filled-back}
-use Rattle.forms.proofs.Forms.{read-beside}
-use Rattle.forms.proofs.Numbers.{number-bits, number-alike}
-use Rattle.indicator.proofs.Bits.{length-bitsOf, getD-bitsOf}
+use Rattle.word.proofs.Word.{flag_below}
+use Rattle.forms.proofs.Forms.{writable, part_filled, left_beside, clear_beside, read-filled, filled_back}
+use Rattle.forms.proofs.Forms.{read_beside}
+use Rattle.forms.proofs.Numbers.{number_bits, number_alike}
+use Rattle.indicator.proofs.Bits.{length-bits_of, get_d_bits_of}
 
 -- ---- how many bits an indicator has, and those of a word
-pub length-marks : (m : Indicator) → length (marksOf m) ≡ width_of m
-unfolding marksOf
-length-marks m = length-bitsOf (width_of m) (indicatorNumber m)
+pub length-marks : (m : Indicator) → length (marks_of m) ≡ width_of m
+unfolding marks_of
+length-marks m = length-bits_of (width_of m) (indicator_number m)
 
-pub length-word : (x : Wanted) → length (wordMarks x) ≡ wordWidth x
-unfolding wordMarks wordWidth
-length-word x =
-    let l = indicatorFor (changeIn x.left) in
-    let r = indicatorFor (changeIn x.right) in
-    length-append (marksOf l) (marksOf r) ∙ rw (length-marks l, length-marks r)
+pub length_word_lem : (x : Wanted) → length (word_marks x) ≡ word_width x
+unfolding word_marks word_width
+length_word_lem x =
+    let l = indicator_for (change_in x.left) in
+    let r = indicator_for (change_in x.right) in
+    length-append (marks_of l) (marks_of r) ∙ rw (length-marks l, length-marks r)
 
-pub length-group : (x : Wanted) (xs : List Wanted) → length (groupMarks (x ∷ xs)) ≡ wordWidth x + length (groupMarks xs)
-unfolding groupMarks flat_map
-length-group x xs = length-append (wordMarks x) (groupMarks xs) ∙ rw length-word
+pub length_group : (x : Wanted) (xs : List Wanted) → length (group_marks (x ∷ xs)) ≡ word_width x + length (group_marks xs)
+unfolding group_marks flat_map
+length_group x xs = length-append (word_marks x) (group_marks xs) ∙ rw length_word_lem
 
 -- ---- one indicator, at a place p from which on the bits are its marks; f is what the field holds
 abbrev pub Alike : List ℕ → ℕ → List ℕ → ℕ → Type 0
@@ -59,36 +59,36 @@ Alike bits p marks n = (j : ℕ) → j < n → get_or bits (p + j) 0 ≡ get_or 
 
 module _ (bits : List ℕ) (p : ℕ) where
   -- its first bit; and what k of its bits spell, before which stand a of them and behind which c
-  first-mark : (m : Indicator) → 0 < width_of m → Alike bits p (marksOf m) (width_of m)
-      → get_or bits p 0 ≡ bit (width_of m - 1 - 0) (indicatorNumber m)
-  unfolding marksOf
-  first-mark m h f = rw (add-zero p) at (f 0 h) ∙ getD-bitsOf (width_of m) (indicatorNumber m) 0 h
+  first-mark : (m : Indicator) → 0 < width_of m → Alike bits p (marks_of m) (width_of m)
+      → get_or bits p 0 ≡ bit (width_of m - 1 - 0) (indicator_number m)
+  unfolding marks_of
+  first-mark m h f = rw (add-zero p) at (f 0 h) ∙ get_d_bits_of (width_of m) (indicator_number m) 0 h
 
-  some-marks : (m : Indicator) (a k c : ℕ) → a + k + c ≡ width_of m → Alike bits p (marksOf m) (width_of m)
-      → number_at bits (p + a) k ≡ part c k (indicatorNumber m)
-  unfolding marksOf
-  some-marks m a k c e f =
-      number-alike bits (marksOf m) p a k (λ j l. f j (omega arith)) ∙ number-bits (width_of m) (indicatorNumber m) a k c e
+  some_marks : (m : Indicator) (a k c : ℕ) → a + k + c ≡ width_of m → Alike bits p (marks_of m) (width_of m)
+      → number_at bits (p + a) k ≡ part c k (indicator_number m)
+  unfolding marks_of
+  some_marks m a k c e f =
+      number_alike bits (marks_of m) p a k (λ j l. f j (omega arith)) ∙ number_bits (width_of m) (indicator_number m) a k c e
 
-  same_read : (f : ℕ) → Alike bits p (marksOf no_change) 1 → indicatorAt bits p f ≡ no_change
-  unfolding indicatorAt indicatorNumber
+  same_read : (f : ℕ) → Alike bits p (marks_of no_change) 1 → indicator_at bits p f ≡ no_change
+  unfolding indicator_at indicator_number
   same_read f a = rw (first-mark no_change (omega arith) a)
 
-  type-read : (t f : ℕ) → t < 8 → (eqb t 2 && is_set 15 f) ≡ false → Alike bits p (marksOf (of-type t)) 4
-      → indicatorAt bits p f ≡ of-type t
-  unfolding indicatorAt indicatorNumber
-  type-read t f l q a =
-      let b : get_or bits p 0 ≡ 1 = first-mark (of-type t) (omega arith) a ∙ omega arith in
-      let n : number_at bits (p + 1) 3 ≡ t = some-marks (of-type t) 1 3 0 (omega arith) a ∙ omega arith in
+  type_read : (t f : ℕ) → t < 8 → (eqb t 2 && is_set 15 f) ≡ false → Alike bits p (marks_of (of_type_lem t)) 4
+      → indicator_at bits p f ≡ of_type_lem t
+  unfolding indicator_at indicator_number
+  type_read t f l q a =
+      let b : get_or bits p 0 ≡ 1 = first-mark (of_type_lem t) (omega arith) a ∙ omega arith in
+      let n : number_at bits (p + 1) 3 ≡ t = some_marks (of_type_lem t) 1 3 0 (omega arith) a ∙ omega arith in
       rw (b, n, q)
 
-  long-read : (x f : ℕ) → x < 2 ^ 9 → is_set 15 f ≡ true → Alike bits p (marksOf (of-long x)) 13
-      → indicatorAt bits p f ≡ of-long x
-  unfolding indicatorAt indicatorNumber
+  long-read : (x f : ℕ) → x < 2 ^ 9 → is_set 15 f ≡ true → Alike bits p (marks_of (of-long x)) 13
+      → indicator_at bits p f ≡ of-long x
+  unfolding indicator_at indicator_number
   long-read x f l q a =
       let b : get_or bits p 0 ≡ 1 = first-mark (of-long x) (omega arith) a ∙ omega arith in
-      let n : number_at bits (p + 1) 3 ≡ 2 = some-marks (of-long x) 1 3 9 (omega arith) a ∙ omega arith in
-      let o : number_at bits (p + 4) 9 ≡ x = some-marks (of-long x) 4 9 0 (omega arith) a ∙ omega arith in
+      let n : number_at bits (p + 1) 3 ≡ 2 = some_marks (of-long x) 1 3 9 (omega arith) a ∙ omega arith in
+      let o : number_at bits (p + 4) 9 ≡ x = some_marks (of-long x) 4 9 0 (omega arith) a ∙ omega arith in
       rw (b, n, q, o)
 
 -- ---- that of a change, from the field that it was written into: a short type 010 leaves bit 15 clear, a long one sets it
@@ -96,8 +96,8 @@ short-clear : (h : Half) (minus sized : Bool) (table : Reference) (amount w : �
     → ltb amount 64 ≡ true → is_set 15 (field_of h (filled h (Constant minus sized table amount) w)) ≡ false
 unfolding form_of
 short-clear h minus sized table amount w r q =
-    let m = flag-below minus in
-    let s = flag-below sized in
+    let m = flag_below minus in
+    let s = flag_below sized in
     let l = ltb-true amount 64 q in
     let e : bit 15 (2 ^ 14 * flag minus + 2 ^ 13 * flag sized + 2 ^ 6 * table.0 + amount) ≡ 0 = omega arith in
     rw (part_filled h (Constant minus sized table amount) w r, q, e)
@@ -106,156 +106,156 @@ long-set : (h : Half) (minus sized : Bool) (table : Reference) (amount w : ℕ) 
     → ltb amount 64 ≡ false → is_set 15 (field_of h (filled h (Constant minus sized table amount) w)) ≡ true
 unfolding form_of
 long-set h minus sized table amount w r q =
-    let m = flag-below minus in
+    let m = flag_below minus in
     let e : bit 15 (2 ^ 15 + 2 ^ 14 * flag minus + amount) ≡ 1 = omega arith in
     rw (part_filled h (Constant minus sized table amount) w r, q, e)
 
-pub indicator-read : (bits : List ℕ) (p : ℕ) (h : Half) (c : Change) (w : ℕ) → Writable h c
-    → Alike bits p (marksOf (indicatorFor c)) (width_of (indicatorFor c))
-    → indicatorAt bits p (field_of h (filled h c w)) ≡ indicatorFor c
-unfolding indicatorFor
-indicator-read bits p h Same w r = same_read bits p _
-indicator-read bits p h Move w r = type-read bits p 0 _ (omega arith) refl
-indicator-read bits p h (Pair minus address len) w r = type-read bits p 1 _ (omega arith) refl
-indicator-read bits p h (Constant minus sized table amount) w r = by-test (ltb amount 64)
-    (λ q. rw q (type-read bits p 2 _ (omega arith) (short-clear h minus sized table amount w r q)))
-    (λ q. let s = flag-below sized in rw q (long-read bits p _ _ (omega arith) (long-set h minus sized table amount w r q)))
-indicator-read bits p h (ToChannel k) w r = type-read bits p 4 _ (omega arith) refl
-indicator-read bits p h (ToUnit k) w r = type-read bits p 7 _ (omega arith) refl
+pub indicator_read : (bits : List ℕ) (p : ℕ) (h : Half) (c : Change) (w : ℕ) → Writable h c
+    → Alike bits p (marks_of (indicator_for c)) (width_of (indicator_for c))
+    → indicator_at bits p (field_of h (filled h c w)) ≡ indicator_for c
+unfolding indicator_for
+indicator_read bits p h Same w r = same_read bits p _
+indicator_read bits p h Move w r = type_read bits p 0 _ (omega arith) refl
+indicator_read bits p h (Pair minus address len) w r = type_read bits p 1 _ (omega arith) refl
+indicator_read bits p h (Constant minus sized table amount) w r = by-test (ltb amount 64)
+    (λ q. rw q (type_read bits p 2 _ (omega arith) (short-clear h minus sized table amount w r q)))
+    (λ q. let s = flag_below sized in rw q (long-read bits p _ _ (omega arith) (long-set h minus sized table amount w r q)))
+indicator_read bits p h (ToChannel k) w r = type_read bits p 4 _ (omega arith) refl
+indicator_read bits p h (ToUnit k) w r = type_read bits p 7 _ (omega arith) refl
 
 -- ---- a list of bits that is alike to two lists, one after the other, is alike to each
 module _ (bits : List ℕ) (p : ℕ) (xs ys : List ℕ) (n m : ℕ) (e : length xs ≡ n) (f : Alike bits p (xs ++ ys) (n + m)) where
-  alike-first : Alike bits p xs n
-  alike-first j l = f j (omega arith) ∙ get_or-append xs ys 0 j (omega arith)
+  alike_first : Alike bits p xs n
+  alike_first j l = f j (omega arith) ∙ get_or-append xs ys 0 j (omega arith)
 
-  alike-rest : Alike bits (p + n) ys m
-  alike-rest j l =
+  alike_rest : Alike bits (p + n) ys m
+  alike_rest j l =
       let i : p + n + j ≡ p + (n + j) = omega arith in
       rw i (f (n + j) (omega arith) ∙ rw (← e) (get_or-append-add xs ys j 0))
 
 -- ---- a word with both its changes, c in its left half and d in its right
 module _
     (bits : List ℕ) (p : ℕ) (c d : Change) (w : ℕ) (rc : Writable Left c) (rd : Writable Right d)
-    (ac : Alike bits p (marksOf (indicatorFor c)) (width_of (indicatorFor c)))
-    (ad : Alike bits (p + width_of (indicatorFor c)) (marksOf (indicatorFor d)) (width_of (indicatorFor d))) where
-  left-indicator : indicatorAt bits p (field_of Left (filled Right d (filled Left c w))) ≡ indicatorFor c
-  left-indicator = rw (left-beside d (filled Left c w) rd) (indicator-read bits p Left c w rc ac)
+    (ac : Alike bits p (marks_of (indicator_for c)) (width_of (indicator_for c)))
+    (ad : Alike bits (p + width_of (indicator_for c)) (marks_of (indicator_for d)) (width_of (indicator_for d))) where
+  left_indicator : indicator_at bits p (field_of Left (filled Right d (filled Left c w))) ≡ indicator_for c
+  left_indicator = rw (left_beside d (filled Left c w) rd) (indicator_read bits p Left c w rc ac)
 
-  after-left : afterField bits p (field_of Left (filled Right d (filled Left c w))) ≡ p + width_of (indicatorFor c)
-  unfolding afterField
-  after-left = rw left-indicator
+  after-left : after_field bits p (field_of Left (filled Right d (filled Left c w))) ≡ p + width_of (indicator_for c)
+  unfolding after_field
+  after-left = rw left_indicator
 
-  right-indicator : indicatorAt bits (p + width_of (indicatorFor c)) (field_of Right (filled Right d (filled Left c w)))
-      ≡ indicatorFor d
-  right-indicator = indicator-read bits (p + width_of (indicatorFor c)) Right d (filled Left c w) rd ad
+  right_indicator : indicator_at bits (p + width_of (indicator_for c)) (field_of Right (filled Right d (filled Left c w)))
+      ≡ indicator_for d
+  right_indicator = indicator_read bits (p + width_of (indicator_for c)) Right d (filled Left c w) rd ad
 
-  after-right : afterField bits (p + width_of (indicatorFor c)) (field_of Right (filled Right d (filled Left c w)))
-      ≡ p + width_of (indicatorFor c) + width_of (indicatorFor d)
-  unfolding afterField
-  after-right = rw right-indicator
+  after_right : after_field bits (p + width_of (indicator_for c)) (field_of Right (filled Right d (filled Left c w)))
+      ≡ p + width_of (indicator_for c) + width_of (indicator_for d)
+  unfolding after_field
+  after_right = rw right_indicator
 
-  left-change : leftRead bits p (filled Right d (filled Left c w)) ≡ c
-  left-change = rw left-indicator (read-beside (indicatorFor c) d (filled Left c w) rd ∙ read-filled Left c w rc)
+  left_change : left_read bits p (filled Right d (filled Left c w)) ≡ c
+  left_change = rw left_indicator (read_beside (indicator_for c) d (filled Left c w) rd ∙ read-filled Left c w rc)
 
-  right-change : rightRead bits p (filled Right d (filled Left c w)) ≡ d
-  right-change = rw (after-left, right-indicator) (read-filled Right d (filled Left c w) rd)
+  right_change : right_read bits p (filled Right d (filled Left c w)) ≡ d
+  right_change = rw (after-left, right_indicator) (read-filled Right d (filled Left c w) rd)
 
-  after_both : afterWord bits p (filled Right d (filled Left c w)) ≡ p + (width_of (indicatorFor c) + width_of (indicatorFor d))
-  unfolding afterWord
-  after_both = rw (after-left, after-right) (omega arith)
+  after_both : after_word bits p (filled Right d (filled Left c w)) ≡ p + (width_of (indicator_for c) + width_of (indicator_for d))
+  unfolding after_word
+  after_both = rw (after-left, after_right) (omega arith)
 
 -- the word that was given, where its bits are clear
-word_back : (c d : Change) (w : ℕ) → Writable Left c → Writable Right d → clearFor Left c w ≡ true → clearFor Right d w ≡ true
+word_back : (c d : Change) (w : ℕ) → Writable Left c → Writable Right d → clear_for Left c w ≡ true → clear_for Right d w ≡ true
     → unfilled Left c (unfilled Right d (filled Right d (filled Left c w))) ≡ w
 word_back c d w rc rd kc kd =
-    ap (unfilled Left c) (filled-back Right d (filled Left c w) rd (clear-beside c d w rc rd ∙ kd)) ∙ filled-back Left c w rc kc
+    ap (unfilled Left c) (filled_back Right d (filled Left c w) rd (clear_beside c d w rc rd ∙ kd)) ∙ filled_back Left c w rc kc
 
 -- a number of the form that a change has is that of the change which it means
-form-number : (n : ℕ) → hasForm n ≡ true → changeNumber (changeIn n) ≡ n
-unfolding hasForm
-form-number n q = eqb-true (changeNumber (changeIn n)) n q
+form_number : (n : ℕ) → has_form n ≡ true → change_number (change_in n) ≡ n
+unfolding has_form
+form_number n q = eqb-true (change_number (change_in n)) n q
 
-pub word_read : (bits : List ℕ) (p : ℕ) (x : Wanted) → Writable Left (changeIn x.left) → Writable Right (changeIn x.right)
-    → hasForm x.left ≡ true → hasForm x.right ≡ true
-    → clearFor Left (changeIn x.left) x.word ≡ true → clearFor Right (changeIn x.right) x.word ≡ true
-    → Alike bits p (wordMarks x) (wordWidth x)
-    → (wantedRead bits p (programWord x) ≡ x) × (afterWord bits p (programWord x) ≡ p + wordWidth x)
-unfolding wantedRead programWord wordMarks wordWidth
+pub word_read : (bits : List ℕ) (p : ℕ) (x : Wanted) → Writable Left (change_in x.left) → Writable Right (change_in x.right)
+    → has_form x.left ≡ true → has_form x.right ≡ true
+    → clear_for Left (change_in x.left) x.word ≡ true → clear_for Right (change_in x.right) x.word ≡ true
+    → Alike bits p (word_marks x) (word_width x)
+    → (wanted_read bits p (program_word x) ≡ x) × (after_word bits p (program_word x) ≡ p + word_width x)
+unfolding wanted_read program_word word_marks word_width
 word_read bits p x rc rd fc fd kc kd alike =
-    let c = changeIn x.left in
-    let d = changeIn x.right in
-    let l = indicatorFor c in
-    let r = indicatorFor d in
-    let ac = alike-first bits p (marksOf l) (marksOf r) (width_of l) (width_of r) (length-marks l) alike in
-    let ad = alike-rest bits p (marksOf l) (marksOf r) (width_of l) (width_of r) (length-marks l) alike in (
+    let c = change_in x.left in
+    let d = change_in x.right in
+    let l = indicator_for c in
+    let r = indicator_for d in
+    let ac = alike_first bits p (marks_of l) (marks_of r) (width_of l) (width_of r) (length-marks l) alike in
+    let ad = alike_rest bits p (marks_of l) (marks_of r) (width_of l) (width_of r) (length-marks l) alike in (
       rw (
-        left-change bits p c d x.word rc rd ac ad,
-        right-change bits p c d x.word rc rd ac ad,
+        left_change bits p c d x.word rc rd ac ad,
+        right_change bits p c d x.word rc rd ac ad,
         word_back c d x.word rc rd kc kd,
-        form-number x.left fc,
-        form-number x.right fd,
+        form_number x.left fc,
+        form_number x.right fd,
       ),
       after_both bits p c d x.word rc rd ac ad,
     )
 
 -- ---- a word that fits a file
-module _ (n : Counts) (limits : withinLimits n ≡ true) where
-  module _ (h : Half) (w k : ℕ) (fit : changeFits n h w k ≡ true) where
-    fit-form : hasForm k ≡ true
-    unfolding changeFits
-    fit-form = and_left _ _ fit
+module _ (n : Counts) (limits : within_limits n ≡ true) where
+  module _ (h : Half) (w k : ℕ) (fit : change_fits n h w k ≡ true) where
+    fit_form : has_form k ≡ true
+    unfolding change_fits
+    fit_form = and_left _ _ fit
 
-    fit-stands : standsIn n h (changeIn k) ≡ true
-    unfolding changeFits
-    fit-stands = and_left _ _ (and_right (hasForm k) _ fit)
+    fit_stands : stands_in n h (change_in k) ≡ true
+    unfolding change_fits
+    fit_stands = and_left _ _ (and_right (has_form k) _ fit)
 
-    fit-clear : clearFor h (changeIn k) w ≡ true
-    unfolding changeFits
-    fit-clear = and_right (standsIn n h (changeIn k)) _ (and_right (hasForm k) _ fit)
+    fit_clear : clear_for h (change_in k) w ≡ true
+    unfolding change_fits
+    fit_clear = and_right (stands_in n h (change_in k)) _ (and_right (has_form k) _ fit)
 
-    fit-writable : Writable h (changeIn k)
-    fit-writable = writable n h (changeIn k) limits fit-stands
+    fit_writable : Writable h (change_in k)
+    fit_writable = writable n h (change_in k) limits fit_stands
 
-  module _ (x : Wanted) (fit : wordFits n x ≡ true) where
-    fit-left : changeFits n Left x.word x.left ≡ true
-    unfolding wordFits
-    fit-left = and_left _ _ (and_right (isWord x.word) _ fit)
+  module _ (x : Wanted) (fit : word_fits n x ≡ true) where
+    fit_left : change_fits n Left x.word x.left ≡ true
+    unfolding word_fits
+    fit_left = and_left _ _ (and_right (is_word x.word) _ fit)
 
-    fit-right : changeFits n Right x.word x.right ≡ true
-    unfolding wordFits
-    fit-right = and_right (changeFits n Left x.word x.left) _ (and_right (isWord x.word) _ fit)
+    fit_right : change_fits n Right x.word x.right ≡ true
+    unfolding word_fits
+    fit_right = and_right (change_fits n Left x.word x.left) _ (and_right (is_word x.word) _ fit)
 
     -- can be written
-    pub writable-word : WritableWord x
-    unfolding wordFits
-    writable-word = record {
+    pub writable_word : WritableWord x
+    unfolding word_fits
+    writable_word = record {
       word = ltb-true x.word (2 ^ 36) (and_left _ _ fit);
-      left = fit-writable Left x.word x.left fit-left;
-      right = fit-writable Right x.word x.right fit-right;
+      left = fit_writable Left x.word x.left fit_left;
+      right = fit_writable Right x.word x.right fit_right;
     }
 
     -- and is read back
-    pub fit-read : (bits : List ℕ) (p : ℕ) → Alike bits p (wordMarks x) (wordWidth x)
-        → (wantedRead bits p (programWord x) ≡ x) × (afterWord bits p (programWord x) ≡ p + wordWidth x)
-    fit-read bits p alike =
-        word_read bits p x writable-word.left writable-word.right
-        (fit-form Left x.word x.left fit-left) (fit-form Right x.word x.right fit-right)
-        (fit-clear Left x.word x.left fit-left) (fit-clear Right x.word x.right fit-right) alike
+    pub fit_read : (bits : List ℕ) (p : ℕ) → Alike bits p (word_marks x) (word_width x)
+        → (wanted_read bits p (program_word x) ≡ x) × (after_word bits p (program_word x) ≡ p + word_width x)
+    fit_read bits p alike =
+        word_read bits p x writable_word.left writable_word.right
+        (fit_form Left x.word x.left fit_left) (fit_form Right x.word x.right fit_right)
+        (fit_clear Left x.word x.left fit_left) (fit_clear Right x.word x.right fit_right) alike
 
   -- ---- and so is a group of such words
-  pub group-read : (bits : List ℕ) (p : ℕ) (xs : List Wanted) → every (wordFits n) xs ≡ true
-      → Alike bits p (groupMarks xs) (length (groupMarks xs))
-      → (groupRead bits p (map programWord xs) ≡ xs) × (afterAll bits p (map programWord xs) ≡ p + length (groupMarks xs))
-  unfolding groupRead afterAll every groupMarks flat_map
-  group-read bits p [] fit alike = (refl, omega arith)
-  group-read bits p (x ∷ xs) fit alike =
-      let m = length (groupMarks xs) in
-      let e : length (wordMarks x ++ groupMarks xs) ≡ wordWidth x + m = length-group x xs in
-      let f : Alike bits p (wordMarks x ++ groupMarks xs) (wordWidth x + m) = rw e at alike in
-      let first = alike-first bits p (wordMarks x) (groupMarks xs) (wordWidth x) m (length-word x) f in
-      let rest = alike-rest bits p (wordMarks x) (groupMarks xs) (wordWidth x) m (length-word x) f in
-      let one = fit-read x (and_left (wordFits n x) (every (wordFits n) xs) fit) bits p first in
-      let more = group-read bits (p + wordWidth x) xs (and_right (wordFits n x) (every (wordFits n) xs) fit) rest in (
+  pub group_read_lem : (bits : List ℕ) (p : ℕ) (xs : List Wanted) → every (word_fits n) xs ≡ true
+      → Alike bits p (group_marks xs) (length (group_marks xs))
+      → (group_read bits p (map program_word xs) ≡ xs) × (after_all bits p (map program_word xs) ≡ p + length (group_marks xs))
+  unfolding group_read after_all every group_marks flat_map
+  group_read_lem bits p [] fit alike = (refl, omega arith)
+  group_read_lem bits p (x ∷ xs) fit alike =
+      let m = length (group_marks xs) in
+      let e : length (word_marks x ++ group_marks xs) ≡ word_width x + m = length_group x xs in
+      let f : Alike bits p (word_marks x ++ group_marks xs) (word_width x + m) = rw e at alike in
+      let first = alike_first bits p (word_marks x) (group_marks xs) (word_width x) m (length_word_lem x) f in
+      let rest = alike_rest bits p (word_marks x) (group_marks xs) (word_width x) m (length_word_lem x) f in
+      let one = fit_read x (and_left (word_fits n x) (every (word_fits n) xs) fit) bits p first in
+      let more = group_read_lem bits (p + word_width x) xs (and_right (word_fits n x) (every (word_fits n) xs) fit) rest in (
         rw (one.0, one.1, more.0),
-        ap (λ (q : ℕ). afterAll bits q (map programWord xs)) one.1 ∙ more.1 ∙ omega arith,
+        ap (λ (q : ℕ). after_all bits q (map program_word xs)) one.1 ∙ more.1 ∙ omega arith,
       )

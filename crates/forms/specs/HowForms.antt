@@ -8,8 +8,8 @@ use Rattle.indicator.specs.Indicator.{width_of}
 use Rattle.source.specs.declared.Change.{Change}
 use Rattle.source.specs.declared.Change.TheVariants.{Same, Move, Pair, Constant, ToChannel, ToUnit}
 use Rattle.source.specs.declared.Wanted.{Wanted}
-use Rattle.source.specs.Change.{changeIn}
-use Rattle.forms.specs.Forms.{indicatorFor, indicatorNumber}
+use Rattle.source.specs.Change.{change_in}
+use Rattle.forms.specs.Forms.{indicator_for, indicator_number}
 use Rattle.forms.specs.declared.Marks.{Marks}
 
 abbrev pub Writable : Half → Change → Type 0
@@ -24,15 +24,15 @@ Writable h (ToUnit k) = k.0 < 2 ^ 16
 
 pub record WritableWord (x : Wanted) : Type 0 where
   pub word : x.word < 2 ^ 36
-  pub left : Writable Left (changeIn x.left)
-  pub right : Writable Right (changeIn x.right)
+  pub left : Writable Left (change_in x.left)
+  pub right : Writable Right (change_in x.right)
 
 -- the indicators of a word as one number, and how many bits it has
 abbrev pub number_of_both : Indicator → Indicator → ℕ
-number_of_both l r = indicatorNumber l * 2 ^ width_of r + indicatorNumber r
+number_of_both l r = indicator_number l * 2 ^ width_of r + indicator_number r
 
-abbrev pub marksFor : Wanted → Marks
-marksFor x = record {
-  number = number_of_both (indicatorFor (changeIn x.left)) (indicatorFor (changeIn x.right));
-  width = width_of (indicatorFor (changeIn x.left)) + width_of (indicatorFor (changeIn x.right));
+abbrev pub marks_for : Wanted → Marks
+marks_for x = record {
+  number = number_of_both (indicator_for (change_in x.left)) (indicator_for (change_in x.right));
+  width = width_of (indicator_for (change_in x.left)) + width_of (indicator_for (change_in x.right));
 }

@@ -4,9 +4,9 @@ ghost use Rattle.std.specs.Prelude.{◌≡◌, ◌+◌, ◌*◌, ◌<◌, ◌^�
 ghost use Rattle.indicator.specs.Indicator.{width_of};
 ghost use Rattle.source.specs.declared.Change.TheVariants.{Pair, Constant};
 ghost use Rattle.word.specs.Word.{flag};
-ghost use Rattle.source.specs.Change.{changeIn};
-ghost use Rattle.forms.specs.Forms.{form_of, filled, programWord, indicatorFor, indicatorNumber, wordWidth};
-ghost use Rattle.forms.specs.HowForms.{Writable, WritableWord, marksFor};
+ghost use Rattle.source.specs.Change.{change_in};
+ghost use Rattle.forms.specs.Forms.{form_of, filled, program_word, indicator_for, indicator_number, word_width};
+ghost use Rattle.forms.specs.HowForms.{Writable, WritableWord, marks_for};
 
 use source::changes::{change_of, flag_of};
 use source::{Change, Wanted};
@@ -39,7 +39,7 @@ pub struct Marks {
 // A word as it stands in the file.
 pub fn program_word(x: Wanted) -> u64
     requires { WritableWord x }
-    ensures { result ≡ programWord x }
+    ensures { result ≡ program_word x }
 {
     let w = fill_half(Half::Left, x.left, x.word);
     fill_half(Half::Right, x.right, w)
@@ -47,8 +47,8 @@ pub fn program_word(x: Wanted) -> u64
 
 // The word with the form of the change that n means in a half.
 fn fill_half(h: Half, n: u64, w: u64) -> u64
-    requires { (w < 2 ^ 36) × (Writable h (changeIn n)) }
-    ensures { result ≡ filled h (changeIn n) w }
+    requires { (w < 2 ^ 36) × (Writable h (change_in n)) }
+    ensures { result ≡ filled h (change_in n) w }
 {
     if n == 0 {
         return w;
@@ -101,7 +101,7 @@ fn constant_form(minus: bool, sized: bool, table: Reference, amount: u64) -> u64
 
 // How many bits the indicators of a word have.
 pub fn word_width(x: Wanted) -> usize
-    ensures { result ≡ wordWidth x }
+    ensures { result ≡ word_width x }
 {
     let left = half_marks(x.left);
     let right = half_marks(x.right);
@@ -111,7 +111,7 @@ pub fn word_width(x: Wanted) -> usize
 // The indicators of a word.
 pub fn word_marks(x: Wanted) -> Marks
     requires { WritableWord x }
-    ensures { result ≡ marksFor x }
+    ensures { result ≡ marks_for x }
 {
     let left = half_marks(x.left);
     let right = half_marks(x.right);
@@ -123,8 +123,8 @@ pub fn word_marks(x: Wanted) -> Marks
 
 // The indicator of the change that n means.
 fn half_marks(n: u64) -> Marks
-    ensures number { result.number ≡ indicatorNumber (indicatorFor (changeIn n)) }
-    ensures width { result.width ≡ width_of (indicatorFor (changeIn n)) }
+    ensures number { result.number ≡ indicator_number (indicator_for (change_in n)) }
+    ensures width { result.width ≡ width_of (indicator_for (change_in n)) }
 {
     if n == 0 {
         return Marks {
@@ -137,9 +137,9 @@ fn half_marks(n: u64) -> Marks
 
 // The indicator of a change.
 fn change_marks(c: Change) -> Marks
-    requires { indicatorNumber (indicatorFor c) < 2 ^ 13 }
-    ensures number { result.number ≡ indicatorNumber (indicatorFor c) }
-    ensures width { result.width ≡ width_of (indicatorFor c) }
+    requires { indicator_number (indicator_for c) < 2 ^ 13 }
+    ensures number { result.number ≡ indicator_number (indicator_for c) }
+    ensures width { result.width ≡ width_of (indicator_for c) }
 {
     match c {
         Change::Same => Marks {

@@ -9,24 +9,24 @@ use native.Mathlib.Nat.{zero-add}
 use lib.ListN.{length, take, drop, length-drop}
 use lib.Seq.{take_all}
 use borrow.Author.Tests.{lt-ltb, le-ltb}
-use Rattle.word.specs.Limits.{wordsInBlock}
+use Rattle.word.specs.Limits.{words_in_block}
 use Rattle.word.specs.Lists.{range}
 use Rattle.word.specs.declared.Fault.{Fault}
 use Rattle.word.proofs.Lists.{rest-lent}
-use Rattle.block.specs.Records.{ofRecord, checksumPlace}
+use Rattle.block.specs.Records.{of_record, checksum_place}
 use Rattle.block.specs.Block.{verdict}
 use Rattle.block.specs.declared.Record.{Record}
 use Rattle.block.specs.declared.Record.TheVariants.{Modification, Program}
 use Rattle.block.specs.declared.Verdict.{Verdict}
 use Rattle.block.specs.declared.Verdict.TheVariants.{Pass, Refused}
-use Rattle.block.proofs.OnePass.{passed-known, whole_long}
+use Rattle.block.proofs.OnePass.{passed_known, whole_long}
 use Rattle.block.specs.Checksum.{checksum}
-use Rattle.front.specs.Front.{block_at, wrongRecord, modificationAt, modificationsTo, overAt, behindLabel}
+use Rattle.front.specs.Front.{block_at, wrong_record, modification_at, modifications_to, over_at, behind_label}
 
 -- a block that passes is of 256 words
-pub passed-long : (r : Record) (block : List ℕ) → verdict r block ≡ Pass → length block ≡ wordsInBlock
+pub passed_long : (r : Record) (block : List ℕ) → verdict r block ≡ Pass → length block ≡ words_in_block
 unfolding verdict
-passed-long r block q = whole_long block (passed-known checksum (checksumPlace r) block q).0
+passed_long r block q = whole_long block (passed_known checksum (checksum_place r) block q).0
 
 -- the last part of a slice is a block's, where it is no longer than one
 pub last-part : (l : List ℕ) (a n : ℕ) → length l - a ≤ n → take (length l - a) (drop a l) ≡ range l a n
@@ -37,74 +37,74 @@ last-part l a n h =
 
 module _ (blocks : List ℕ) (i : ℕ) where
   -- where no block is there
-  pub missing : (f : Fault) → f ≡ wrongRecord i → length blocks ≤ wordsInBlock * i → Refused f ≡ modificationAt blocks i
-  unfolding modificationAt
-  missing f w h = rw (w, le-ltb (wordsInBlock * i) (length blocks) h)
+  pub missing : (f : Fault) → f ≡ wrong_record i → length blocks ≤ words_in_block * i → Refused f ≡ modification_at blocks i
+  unfolding modification_at
+  missing f w h = rw (w, le-ltb (words_in_block * i) (length blocks) h)
 
-  pub none_over : length blocks ≤ wordsInBlock * i → Pass ≡ overAt blocks i
-  unfolding overAt
-  none_over h = rw (le-ltb (wordsInBlock * i) (length blocks) h)
+  pub none_over : length blocks ≤ words_in_block * i → Pass ≡ over_at blocks i
+  unfolding over_at
+  none_over h = rw (le-ltb (words_in_block * i) (length blocks) h)
 
   -- where one is
-  module _ (h : wordsInBlock * i < length blocks) (b : List ℕ) (e : b ≡ block_at blocks i) where
-    pub right-record : verdict Modification b ≡ Pass → true ≡ ofRecord Modification b → Pass ≡ modificationAt blocks i
-    unfolding modificationAt
-    right-record q r = rw (lt-ltb (wordsInBlock * i) (length blocks) h, ← e, q, ← r)
+  module _ (h : words_in_block * i < length blocks) (b : List ℕ) (e : b ≡ block_at blocks i) where
+    pub right_record : verdict Modification b ≡ Pass → true ≡ of_record Modification b → Pass ≡ modification_at blocks i
+    unfolding modification_at
+    right_record q r = rw (lt-ltb (words_in_block * i) (length blocks) h, ← e, q, ← r)
 
-    pub other-record : (f : Fault) → f ≡ wrongRecord i → verdict Modification b ≡ Pass → false ≡ ofRecord Modification b
-        → Refused f ≡ modificationAt blocks i
-    unfolding modificationAt
-    other-record f w q r = rw (w, lt-ltb (wordsInBlock * i) (length blocks) h, ← e, q, ← r)
+    pub other_record : (f : Fault) → f ≡ wrong_record i → verdict Modification b ≡ Pass → false ≡ of_record Modification b
+        → Refused f ≡ modification_at blocks i
+    unfolding modification_at
+    other_record f w q r = rw (w, lt-ltb (words_in_block * i) (length blocks) h, ← e, q, ← r)
 
-    pub refused-block : (f : Fault) → verdict Modification b ≡ Refused f → Refused f ≡ modificationAt blocks i
-    unfolding modificationAt
-    refused-block f q = rw (lt-ltb (wordsInBlock * i) (length blocks) h, ← e, q)
+    pub refused-block : (f : Fault) → verdict Modification b ≡ Refused f → Refused f ≡ modification_at blocks i
+    unfolding modification_at
+    refused-block f q = rw (lt-ltb (words_in_block * i) (length blocks) h, ← e, q)
 
-    pub over : (f : Fault) → f ≡ wrongRecord i → verdict Program b ≡ Pass → Refused f ≡ overAt blocks i
-    unfolding overAt
-    over f w q = rw (w, lt-ltb (wordsInBlock * i) (length blocks) h, ← e, q)
+    pub over : (f : Fault) → f ≡ wrong_record i → verdict Program b ≡ Pass → Refused f ≡ over_at blocks i
+    unfolding over_at
+    over f w q = rw (w, lt-ltb (words_in_block * i) (length blocks) h, ← e, q)
 
-    pub refused_over : (f : Fault) → verdict Program b ≡ Refused f → Refused f ≡ overAt blocks i
-    unfolding overAt
-    refused_over f q = rw (lt-ltb (wordsInBlock * i) (length blocks) h, ← e, q)
+    pub refused_over : (f : Fault) → verdict Program b ≡ Refused f → Refused f ≡ over_at blocks i
+    unfolding over_at
+    refused_over f q = rw (lt-ltb (words_in_block * i) (length blocks) h, ← e, q)
 
   -- the blocks up to i are right, and the next one is or is not
-  pub one_more : modificationsTo blocks i ≡ Pass → modificationAt blocks (i + 1) ≡ Pass → modificationsTo blocks (i + 1) ≡ Pass
-  unfolding modificationsTo
+  pub one_more : modifications_to blocks i ≡ Pass → modification_at blocks (i + 1) ≡ Pass → modifications_to blocks (i + 1) ≡ Pass
+  unfolding modifications_to
   one_more p q = let r = rw add-one at q in rw (add-one, p, r)
 
-  one-wrong : (f : Fault) → modificationsTo blocks i ≡ Pass → modificationAt blocks (i + 1) ≡ Refused f
-      → modificationsTo blocks (i + 1) ≡ Refused f
-  unfolding modificationsTo
-  one-wrong f p q = let r = rw add-one at q in rw (add-one, p, r)
+  one_wrong : (f : Fault) → modifications_to blocks i ≡ Pass → modification_at blocks (i + 1) ≡ Refused f
+      → modifications_to blocks (i + 1) ≡ Refused f
+  unfolding modifications_to
+  one_wrong f p q = let r = rw add-one at q in rw (add-one, p, r)
 
 module _ (blocks : List ℕ) where
   -- the first that is not is told, however many are due
-  wrong_stays : (f : Fault) (i n : ℕ) → modificationsTo blocks i ≡ Refused f → modificationsTo blocks (n + i) ≡ Refused f
-  unfolding modificationsTo
+  wrong_stays : (f : Fault) (i n : ℕ) → modifications_to blocks i ≡ Refused f → modifications_to blocks (n + i) ≡ Refused f
+  unfolding modifications_to
   wrong_stays f i zero q = rw zero-add q
   wrong_stays f i (suc n) q = let e : suc n + i ≡ suc (n + i) = omega arith in rw (e, wrong_stays f i n q)
 
-  pub first-wrong : (i : ℕ) (f : Fault) (m : ℕ) → i < m → modificationsTo blocks i ≡ Pass
-      → modificationAt blocks (i + 1) ≡ Refused f
-      → Refused f ≡ modificationsTo blocks m
-  first-wrong i f m h p q =
+  pub first_wrong_lem : (i : ℕ) (f : Fault) (m : ℕ) → i < m → modifications_to blocks i ≡ Pass
+      → modification_at blocks (i + 1) ≡ Refused f
+      → Refused f ≡ modifications_to blocks m
+  first_wrong_lem i f m h p q =
       let e : m - (i + 1) + (i + 1) ≡ m = omega arith in
-      sym (rw e at (wrong_stays f (i + 1) (m - (i + 1)) (one-wrong blocks i f p q)))
+      sym (rw e at (wrong_stays f (i + 1) (m - (i + 1)) (one_wrong blocks i f p q)))
 
   -- all that are due are right
-  pub all_right : (i m : ℕ) → i ≤ m → m ≤ i → modificationsTo blocks i ≡ Pass → Pass ≡ modificationsTo blocks m
+  pub all_right : (i m : ℕ) → i ≤ m → m ≤ i → modifications_to blocks i ≡ Pass → Pass ≡ modifications_to blocks m
   all_right i m h k q = let e : i ≡ m = omega arith in sym (rw e at q)
 
-  pub none_yet : modificationsTo blocks 0 ≡ Pass
-  unfolding modificationsTo
+  pub none_yet : modifications_to blocks 0 ≡ Pass
+  unfolding modifications_to
   none_yet = refl
 
   -- and then what is over
-  pub behind-right : (m : ℕ) (v : Verdict) → modificationsTo blocks m ≡ Pass → v ≡ overAt blocks (m + 1) → v ≡ behindLabel blocks m
-  unfolding behindLabel
-  behind-right m v p q = let r = rw add-one at q in rw (p, ← r)
+  pub behind_right : (m : ℕ) (v : Verdict) → modifications_to blocks m ≡ Pass → v ≡ over_at blocks (m + 1) → v ≡ behind_label blocks m
+  unfolding behind_label
+  behind_right m v p q = let r = rw add-one at q in rw (p, ← r)
 
-  pub behind-wrong : (m : ℕ) (f : Fault) → modificationsTo blocks m ≡ Refused f → Refused f ≡ behindLabel blocks m
-  unfolding behindLabel
-  behind-wrong m f p = rw p
+  pub behind_wrong : (m : ℕ) (f : Fault) → modifications_to blocks m ≡ Refused f → Refused f ≡ behind_label blocks m
+  unfolding behind_label
+  behind_wrong m f p = rw p

@@ -1,10 +1,10 @@
 // The front of a program file, its label and its modification blocks, read without a desk (#101): whether it is right, what the label
 // needs, and the words of the entries.
 ghost use Rattle.std.specs.Prelude.{◌≡◌, ◌*◌, ◌≤◌, ◌<◌, ◌^◌, length};
-ghost use Rattle.word.specs.Limits.{wordsInBlock};
+ghost use Rattle.word.specs.Limits.{words_in_block};
 ghost use Rattle.label.specs.Label.{Carried};
-ghost use Rattle.front.specs.Front.{labelBlock, block_at, modificationAt, modificationsTo, overAt, behindLabel, frontOf};
-ghost use Rattle.front.specs.Front.{wrongRecord, with_blocks, blocksDue, entryWord, needsValue};
+ghost use Rattle.front.specs.Front.{label_block, block_at, modification_at, modifications_to, over_at, behind_label, front_of};
+ghost use Rattle.front.specs.Front.{wrong_record, with_blocks, blocks_due, entry_word, needs_value};
 ghost use Rattle.label.specs.declared.LabelRead.TheVariants.{Good};
 
 use block::{BLOCK_WORDS, Record, Verdict};
@@ -19,7 +19,7 @@ const BLOCKS_UNIT: u64 = 1 << 20;
 
 // A label that is lent alone.
 pub fn read_label_block(block: &[u64]) -> LabelRead
-    ensures { result ≡ labelBlock block.now }
+    ensures { result ≡ label_block block.now }
 {
     match block::check_block(block, Record::Label) {
         Verdict::Pass => label::read_label(block),
@@ -29,7 +29,7 @@ pub fn read_label_block(block: &[u64]) -> LabelRead
 
 // The label of a front whose blocks are all there and right, or the first fault.
 pub fn read_front(blocks: &[u64]) -> LabelRead
-    ensures { result ≡ frontOf blocks.now }
+    ensures { result ≡ front_of blocks.now }
 {
     if blocks.len() == 0 {
         return LabelRead::Bad(FAULT_13);
@@ -54,7 +54,7 @@ fn with_blocks(blocks: &[u64], l: Label) -> LabelRead
 // How many modification blocks the label makes due.
 fn blocks_due(l: Label) -> u64
     requires { Carried l }
-    ensures { result ≡ blocksDue l }
+    ensures { result ≡ blocks_due l }
 {
     modification::entry_blocks(l.switches + l.channels + l.units, l.tables)
 }
@@ -62,7 +62,7 @@ fn blocks_due(l: Label) -> u64
 // The blocks behind the label, of which m are due.
 fn check_behind(blocks: &[u64], m: usize) -> Verdict
     requires { m ≤ 65536 }
-    ensures { result ≡ behindLabel blocks.now m }
+    ensures { result ≡ behind_label blocks.now m }
 {
     match check_modifications(blocks, m) {
         Verdict::Pass => check_over(blocks, m + 1),
@@ -73,7 +73,7 @@ fn check_behind(blocks: &[u64], m: usize) -> Verdict
 // Modification blocks 1 to m.
 fn check_modifications(blocks: &[u64], m: usize) -> Verdict
     requires { m ≤ 65536 }
-    ensures { result ≡ modificationsTo blocks.now m }
+    ensures { result ≡ modifications_to blocks.now m }
 {
     let mut i: usize = 0;
     while i < m {
@@ -90,7 +90,7 @@ fn check_modifications(blocks: &[u64], m: usize) -> Verdict
 // Block i, where a modification block is due.
 fn check_modification(blocks: &[u64], i: usize) -> Verdict
     requires { i ≤ 2 ^ 20 }
-    ensures { result ≡ modificationAt blocks.now i }
+    ensures { result ≡ modification_at blocks.now i }
 {
     if blocks.len() <= BLOCK_WORDS * i {
         return Verdict::Refused(wrong_record(i));
@@ -110,7 +110,7 @@ fn check_modification(blocks: &[u64], i: usize) -> Verdict
 // Block i, where none is due any more.
 fn check_over(blocks: &[u64], i: usize) -> Verdict
     requires { i ≤ 2 ^ 20 }
-    ensures { result ≡ overAt blocks.now i }
+    ensures { result ≡ over_at blocks.now i }
 {
     if blocks.len() <= BLOCK_WORDS * i {
         return Verdict::Pass;
@@ -124,14 +124,14 @@ fn check_over(blocks: &[u64], i: usize) -> Verdict
 // 13 at the first word of block i.
 fn wrong_record(i: usize) -> Fault
     requires { i ≤ 2 ^ 20 }
-    ensures { result ≡ wrongRecord i }
+    ensures { result ≡ wrong_record i }
 {
     word::further((BLOCK_WORDS * i) as u64, FAULT_13)
 }
 
 // Block i, as far as it is there.
 fn block_at(blocks: &[u64], i: usize) -> &[u64]
-    requires { wordsInBlock * i < length blocks.now }
+    requires { words_in_block * i < length blocks.now }
     ensures { result.now ≡ block_at blocks.now i }
 {
     let a = BLOCK_WORDS * i;
@@ -144,7 +144,7 @@ fn block_at(blocks: &[u64], i: usize) -> &[u64]
 // Entry word k of a file, counted from 0 through all entry words.
 pub fn entry_word(blocks: &[u64], k: u64) -> u64
     requires { k ≤ 65536 }
-    ensures { result ≡ entryWord blocks.now k }
+    ensures { result ≡ entry_word blocks.now k }
 {
     let s = modification::spot_of(k);
     word::word_at(
@@ -156,7 +156,7 @@ pub fn entry_word(blocks: &[u64], k: u64) -> u64
 // What the label needs, as one number.
 pub fn needs_value(l: Label) -> u64
     requires { Carried l }
-    ensures { result ≡ needsValue l }
+    ensures { result ≡ needs_value l }
 {
     let io = l.switches + l.channels + l.units;
     io + TABLES_UNIT * l.tables + BLOCKS_UNIT * blocks_due(l)

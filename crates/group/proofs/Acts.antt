@@ -11,8 +11,8 @@ use Rattle.word.specs.declared.Fault.{Fault}
 use Rattle.word.specs.Fault.{fault, further}
 use Rattle.word.specs.Lists.{splice, cleared}
 use Rattle.word.proofs.Cases.{by-test, by-lt}
-use Rattle.word.proofs.Lists.{length-range-most, getD-splice-in}
-use Rattle.word.proofs.Stretch.{splice-none, getD-splice-beside}
+use Rattle.word.proofs.Lists.{length-range_most, get_d_splice_in}
+use Rattle.word.proofs.Stretch.{splice-none, get_d_splice_beside}
 use Rattle.program.specs.declared.Group.{Group}
 use Rattle.program.specs.declared.GroupRead.{GroupRead}
 use Rattle.program.specs.declared.GroupRead.TheVariants.{Good, Bad}
@@ -21,11 +21,11 @@ use Rattle.field.specs.Field.{Assignments}
 use Rattle.group.specs.declared.GroupStep.{GroupStep}
 use Rattle.group.specs.declared.GroupStep.TheVariants.{Done, Refused}
 use Rattle.group.specs.declared.Section.{Section}
-use Rattle.group.specs.Group.{Words, changedWords, programWords, indicatorBitsIn, wordsLie, groupFits, GroupOutcome}
-use Rattle.group.specs.Group.{address_of, refusedGroup, storedGroup, groupOutcome, readOutcome, groupStep, InArea}
+use Rattle.group.specs.Group.{Words, changed_words, program_words, indicator_bits_in, words_lie, group_fits, GroupOutcome}
+use Rattle.group.specs.Group.{address_of, refused_group, stored_group, group_outcome, read_outcome, group_step, InArea}
 use Rattle.group.specs.Group.Words.{Become, Refuse}
-use Rattle.group.proofs.Group.{untouched, group-fits}
-use Rattle.group.proofs.Places.{words-lie}
+use Rattle.group.proofs.Group.{untouched, group_fits_lem}
+use Rattle.group.proofs.Places.{words_lie_lem}
 use Rattle.group.proofs.Words.{Many, changed-many}
 
 -- one answer, and one stretch of words of the area, whatever the core holds
@@ -44,8 +44,8 @@ module _ (area : Area) where
   choose true f g p q = p refl
   choose false f g p q = q
 
-  untouched-acts : (f : Fault) → Acts area (λ core. untouched core f)
-  untouched-acts f = record {
+  untouched_acts : (f : Fault) → Acts area (λ core. untouched core f)
+  untouched_acts f = record {
     answer = Refused f;
     to = area.at.0;
     words = [];
@@ -57,10 +57,10 @@ module _ (area : Area) where
 
   module _ (section : Section) (g : Group) (room : InArea area section) where
     -- the words cleared, if they lie where they must
-    refused-acts : (f : Fault) → Acts area (λ core. refusedGroup area section g core f)
-    unfolding refusedGroup cleared
-    refused-acts f = by-test (wordsLie section g)
-        (λ q. let l = words-lie area section g room q in
+    refused_acts : (f : Fault) → Acts area (λ core. refused_group area section g core f)
+    unfolding refused_group cleared
+    refused_acts f = by-test (words_lie section g)
+        (λ q. let l = words_lie_lem area section g room q in
         rw q
         (record {
           answer = Refused f;
@@ -71,13 +71,13 @@ module _ (area : Area) where
           told = λ core. refl;
           left = λ core. refl;
         }))
-        (λ q. rw q (untouched-acts f))
+        (λ q. rw q (untouched_acts f))
 
-    stored-acts : wordsLie section g ≡ true → (i n : ℕ) → n ≤ g.program → (r : Words) → Many n r
-        → Acts area (λ core. storedGroup area section i g core r)
-    unfolding storedGroup
-    stored-acts q i n few (Become vs) m =
-        let l = words-lie area section g room q in
+    stored_acts : words_lie section g ≡ true → (i n : ℕ) → n ≤ g.program → (r : Words) → Many n r
+        → Acts area (λ core. stored_group area section i g core r)
+    unfolding stored_group
+    stored_acts q i n few (Become vs) m =
+        let l = words_lie_lem area section g room q in
         record {
           answer = Done (i + 1 + g.words) g.last;
           to = (address_of area section g).0;
@@ -87,48 +87,48 @@ module _ (area : Area) where
           told = λ core. refl;
           left = λ core. refl;
         }
-    stored-acts q i n few (Refuse f) m = refused-acts (further 1 f)
+    stored_acts q i n few (Refuse f) m = refused_acts (further 1 f)
 
 module _ (a : Assignments) (section : Section) (block : List ℕ) (i : ℕ) where
-  read-acts : InArea a.area section → (r : GroupRead) → Acts a.area (λ core. readOutcome a section block i core r)
-  unfolding readOutcome groupOutcome
-  read-acts room (Good g) =
-      choose a.area (groupFits section block i g) _ _
-      (λ q. stored-acts a.area section g room (group-fits section block i g q).lies i (length (programWords block i g))
-      (length-range-most block (i + 1) g.program) (changedWords a (indicatorBitsIn block i g) 0 (programWords block i g))
-      (changed-many a (indicatorBitsIn block i g) 0 (programWords block i g)))
-      (refused-acts a.area section g room (fault 18))
-  read-acts room (Bad f) = untouched-acts a.area f
+  read_acts : InArea a.area section → (r : GroupRead) → Acts a.area (λ core. read_outcome a section block i core r)
+  unfolding read_outcome group_outcome
+  read_acts room (Good g) =
+      choose a.area (group_fits section block i g) _ _
+      (λ q. stored_acts a.area section g room (group_fits_lem section block i g q).lies i (length (program_words block i g))
+      (length-range_most block (i + 1) g.program) (changed_words a (indicator_bits_in block i g) 0 (program_words block i g))
+      (changed-many a (indicator_bits_in block i g) 0 (program_words block i g)))
+      (refused_acts a.area section g room (fault 18))
+  read_acts room (Bad f) = untouched_acts a.area f
 
-  pub group-acts : InArea a.area section → Acts a.area (groupStep a section block i)
-  unfolding groupStep
-  group-acts room = read-acts room (group_of (get_or block i 0))
+  pub group_acts : InArea a.area section → Acts a.area (group_step a section block i)
+  unfolding group_step
+  group_acts room = read_acts room (group_of (get_or block i 0))
 
 -- ---- two cores that hold the area, with the same words in it
 abbrev pub Alike : Area → List ℕ → List ℕ → Type 0
 Alike area core core' = (j : ℕ) → area.at.0 ≤ j → j < area.at.0 + area.size → get_or core j 0 ≡ get_or core' j 0
 
 -- the same words written into both leave the same words in the area
-splice-alike : (area : Area) (core core' : List ℕ) (to : ℕ) (vs : List ℕ) → to + length vs ≤ length core
+splice_alike : (area : Area) (core core' : List ℕ) (to : ℕ) (vs : List ℕ) → to + length vs ≤ length core
     → to + length vs ≤ length core'
     → Alike area core core' → Alike area (splice core to vs) (splice core' to vs)
-splice-alike area core core' to vs h h' s j l k =
+splice_alike area core core' to vs h h' s j l k =
     by-lt j to
-    (λ b. getD-splice-beside core to vs j h (inl b) ∙ s j l k ∙ sym (getD-splice-beside core' to vs j h' (inl b)))
+    (λ b. get_d_splice_beside core to vs j h (inl b) ∙ s j l k ∙ sym (get_d_splice_beside core' to vs j h' (inl b)))
     (λ b. by-lt j (to + length vs)
     (λ d. let e : to + (j - to) ≡ j = omega arith in
-    rw e at (getD-splice-in core to vs (j - to) (omega arith) h ∙ sym (getD-splice-in core' to vs (j - to) (omega arith) h')))
-    (λ d. getD-splice-beside core to vs j h (inr d) ∙ s j l k ∙ sym (getD-splice-beside core' to vs j h' (inr d))))
+    rw e at (get_d_splice_in core to vs (j - to) (omega arith) h ∙ sym (get_d_splice_in core' to vs (j - to) (omega arith) h')))
+    (λ d. get_d_splice_beside core to vs j h (inr d) ∙ s j l k ∙ sym (get_d_splice_beside core' to vs j h' (inr d))))
 
 module _ (a : Assignments) (section : Section) (block : List ℕ) (i : ℕ) (room : InArea a.area section)
     (core core' : List ℕ) where
-  pub group-same : (groupStep a section block i core).answer ≡ (groupStep a section block i core').answer
-  group-same = let x = group-acts a section block i room in x.told core ∙ sym (x.told core')
+  pub group_same : (group_step a section block i core).answer ≡ (group_step a section block i core').answer
+  group_same = let x = group_acts a section block i room in x.told core ∙ sym (x.told core')
 
-  pub group-alike : a.area.at.0 + a.area.size ≤ length core → a.area.at.0 + a.area.size ≤ length core'
+  pub group_alike : a.area.at.0 + a.area.size ≤ length core → a.area.at.0 + a.area.size ≤ length core'
       → Alike a.area core core'
-      → Alike a.area (groupStep a section block i core).core (groupStep a section block i core').core
-  group-alike h h' s =
-      let x = group-acts a section block i room in
+      → Alike a.area (group_step a section block i core).core (group_step a section block i core').core
+  group_alike h h' s =
+      let x = group_acts a section block i room in
       rw (x.left core, x.left core')
-      (splice-alike a.area core core' x.to x.words (omega (arith, x.high)) (omega (arith, x.high)) s)
+      (splice_alike a.area core core' x.to x.words (omega (arith, x.high)) (omega (arith, x.high)) s)

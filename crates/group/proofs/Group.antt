@@ -8,16 +8,16 @@ use Prim.Native.Nat.{ℕ, ◌+◌, ◌<◌, ◌≤◌}
 use native.Mathlib.Omega.{arith}
 use lib.ListN.{length, get_or}
 use borrow.Author.Tests.{leb-true}
-use Rattle.word.specs.Limits.{wordsInBlock}
-use Rattle.program.specs.Sections.{lastWord}
+use Rattle.word.specs.Limits.{words_in_block}
+use Rattle.program.specs.Sections.{last_word}
 use Rattle.word.specs.declared.Absolute.{Absolute}
 use Rattle.word.specs.declared.Fault.{Fault}
 use Rattle.word.specs.Fault.{fault, further}
 use Rattle.word.specs.Lists.{every, splice, cleared}
-use Rattle.word.specs.Word.{isWord}
+use Rattle.word.specs.Word.{is_word}
 use Rattle.word.proofs.Cases.{and_left, and_right, when}
-use Rattle.word.proofs.Lists.{length-range, length-range-most, length-splice, getD-splice-in}
-use Rattle.word.proofs.Stretch.{Beside, length-cleared, getD-splice-beside, getD-cleared-beside, every-range}
+use Rattle.word.proofs.Lists.{length-range, length-range_most, length-splice, get_d_splice_in}
+use Rattle.word.proofs.Stretch.{Beside, length-cleared, get_d_splice_beside, get_d_cleared_beside, every-range}
 use Rattle.program.specs.declared.Group.{Group}
 use Rattle.program.specs.declared.GroupRead.{GroupRead}
 use Rattle.program.specs.declared.GroupRead.TheVariants.{Good, Bad}
@@ -26,46 +26,46 @@ use Rattle.field.specs.Field.{Assignments}
 use Rattle.group.specs.declared.GroupStep.{GroupStep}
 use Rattle.group.specs.declared.GroupStep.TheVariants.{Done, Refused}
 use Rattle.group.specs.declared.Section.{Section}
-use Rattle.group.specs.Group.{Words, changedWords, programWords, indicatorBitsIn, inOneBlock, holdsProgram, wordsLie}
-use Rattle.group.specs.Group.{indicatorsFit, groupFits, GroupOutcome, GroupMeets, address_of, refusedGroup, storedGroup}
-use Rattle.group.specs.Group.{groupOutcome, readOutcome, groupStep, InArea}
+use Rattle.group.specs.Group.{Words, changed_words, program_words, indicator_bits_in, in_one_block, holds_program, words_lie}
+use Rattle.group.specs.Group.{indicators_fit, group_fits, GroupOutcome, GroupMeets, address_of, refused_group, stored_group}
+use Rattle.group.specs.Group.{group_outcome, read_outcome, group_step, InArea}
 use Rattle.group.specs.Group.Words.{Become, Refuse}
 use Rattle.group.proofs.Stored.{StoredWords, stored-none, stored-splice, stored-cleared}
-use Rattle.group.proofs.Places.{Lies, words-lie}
-use Rattle.group.proofs.Words.{changed-many, changed-below}
+use Rattle.group.proofs.Places.{Lies, words_lie_lem}
+use Rattle.group.proofs.Words.{changed-many, changed_below}
 
 -- two outcomes that meet the contract are equal
-pub one-outcome : (o : GroupOutcome) (r r' : GroupStep) (core core' : List ℕ) → GroupMeets o r core → GroupMeets o r' core'
+pub one_outcome : (o : GroupOutcome) (r r' : GroupStep) (core core' : List ℕ) → GroupMeets o r core → GroupMeets o r' core'
     → (r ≡ r') × (core ≡ core')
-one-outcome o r r' core core' p q = (p.told ∙ sym q.told, p.left ∙ sym q.left)
+one_outcome o r r' core core' p q = (p.told ∙ sym q.told, p.left ∙ sym q.left)
 
 -- what the tests of a group say together
 pub record Fit (section : Section) (i : ℕ) (g : Group) : Type 0 where
-  pub whole : i + g.words ≤ lastWord
+  pub whole : i + g.words ≤ last_word
   pub holds : g.program ≤ g.words
-  pub lies : wordsLie section g ≡ true
+  pub lies : words_lie section g ≡ true
 
-pub group-fits : (section : Section) (block : List ℕ) (i : ℕ) (g : Group) → groupFits section block i g ≡ true → Fit section i g
-unfolding groupFits
-group-fits section block i g q =
-    let rest = wordsLie section g && indicatorsFit block i g in
-    let r = and_right (inOneBlock i g) (holdsProgram g && rest) q in
+pub group_fits_lem : (section : Section) (block : List ℕ) (i : ℕ) (g : Group) → group_fits section block i g ≡ true → Fit section i g
+unfolding group_fits
+group_fits_lem section block i g q =
+    let rest = words_lie section g && indicators_fit block i g in
+    let r = and_right (in_one_block i g) (holds_program g && rest) q in
     record {
-      whole = leb-true (i + g.words) lastWord (and_left (inOneBlock i g) (holdsProgram g && rest) q);
-      holds = leb-true g.program g.words (and_left (holdsProgram g) rest r);
-      lies = and_left (wordsLie section g) (indicatorsFit block i g) (and_right (holdsProgram g) rest r);
+      whole = leb-true (i + g.words) last_word (and_left (in_one_block i g) (holds_program g && rest) q);
+      holds = leb-true g.program g.words (and_left (holds_program g) rest r);
+      lies = and_left (words_lie section g) (indicators_fit block i g) (and_right (holds_program g) rest r);
     }
 
 -- ---- the group at place i
 -- it is g, and its words go to the address `to`
 pub record Goes (a : Assignments) (section : Section) (block : List ℕ) (i : ℕ) (g : Group) (to : Absolute) : Type 0 where
   pub read : group_of (get_or block i 0) ≡ Good g
-  pub lies : wordsLie section g ≡ true
+  pub lies : words_lie section g ≡ true
   pub address : address_of a.area section g ≡ to
 
 -- its words become vs
 abbrev pub Gives : Assignments → List ℕ → ℕ → Group → List ℕ → Type 0
-Gives a block i g vs = changedWords a (indicatorBitsIn block i g) 0 (programWords block i g) ≡ Become vs
+Gives a block i g vs = changed_words a (indicator_bits_in block i g) 0 (program_words block i g) ≡ Become vs
 
 -- the three outcomes
 abbrev pub untouched : List ℕ → Fault → GroupOutcome
@@ -92,38 +92,38 @@ module _ (a : Assignments) (section : Section) (block : List ℕ) (i : ℕ) wher
       (zeros : (g : Group) (to : Absolute) (f : Fault) → Goes a section block i g to → P (zeroed g to core f))
       (all : (g : Group) (to : Absolute) (vs : List ℕ) → Goes a section block i g to → Fit section i g → Gives a block i g vs
       → P (stored i g to core vs)) where
-    by_place : (g : Group) (f : Fault) → group_of (get_or block i 0) ≡ Good g → P (refusedGroup a.area section g core f)
-    unfolding refusedGroup
+    by_place : (g : Group) (f : Fault) → group_of (get_or block i 0) ≡ Good g → P (refused_group a.area section g core f)
+    unfolding refused_group
     by_place g f e =
-        when (λ (l : List ℕ). P (untouched l f)) (wordsLie section g)
+        when (λ (l : List ℕ). P (untouched l f)) (words_lie section g)
         (λ q. zeros g (address_of a.area section g) f (record { read = e; lies = q; address = refl }))
         (λ q. none f)
 
-    by-words : (g : Group) → group_of (get_or block i 0) ≡ Good g → Fit section i g → (r : Words)
-        → changedWords a (indicatorBitsIn block i g) 0 (programWords block i g) ≡ r
-        → P (storedGroup a.area section i g core r)
-    unfolding storedGroup
-    by-words g e h (Become vs) q = all g (address_of a.area section g) vs
+    by_words : (g : Group) → group_of (get_or block i 0) ≡ Good g → Fit section i g → (r : Words)
+        → changed_words a (indicator_bits_in block i g) 0 (program_words block i g) ≡ r
+        → P (stored_group a.area section i g core r)
+    unfolding stored_group
+    by_words g e h (Become vs) q = all g (address_of a.area section g) vs
         (record { read = e; lies = h.lies; address = refl }) h q
-    by-words g e h (Refuse f) q = by_place g (further 1 f) e
+    by_words g e h (Refuse f) q = by_place g (further 1 f) e
 
-    by_read : (x : GroupRead) → group_of (get_or block i 0) ≡ x → P (readOutcome a section block i core x)
-    unfolding readOutcome groupOutcome
+    by_read : (x : GroupRead) → group_of (get_or block i 0) ≡ x → P (read_outcome a section block i core x)
+    unfolding read_outcome group_outcome
     by_read (Good g) e =
-        when P (groupFits section block i g)
-        (λ q. by-words g e (group-fits section block i g q)
-        (changedWords a (indicatorBitsIn block i g) 0 (programWords block i g)) refl)
+        when P (group_fits section block i g)
+        (λ q. by_words g e (group_fits_lem section block i g q)
+        (changed_words a (indicator_bits_in block i g) 0 (program_words block i g)) refl)
         (λ q. by_place g (fault 18) e)
     by_read (Bad f) e = none f
 
-    pub group-outcomes : P (groupStep a section block i core)
-    unfolding groupStep
-    group-outcomes = by_read (group_of (get_or block i 0)) refl
+    pub group_outcomes : P (group_step a section block i core)
+    unfolding group_step
+    group_outcomes = by_read (group_of (get_or block i 0)) refl
 
   -- where it answers `Done`, the next identifier is due behind it, at word 255 at the latest
-  pub group-done : (core : List ℕ) (p : ℕ) (last : Bool) → (groupStep a section block i core).answer ≡ Done p last
+  pub group_done : (core : List ℕ) (p : ℕ) (last : Bool) → (group_step a section block i core).answer ≡ Done p last
       → GroupEnded block i p last
-  group-done core p last = group-outcomes core (λ (o : GroupOutcome). o.answer ≡ Done p last → GroupEnded block i p last)
+  group_done core p last = group_outcomes core (λ (o : GroupOutcome). o.answer ≡ Done p last → GroupEnded block i p last)
       (λ f q. let z : ◌≡◌ {A = ℕ} 0 1 = cc in absurd (omega arith))
       (λ g to f h q. let z : ◌≡◌ {A = ℕ} 0 1 = cc in absurd (omega arith))
       (λ g to vs h t e q.
@@ -143,66 +143,66 @@ module _ (a : Assignments) (section : Section) (block : List ℕ) (i : ℕ) wher
 
   -- ---- of any group in an area that lies in the core
   module _ (core : List ℕ) (room : InArea a.area section) (inside : a.area.at.0 + a.area.size ≤ length core) where
-    goes-lies : (g : Group) (to : Absolute) → Goes a section block i g to → Lies a.area g to
-    goes-lies g to h = rw h.address at (words-lie a.area section g room h.lies)
+    goes_lies : (g : Group) (to : Absolute) → Goes a section block i g to → Lies a.area g to
+    goes_lies g to h = rw h.address at (words_lie_lem a.area section g room h.lies)
 
-    gives-few : (g : Group) (vs : List ℕ) → Gives a block i g vs → length vs ≤ g.program
-    gives-few g vs e =
-        let n = rw e at (changed-many a (indicatorBitsIn block i g) 0 (programWords block i g)) in
-        omega (arith, n, length-range-most block (i + 1) g.program)
+    gives_few : (g : Group) (vs : List ℕ) → Gives a block i g vs → length vs ≤ g.program
+    gives_few g vs e =
+        let n = rw e at (changed-many a (indicator_bits_in block i g) 0 (program_words block i g)) in
+        omega (arith, n, length-range_most block (i + 1) g.program)
 
     -- the core keeps its length
-    pub group-length : length (groupStep a section block i core).core ≡ length core
-    group-length = group-outcomes core (λ (o : GroupOutcome). length o.core ≡ length core) (λ f. refl)
-        (λ g to f h. let l = goes-lies g to h in length-cleared core to.0 g.program (omega (arith, l.high)))
-        (λ g to vs h t e. let l = goes-lies g to h in let n = gives-few g vs e in length-splice core to.0 vs
+    pub group_length : length (group_step a section block i core).core ≡ length core
+    group_length = group_outcomes core (λ (o : GroupOutcome). length o.core ≡ length core) (λ f. refl)
+        (λ g to f h. let l = goes_lies g to h in length-cleared core to.0 g.program (omega (arith, l.high)))
+        (λ g to vs h t e. let l = goes_lies g to h in let n = gives_few g vs e in length-splice core to.0 vs
         (omega (arith, l.high)))
 
     -- no word beside the group's words changes
-    pub group-beside : (j : ℕ) → ((g : Group) (to : Absolute) → Goes a section block i g to → Beside j to.0 g.program)
-        → get_or (groupStep a section block i core).core j 0 ≡ get_or core j 0
-    group-beside j b = group-outcomes core (λ (o : GroupOutcome). get_or o.core j 0 ≡ get_or core j 0) (λ f. refl)
-        (λ g to f h. let l = goes-lies g to h in getD-cleared-beside core to.0 g.program j (omega (arith, l.high))
+    pub group_beside : (j : ℕ) → ((g : Group) (to : Absolute) → Goes a section block i g to → Beside j to.0 g.program)
+        → get_or (group_step a section block i core).core j 0 ≡ get_or core j 0
+    group_beside j b = group_outcomes core (λ (o : GroupOutcome). get_or o.core j 0 ≡ get_or core j 0) (λ f. refl)
+        (λ g to f h. let l = goes_lies g to h in get_d_cleared_beside core to.0 g.program j (omega (arith, l.high))
         (b g to h))
         (λ g to vs h t e.
-        let l = goes-lies g to h in
-        let n = gives-few g vs e in
-        getD-splice-beside core to.0 vs j (omega (arith, l.high)) (⊎_elim (λ x. inl x) (λ x. inr (omega arith)) (b g to h)))
+        let l = goes_lies g to h in
+        let n = gives_few g vs e in
+        get_d_splice_beside core to.0 vs j (omega (arith, l.high)) (⊎_elim (λ x. inl x) (λ x. inr (omega arith)) (b g to h)))
 
     -- so none outside the area does
-    pub group-area : (j : ℕ) → Beside j a.area.at.0 a.area.size
-        → get_or (groupStep a section block i core).core j 0 ≡ get_or core j 0
-    group-area j b = group-beside j
-        (λ g to h. let l = goes-lies g to h in ⊎_elim (λ x. inl (omega (arith, l.low))) (λ x. inr (omega (arith, l.high))) b)
+    pub group_area : (j : ℕ) → Beside j a.area.at.0 a.area.size
+        → get_or (group_step a section block i core).core j 0 ≡ get_or core j 0
+    group_area j b = group_beside j
+        (λ g to h. let l = goes_lies g to h in ⊎_elim (λ x. inl (omega (arith, l.low))) (λ x. inr (omega (arith, l.high))) b)
 
     -- what it stores is words below 2^36, whatever the core held
-    pub group-words : every isWord block ≡ true → StoredWords core (groupStep a section block i core).core
-    group-words w = group-outcomes core (λ (o : GroupOutcome). StoredWords core o.core) (λ f. stored-none core)
-        (λ g to f h. let l = goes-lies g to h in stored-cleared core to.0 g.program (omega (arith, l.high)))
+    pub group_words_lem : every is_word block ≡ true → StoredWords core (group_step a section block i core).core
+    group_words_lem w = group_outcomes core (λ (o : GroupOutcome). StoredWords core o.core) (λ f. stored-none core)
+        (λ g to f h. let l = goes_lies g to h in stored-cleared core to.0 g.program (omega (arith, l.high)))
         (λ g to vs h t e.
-        let l = goes-lies g to h in
-        let n = gives-few g vs e in
+        let l = goes_lies g to h in
+        let n = gives_few g vs e in
         stored-splice core to.0 vs (omega (arith, l.high))
-        (rw e at (changed-below a (indicatorBitsIn block i g) 0 (programWords block i g)
-        (every-range isWord block (i + 1) g.program w))))
+        (rw e at (changed_below a (indicator_bits_in block i g) 0 (program_words block i g)
+        (every-range is_word block (i + 1) g.program w))))
 
     -- where it answers `Done`, each of its words stands in the core, whatever stood there
-    pub group-stored : length block ≡ wordsInBlock → (p : ℕ) (last : Bool) → (groupStep a section block i core).answer ≡ Done p last
+    pub group_stored : length block ≡ words_in_block → (p : ℕ) (last : Bool) → (group_step a section block i core).answer ≡ Done p last
         → (g : Group) (to : Absolute) (vs : List ℕ) → Goes a section block i g to → Gives a block i g vs
-        → (k : ℕ) → k < g.program → get_or (groupStep a section block i core).core (to.0 + k) 0 ≡ get_or vs k 0
-    group-stored long p last q g to vs h e k b =
-        group-outcomes core (λ (o : GroupOutcome). o.answer ≡ Done p last → get_or o.core (to.0 + k) 0 ≡ get_or vs k 0)
+        → (k : ℕ) → k < g.program → get_or (group_step a section block i core).core (to.0 + k) 0 ≡ get_or vs k 0
+    group_stored long p last q g to vs h e k b =
+        group_outcomes core (λ (o : GroupOutcome). o.answer ≡ Done p last → get_or o.core (to.0 + k) 0 ≡ get_or vs k 0)
         (λ f r. let z : ◌≡◌ {A = ℕ} 0 1 = cc in absurd (omega arith))
         (λ g' to' f h' r. let z : ◌≡◌ {A = ℕ} 0 1 = cc in absurd (omega arith))
         (λ g' to' vs' h' t e' r.
         let s = goes_same g g' to to' h h' in
-        let v : vs ≡ vs' = become (changedWords a (indicatorBitsIn block i g') 0 (programWords block i g')) vs vs'
+        let v : vs ≡ vs' = become (changed_words a (indicator_bits_in block i g') 0 (program_words block i g')) vs vs'
         (rw s.0 at e) e' in
-        let l = goes-lies g to h in
+        let l = goes_lies g to h in
         let u : Fit section i g = rw s.0 t in
-        let n = rw e at (changed-many a (indicatorBitsIn block i g) 0 (programWords block i g)) in
+        let n = rw e at (changed-many a (indicator_bits_in block i g) 0 (program_words block i g)) in
         let m = length-range block (i + 1) g.program (omega (arith, u.whole, u.holds)) in
-        rw (← s.1, ← v) (getD-splice-in core to.0 vs k (omega arith) (omega (arith, l.high))))
+        rw (← s.1, ← v) (get_d_splice_in core to.0 vs k (omega arith) (omega (arith, l.high))))
         q
       where
         become : (r : Words) (x y : List ℕ) → r ≡ Become x → r ≡ Become y → x ≡ y
@@ -210,13 +210,13 @@ module _ (a : Assignments) (section : Section) (block : List ℕ) (i : ℕ) wher
 
 -- "Where groups overlap, the later word stands": the core after one group and then another has, wherever the later one stores, its
 -- words
-pub later-stands : (a : Assignments) (section : Section) (block : List ℕ) (i : ℕ) (core : List ℕ) → InArea a.area section
+pub later_stands : (a : Assignments) (section : Section) (block : List ℕ) (i : ℕ) (core : List ℕ) → InArea a.area section
     → a.area.at.0 + a.area.size ≤ length core
-    → (section' : Section) (block' : List ℕ) (j : ℕ) → InArea a.area section' → length block' ≡ wordsInBlock
-    → (p : ℕ) (last : Bool) → (groupStep a section' block' j (groupStep a section block i core).core).answer ≡ Done p last
+    → (section' : Section) (block' : List ℕ) (j : ℕ) → InArea a.area section' → length block' ≡ words_in_block
+    → (p : ℕ) (last : Bool) → (group_step a section' block' j (group_step a section block i core).core).answer ≡ Done p last
     → (g : Group) (to : Absolute) (vs : List ℕ) → Goes a section' block' j g to → Gives a block' j g vs
     → (k : ℕ) → k < g.program
-    → get_or (groupStep a section' block' j (groupStep a section block i core).core).core (to.0 + k) 0 ≡ get_or vs k 0
-later-stands a section block i core room inside section' block' j room' long =
-    group-stored a section' block' j (groupStep a section block i core).core room'
-    (rw (group-length a section block i core room inside) inside) long
+    → get_or (group_step a section' block' j (group_step a section block i core).core).core (to.0 + k) 0 ≡ get_or vs k 0
+later_stands a section block i core room inside section' block' j room' long =
+    group_stored a section' block' j (group_step a section block i core).core room'
+    (rw (group_length a section block i core room inside) inside) long

@@ -9,8 +9,8 @@ use Rattle.word.specs.declared.Area.{Area}
 use Rattle.word.specs.Runs.{within}
 use Rattle.word.specs.Word.{part}
 use Rattle.word.proofs.Cases.{and_right, when}
-use Rattle.word.proofs.Says.{says-within}
-use Rattle.word.proofs.Word.{part-below}
+use Rattle.word.proofs.Says.{says_within}
+use Rattle.word.proofs.Word.{part_below}
 use Rattle.program.specs.declared.Bank.{Bank}
 use Rattle.program.specs.declared.Group.{Group}
 use Rattle.program.specs.declared.GroupRead.{GroupRead}
@@ -18,7 +18,7 @@ use Rattle.program.specs.declared.GroupRead.TheVariants.{Good, Bad}
 use Rattle.program.specs.Groups.{group_of}
 use Rattle.group.specs.declared.Section.{Section}
 use Rattle.group.specs.declared.Section.TheVariants.{Segment as InSegment, Table as InTable}
-use Rattle.group.specs.Group.{wordsLie, address_of, InArea}
+use Rattle.group.specs.Group.{words_lie, address_of, InArea}
 use Rattle.group.specs.HowGroup.{Sized}
 
 -- the words of a group that go to an address lie in the area
@@ -32,16 +32,16 @@ in_either : (area : Area) (b : Bool) (x y : Bank) → x.at.0 + x.count ≤ area.
 in_either area true x y h k = h
 in_either area false x y h k = k
 
-pub words-lie : (area : Area) (section : Section) (g : Group) → InArea area section → wordsLie section g ≡ true
+pub words_lie_lem : (area : Area) (section : Section) (g : Group) → InArea area section → words_lie section g ≡ true
     → Lies area g (address_of area section g)
-unfolding wordsLie address_of
-words-lie area (InSegment segment) g r q =
+unfolding words_lie address_of
+words_lie_lem area (InSegment segment) g r q =
     let bank = cond g.ibank segment.ibank segment.dbank in
-    let f = (says-within g.at.0 g.program bank.at.0 bank.count).fact q in
+    let f = (says_within g.at.0 g.program bank.at.0 bank.count).fact q in
     let k = in_either area g.ibank segment.ibank segment.dbank r.0 r.1 in
     record { low = omega arith; high = omega (arith, f, k) }
-words-lie area (InTable t count) g r q =
-    let f = (says-within g.at.0 g.program 0 count).fact
+words_lie_lem area (InTable t count) g r q =
+    let f = (says_within g.at.0 g.program 0 count).fact
     (and_right (not g.ibank) (within g.at.0 g.program 0 count) q) in
     record { low = omega (arith, r.0); high = omega (arith, f, r.1, r.2) }
 
@@ -50,13 +50,13 @@ abbrev SizedRead : GroupRead → Type 0
 SizedRead (Good g) = Sized g
 SizedRead (Bad f) = Unit {0}
 
-read-sized : (w : ℕ) → SizedRead (group_of w)
+read_sized : (w : ℕ) → SizedRead (group_of w)
 unfolding group_of
-read-sized w =
+read_sized w =
     when SizedRead (eqb (part 34 2 w) 2)
     (λ q. when SizedRead (eqb (part 18 8 w) 0) (λ z. tt)
-    (λ z. record { words = part-below 26 8 w; program = part-below 18 8 w; at = part-below 0 16 w }))
+    (λ z. record { words = part_below 26 8 w; program = part_below 18 8 w; at = part_below 0 16 w }))
     (λ q. tt)
 
-pub group-sized : (w : ℕ) (g : Group) → group_of w ≡ Good g → Sized g
-group-sized w g e = rw e at (read-sized w)
+pub group_sized : (w : ℕ) (g : Group) → group_of w ≡ Good g → Sized g
+group_sized w g e = rw e at (read_sized w)

@@ -9,19 +9,19 @@ use borrow.Author.Tests.{lt-ltb, ltb-true}
 use Rattle.word.specs.declared.Half.{Half}
 use Rattle.word.specs.declared.Half.TheVariants.{Left, Right}
 use Rattle.word.specs.Lists.{every}
-use Rattle.word.specs.Word.{isWord, field_of}
-use Rattle.word.proofs.Stretch.{every-both, every-head, every-tail}
+use Rattle.word.specs.Word.{is_word, field_of}
+use Rattle.word.proofs.Stretch.{every_both, every_head, every_tail}
 use Rattle.field.specs.declared.Changed.{Changed}
 use Rattle.field.specs.declared.Changed.TheVariants.{Word, Refused as RefusedWord}
 use Rattle.field.specs.Field.{Assignments}
 use Rattle.indicator.specs.declared.Indicator.{Indicator}
-use Rattle.indicator.specs.Indicator.{indicatorAt, afterField, afterWord}
-use Rattle.group.specs.Group.{halfStep, thenHalf, wordStep, Words, thenWords, changedWords}
+use Rattle.indicator.specs.Indicator.{indicator_at, after_field, after_word}
+use Rattle.group.specs.Group.{half_step, then_half, word_step, Words, then_words, changed_words}
 use Rattle.group.specs.Group.Words.{Become, Refuse}
-use Rattle.group.proofs.Both.{half-word}
+use Rattle.group.proofs.Both.{half_word}
 
 abbrev pub Below : Changed → Type 0
-Below (Word v) = isWord v ≡ true
+Below (Word v) = is_word v ≡ true
 Below (RefusedWord f) = Unit {0}
 
 abbrev pub Many : ℕ → Words → Type 0
@@ -29,47 +29,47 @@ Many n (Become vs) = length vs ≡ n
 Many n (Refuse f) = Unit {0}
 
 abbrev pub AllBelow : Words → Type 0
-AllBelow (Become vs) = every isWord vs ≡ true
+AllBelow (Become vs) = every is_word vs ≡ true
 AllBelow (Refuse f) = Unit {0}
 
-then-below : (r : Changed) (next : ℕ → Changed) → Below r → ((v : ℕ) → isWord v ≡ true → Below (next v)) → Below (thenHalf r next)
-then-below (Word v) next h k = k v h
-then-below (RefusedWord f) next h k = tt
+then_below : (r : Changed) (next : ℕ → Changed) → Below r → ((v : ℕ) → is_word v ≡ true → Below (next v)) → Below (then_half r next)
+then_below (Word v) next h k = k v h
+then_below (RefusedWord f) next h k = tt
 
-then_many : (r : Changed) (rest : Words) (n : ℕ) → Many n rest → Many (suc n) (thenWords r rest)
+then_many : (r : Changed) (rest : Words) (n : ℕ) → Many n rest → Many (suc n) (then_words r rest)
 then_many (Word v) (Become vs) n h = omega arith
 then_many (Word v) (Refuse f) n h = tt
 then_many (RefusedWord f) rest n h = tt
 
-then-all : (r : Changed) (rest : Words) → Below r → AllBelow rest → AllBelow (thenWords r rest)
-then-all (Word v) (Become vs) h k = every-both isWord v vs h k
+then-all : (r : Changed) (rest : Words) → Below r → AllBelow rest → AllBelow (then_words r rest)
+then-all (Word v) (Become vs) h k = every_both is_word v vs h k
 then-all (Word v) (Refuse f) h k = tt
 then-all (RefusedWord f) rest h k = tt
 
 module _ (a : Assignments) where
-  half-below : (h : Half) (p : ℕ) (m : Indicator) (w : ℕ) → isWord w ≡ true → Below (halfStep a h p m w)
-  half-below h p m w b = told (halfStep a h p m w) (λ u e. half-word a h p m w u (ltb-true w (2 ^ 36) b) e)
+  half_below : (h : Half) (p : ℕ) (m : Indicator) (w : ℕ) → is_word w ≡ true → Below (half_step a h p m w)
+  half_below h p m w b = told (half_step a h p m w) (λ u e. half_word a h p m w u (ltb-true w (2 ^ 36) b) e)
     where
       told : (r : Changed) → ((u : ℕ) → r ≡ Word u → u < 2 ^ 36) → Below r
       told (Word u) k = lt-ltb u (2 ^ 36) (k u refl)
       told (RefusedWord f) k = tt
 
   module _ (bits : List ℕ) where
-    pub word_below : (p w : ℕ) → isWord w ≡ true → Below (wordStep a bits p w)
-    unfolding wordStep
+    pub word_below : (p w : ℕ) → is_word w ≡ true → Below (word_step a bits p w)
+    unfolding word_step
     word_below p w b =
-        then-below (halfStep a Left p (indicatorAt bits p (field_of Left w)) w) _
-        (half-below Left p (indicatorAt bits p (field_of Left w)) w b)
-        (λ v k. half-below Right (afterField bits p (field_of Left w)) (indicatorAt bits (afterField bits p (field_of Left w)) (field_of Right w)) v k)
+        then_below (half_step a Left p (indicator_at bits p (field_of Left w)) w) _
+        (half_below Left p (indicator_at bits p (field_of Left w)) w b)
+        (λ v k. half_below Right (after_field bits p (field_of Left w)) (indicator_at bits (after_field bits p (field_of Left w)) (field_of Right w)) v k)
 
-    pub changed-many : (p : ℕ) (ws : List ℕ) → Many (length ws) (changedWords a bits p ws)
-    unfolding changedWords
+    pub changed-many : (p : ℕ) (ws : List ℕ) → Many (length ws) (changed_words a bits p ws)
+    unfolding changed_words
     changed-many p [] = refl
-    changed-many p (w ∷ ws) = then_many (wordStep a bits p w) _ (length ws) (changed-many (afterWord bits p w) ws)
+    changed-many p (w ∷ ws) = then_many (word_step a bits p w) _ (length ws) (changed-many (after_word bits p w) ws)
 
-    pub changed-below : (p : ℕ) (ws : List ℕ) → every isWord ws ≡ true → AllBelow (changedWords a bits p ws)
-    unfolding changedWords every
-    changed-below p [] b = refl
-    changed-below p (w ∷ ws) b =
-        then-all (wordStep a bits p w) _ (word_below p w (every-head isWord w ws b))
-        (changed-below (afterWord bits p w) ws (every-tail isWord w ws b))
+    pub changed_below : (p : ℕ) (ws : List ℕ) → every is_word ws ≡ true → AllBelow (changed_words a bits p ws)
+    unfolding changed_words every
+    changed_below p [] b = refl
+    changed_below p (w ∷ ws) b =
+        then-all (word_step a bits p w) _ (word_below p w (every_head is_word w ws b))
+        (changed_below (after_word bits p w) ws (every_tail is_word w ws b))

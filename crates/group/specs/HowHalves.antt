@@ -3,8 +3,8 @@ use Rattle.std.specs.Prelude.{ℕ, ◌+◌, ◌/◌, ◌^◌, ◌≤◌, ◌<◌
 use Rattle.word.specs.declared.Area.{Area}
 use Rattle.word.specs.declared.Half.{Half}
 use Rattle.word.specs.declared.Half.TheVariants.{Left, Right}
-use Rattle.word.specs.Limits.{coreMost}
-use Rattle.word.specs.Sorts.{absoluteOf, rightMoved}
+use Rattle.word.specs.Limits.{core_most}
+use Rattle.word.specs.Sorts.{absolute_of, right_moved}
 use Rattle.word.specs.Word.{field_of}
 use Rattle.lists.specs.declared.Given.{Given}
 use Rattle.lists.specs.Load.{Readable}
@@ -12,13 +12,13 @@ use Rattle.field.specs.declared.Changed.{Changed}
 use Rattle.field.specs.declared.Changed.TheVariants.{Word, Refused}
 use Rattle.field.specs.declared.Stepped.{Stepped}
 use Rattle.field.specs.declared.Stepped.TheVariants.{Word as stepped-word, Long as stepped-long, Refused as stepped-refused}
-use Rattle.field.specs.Field.{Assignments, relative, valueLimit}
+use Rattle.field.specs.Field.{Assignments, relative, value_limit}
 use Rattle.indicator.specs.declared.Cursor.{Cursor}
 use Rattle.indicator.specs.Indicator.{width_of}
-use Rattle.indicator.specs.HowCursor.{look_of, pastBits, pastField}
+use Rattle.indicator.specs.HowCursor.{look_of, past_bits, past_field}
 use Rattle.group.specs.declared.halves.WordChange.{WordChange}
 use Rattle.group.specs.declared.halves.WordChange.TheVariants.{Next, Stop}
-use Rattle.group.specs.Group.{halfStep, thenHalf}
+use Rattle.group.specs.Group.{half_step, then_half}
 
 -- go on with the word, or stop
 abbrev pub onward : Changed → (ℕ → WordChange) → WordChange
@@ -28,38 +28,38 @@ onward (Refused f) next = Stop
 -- a half of the word w, from the cursor before its indicator to the cursor past it; as nothing is told of a refusal, the indicator's
 -- place does not matter
 unfoldable pub half_of : Assignments → Half → ℕ → Cursor → WordChange
-half_of a h w c = onward (halfStep a h 0 (look_of c.ahead (field_of h w)) w) (λ v. Next v (pastField c (field_of h w)))
+half_of a h w c = onward (half_step a h 0 (look_of c.ahead (field_of h w)) w) (λ v. Next v (past_field c (field_of h w)))
 
 -- its left half, and then the right half of what that gave
-abbrev pub thenRight : Assignments → WordChange → WordChange
-thenRight a (Next v c) = half_of a Right v c
-thenRight a Stop = Stop
+abbrev pub then_right : Assignments → WordChange → WordChange
+then_right a (Next v c) = half_of a Right v c
+then_right a Stop = Stop
 
-unfoldable pub bothOf : Assignments → ℕ → Cursor → WordChange
-bothOf a w c = thenRight a (half_of a Left w c)
+unfoldable pub both_of : Assignments → ℕ → Cursor → WordChange
+both_of a w c = then_right a (half_of a Left w c)
 
 -- both halves by the indicators that come next, the first at place p, where the refusal is wanted (`word_of`, proofs/Both.antt: it is
--- `wordStep`)
+-- `word_step`)
 unfoldable pub word_of : Assignments → ℕ → ℕ → Cursor → Changed
 word_of a p w c =
-    thenHalf (halfStep a Left p (look_of c.ahead (field_of Left w)) w)
-    (halfStep a Right (p + width_of (look_of c.ahead (field_of Left w)))
-    (look_of (pastField c (field_of Left w)).ahead (field_of Right w)))
+    then_half (half_step a Left p (look_of c.ahead (field_of Left w)) w)
+    (half_step a Right (p + width_of (look_of c.ahead (field_of Left w)))
+    (look_of (past_field c (field_of Left w)).ahead (field_of Right w)))
 
 -- where four bits are passed: nine more for a long one
-abbrev pub passedBits : Cursor → Stepped → WordChange
-passedBits c (stepped-word v) = Next v c
-passedBits c (stepped-long v) = Next v (pastBits c 9)
-passedBits c stepped-refused = Stop
+abbrev pub passed_bits : Cursor → Stepped → WordChange
+passed_bits c (stepped-word v) = Next v c
+passed_bits c (stepped-long v) = Next v (past_bits c 9)
+passed_bits c stepped-refused = Stop
 
 -- the bits 01000: no change, then type 000, the commonest change
-abbrev pub isMoved : Cursor → Bool
-isMoved c = eqb (c.ahead / 2 ^ 59) 8
+abbrev pub is_moved : Cursor → Bool
+is_moved c = eqb (c.ahead / 2 ^ 59) 8
 
--- a word with such indicators (`moved-both`, proofs/Both.antt: it is the same)
-unfoldable pub movedWord : Area → ℕ → Cursor → WordChange
-movedWord area w c =
-    cond (ltb (absoluteOf area (relative (field_of Right w))).0 valueLimit) (Next (rightMoved area w) (pastBits c 5)) Stop
+-- a word with such indicators (`moved_both`, proofs/Both.antt: it is the same)
+unfoldable pub moved_word : Area → ℕ → Cursor → WordChange
+moved_word area w c =
+    cond (ltb (absolute_of area (relative (field_of Right w))).0 value_limit) (Next (right_moved area w) (past_bits c 5)) Stop
 
 -- ---- what is known before: where a word or a half of it is changed, whose indicators have so many bits at most, and where such a
 -- word is moved
@@ -69,6 +69,6 @@ pub record HalfReady (g : Given) (l : List ℕ) (w : ℕ) (c : Cursor) (most : �
   pub near : most ≤ c.left
 
 pub record MovedReady (area : Area) (c : Cursor) (w : ℕ) : Type 0 where
-  pub inside : area.at.0 ≤ coreMost
+  pub inside : area.at.0 ≤ core_most
   pub word : w < 2 ^ 36
   pub near : 5 ≤ c.left

@@ -1,21 +1,21 @@
 -- The loop over a group's program words: where it stands, and what a turn of it leaves; how the code goes, not a rule of 01.
 use Rattle.std.specs.Prelude.{ℕ, ◌+◌, ◌-◌, ◌*◌, ◌≤◌, ◌<◌, ◌≡◌, true, List, length}
 use Rattle.word.specs.Fault.{further}
-use Rattle.word.specs.Limits.{wordsInBlock}
+use Rattle.word.specs.Limits.{words_in_block}
 use Rattle.word.specs.Lists.{every, range, splice}
-use Rattle.word.specs.Word.{isWord}
+use Rattle.word.specs.Word.{is_word}
 use Rattle.lists.specs.declared.Given.{Given}
 use Rattle.lists.specs.Load.{Readable}
 use Rattle.field.specs.Field.{Assignments}
 use Rattle.indicator.specs.declared.Cursor.{Cursor}
-use Rattle.indicator.specs.Indicator.{afterAll}
-use Rattle.indicator.specs.HowCursor.{groupBits, Sees, place_of}
+use Rattle.indicator.specs.Indicator.{after_all}
+use Rattle.indicator.specs.HowCursor.{group_bits, Sees, place_of}
 use Rattle.group.specs.declared.changes.NextWord.{NextWord}
 use Rattle.group.specs.declared.changes.NextWord.TheVariants.{At, Stop}
 use Rattle.group.specs.declared.changes.Progress.{Progress}
-use Rattle.group.specs.Group.{Words, changedWords}
+use Rattle.group.specs.Group.{Words, changed_words}
 use Rattle.group.specs.Group.Words.{Become, Refuse}
-use Rattle.group.specs.HowWords.{programIn}
+use Rattle.group.specs.HowWords.{program_in}
 
 -- a refusal
 abbrev pub Refuses : Words → Type 0
@@ -28,8 +28,8 @@ onto out k (Become vs) = Become (splice out k vs)
 onto out k (Refuse f) = Refuse (further k f)
 
 -- what the words given from number k on become, by the indicators from place q on, onto the core's words
-abbrev pub becomeFrom : Assignments → List ℕ → List ℕ → List ℕ → ℕ → ℕ → Words
-becomeFrom a bits given out k q = onto out k (changedWords a bits q (range given k (length given - k)))
+abbrev pub become_from : Assignments → List ℕ → List ℕ → List ℕ → ℕ → ℕ → Words
+become_from a bits given out k q = onto out k (changed_words a bits q (range given k (length given - k)))
 
 -- word number k is next, with the cursor c: it sees the group's bits, what is left to do onto the words stored so far is what there
 -- was to do, and the indicators left end where all end
@@ -38,24 +38,24 @@ pub record Reached (a : Assignments) (words : List ℕ) (n : ℕ) (given out : L
   pub reach : place_of (length words) n c + 26 * (length given - k) ≤ 26 * length given
   pub sees : Sees words n c (place_of (length words) n c) 0
   pub long : length out ≡ length given
-  pub become : becomeFrom a (groupBits words n) given out k (place_of (length words) n c)
-      ≡ changedWords a (groupBits words n) 0 given
-  pub ends : afterAll (groupBits words n) (place_of (length words) n c) (range given k (length given - k))
-      ≡ afterAll (groupBits words n) 0 given
+  pub become : become_from a (group_bits words n) given out k (place_of (length words) n c)
+      ≡ changed_words a (group_bits words n) 0 given
+  pub ends : after_all (group_bits words n) (place_of (length words) n c) (range given k (length given - k))
+      ≡ after_all (group_bits words n) 0 given
 
 -- what is known before a turn: a word is left, and 29 bits are at hand
 pub record TurnReady (g : Given) (l : List ℕ) (a : Assignments) (words : List ℕ) (n : ℕ) (p : Progress)
     (out : List ℕ) : Type 0 where
   pub lists : Readable g l
-  pub all : every isWord words ≡ true
-  pub few : length words < wordsInBlock
+  pub all : every is_word words ≡ true
+  pub few : length words < words_in_block
   pub program : n ≤ length words
   pub more : p.word < n
   pub many : 28 < p.cursor.left
-  pub reached : Reached a words n (programIn words n) out p.cursor p.word
+  pub reached : Reached a words n (program_in words n) out p.cursor p.word
 
 -- what it leaves: less to do, or a refusal
 pub record Turns (a : Assignments) (words : List ℕ) (n : ℕ) (p : Progress) (m : NextWord) (out : List ℕ) : Type 0 where
-  pub goes : (d : Cursor) (j : ℕ) → m ≡ At d j → (p.word < j) × (Reached a words n (programIn words n) out d j)
-  pub stops : m ≡ Stop → Refuses (changedWords a (groupBits words n) 0 (programIn words n))
+  pub goes : (d : Cursor) (j : ℕ) → m ≡ At d j → (p.word < j) × (Reached a words n (program_in words n) out d j)
+  pub stops : m ≡ Stop → Refuses (changed_words a (group_bits words n) 0 (program_in words n))
   pub long : length out ≡ n

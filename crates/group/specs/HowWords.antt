@@ -1,15 +1,15 @@
 -- The program words of a group, changed one after the other and stored into the core: how the code goes, not a rule of 01.
 use Rattle.std.specs.Prelude.{ℕ, ◌+◌, ◌-◌, ◌≤◌, ◌<◌, ◌≡◌, ◌⊎◌, Bool, true, cond, List, length, get_or, set, eqb}
-use Rattle.word.specs.Limits.{coreMost, wordsInBlock}
+use Rattle.word.specs.Limits.{core_most, words_in_block}
 use Rattle.lists.specs.declared.Given.{Given}
 use Rattle.lists.specs.Load.{Readable}
 use Rattle.word.specs.Lists.{every, range, splice}
-use Rattle.word.specs.Word.{isWord}
+use Rattle.word.specs.Word.{is_word}
 use Rattle.field.specs.Field.{Assignments}
 use Rattle.indicator.specs.declared.Cursor.{Cursor}
-use Rattle.indicator.specs.Indicator.{afterAll}
-use Rattle.indicator.specs.HowCursor.{pastBits, plainWords, pastPlain}
-use Rattle.group.specs.Group.{Words, changedWords}
+use Rattle.indicator.specs.Indicator.{after_all}
+use Rattle.indicator.specs.HowCursor.{past_bits, plain_words, past_plain}
+use Rattle.group.specs.Group.{Words, changed_words}
 use Rattle.group.specs.declared.changes.GroupChange.{GroupChange}
 use Rattle.group.specs.declared.changes.GroupChange.TheVariants.{Bits, Stop as stop-group}
 use Rattle.group.specs.declared.changes.NextWord.{NextWord}
@@ -17,11 +17,11 @@ use Rattle.group.specs.declared.changes.NextWord.TheVariants.{At, Stop as stop-w
 use Rattle.group.specs.declared.halves.WordChange.{WordChange}
 use Rattle.group.specs.declared.halves.WordChange.TheVariants.{Next, Stop}
 use Rattle.group.specs.Group.Words.{Become, Refuse}
-use Rattle.group.specs.HowHalves.{bothOf}
+use Rattle.group.specs.HowHalves.{both_of}
 
 -- the program words of a group's words
-abbrev pub programIn : List ℕ → ℕ → List ℕ
-programIn words n = range words 0 n
+abbrev pub program_in : List ℕ → ℕ → List ℕ
+program_in words n = range words 0 n
 
 -- ---- a step of the loop: what it leads to, and the words in the core afterwards
 pub record Step : Type 0 where
@@ -33,38 +33,38 @@ pub record Steps (s : Step) (answer : NextWord) (words : List ℕ) : Type 0 wher
   pub left : words ≡ s.words
 
 -- word number k
-unfoldable pub storedStep : ℕ → List ℕ → WordChange → Step
-storedStep k out (Next v d) = record { answer = At d (k + 1); words = set out k v }
-storedStep k out Stop = record { answer = stop-words; words = out }
+unfoldable pub stored_step : ℕ → List ℕ → WordChange → Step
+stored_step k out (Next v d) = record { answer = At d (k + 1); words = set out k v }
+stored_step k out Stop = record { answer = stop-words; words = out }
 
 -- from word number k of the program words given on, r words without change
-abbrev pub plainStep : List ℕ → Cursor → ℕ → List ℕ → ℕ → Step
-plainStep given c k out r = record { answer = At (pastPlain c r) (k + r); words = splice out k (range given k r) }
+abbrev pub plain_step : List ℕ → Cursor → ℕ → List ℕ → ℕ → Step
+plain_step given c k out r = record { answer = At (past_plain c r) (k + r); words = splice out k (range given k r) }
 
 -- from word number k on: one word; or where all bits at hand are 0, as many without change as these tell
 abbrev pub NextSteps : Assignments → List ℕ → Cursor → ℕ → List ℕ → NextWord → List ℕ → Type 0
 NextSteps a given c k out m out' =
-    (Steps (storedStep k out (bothOf a (get_or given k 0) c)) m out')
-    ⊎ ((c.ahead ≡ 0) × (Steps (plainStep given c k out (plainWords c (length given - k))) m out'))
+    (Steps (stored_step k out (both_of a (get_or given k 0) c)) m out')
+    ⊎ ((c.ahead ≡ 0) × (Steps (plain_step given c k out (plain_words c (length given - k))) m out'))
 
--- where the next two bits are 0: many words at once, or the one (`unchanged-next`, proofs/Loop.antt: it is such a step)
-unfoldable pub unchangedStep : List ℕ → Cursor → ℕ → List ℕ → Step
-unchangedStep given c k out =
+-- where the next two bits are 0: many words at once, or the one (`unchanged_next`, proofs/Loop.antt: it is such a step)
+unfoldable pub unchanged_step : List ℕ → Cursor → ℕ → List ℕ → Step
+unchanged_step given c k out =
     cond (eqb c.ahead 0)
-    (plainStep given c k out (plainWords c (length given - k)))
-    (record { answer = At (pastBits c 2) (k + 1); words = set out k (get_or given k 0) })
+    (plain_step given c k out (plain_words c (length given - k)))
+    (record { answer = At (past_bits c 2) (k + 1); words = set out k (get_or given k 0) })
 
 -- what is known where words without change are passed
 pub record PassReady (given : List ℕ) (c : Cursor) (k : ℕ) (out : List ℕ) : Type 0 where
   pub left : k < length given
-  pub most : length given ≤ coreMost
+  pub most : length given ≤ core_most
   pub room : length out ≡ length given
   pub near : 26 ≤ c.left
 
 -- ---- all words: how many bits their indicators have, or that a field is refused
-abbrev pub bitsOr : Words → ℕ → GroupChange
-bitsOr (Become vs) n = Bits n
-bitsOr (Refuse f) n = stop-group
+abbrev pub bits_or : Words → ℕ → GroupChange
+bits_or (Become vs) n = Bits n
+bits_or (Refuse f) n = stop-group
 
 -- the words in the core are what the program words become; where a field is refused, nothing is said of them
 abbrev pub Became : List ℕ → Words → Type 0
@@ -72,15 +72,15 @@ Became out (Become vs) = out ≡ vs
 Became out (Refuse f) = Unit {0}
 
 pub record Changes (a : Assignments) (bits given : List ℕ) (r : GroupChange) (out : List ℕ) : Type 0 where
-  pub told : r ≡ bitsOr (changedWords a bits 0 given) (afterAll bits 0 given)
-  pub left : Became out (changedWords a bits 0 given)
+  pub told : r ≡ bits_or (changed_words a bits 0 given) (after_all bits 0 given)
+  pub left : Became out (changed_words a bits 0 given)
   pub long : length out ≡ length given
 
 -- what is known before: of a group's words the first n are its program words
 pub record ChangeReady (g : Given) (l words : List ℕ) (n : ℕ) (out : List ℕ) : Type 0 where
   pub lists : Readable g l
-  pub all : every isWord words ≡ true
-  pub few : length words < wordsInBlock
+  pub all : every is_word words ≡ true
+  pub few : length words < words_in_block
   pub program : n ≤ length words
   pub room : length out ≡ n
 

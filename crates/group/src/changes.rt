@@ -4,11 +4,11 @@
 // through the loop.
 ghost use Rattle.std.specs.Prelude.{◌≡◌, ◌/◌, ◌<◌, ◌^◌, length};
 ghost use Rattle.word.specs.Lists.{every};
-ghost use Rattle.field.specs.Field.{assignedBy};
-ghost use Rattle.indicator.specs.HowCursor.{groupBits};
-ghost use Rattle.group.specs.HowHalves.{movedWord, MovedReady};
-ghost use Rattle.group.specs.HowWords.{is_zero, programIn, ChangeReady, Changes, PassReady, Steps};
-ghost use Rattle.group.specs.HowWords.{unchangedStep, storedStep};
+ghost use Rattle.field.specs.Field.{assigned_by};
+ghost use Rattle.indicator.specs.HowCursor.{group_bits};
+ghost use Rattle.group.specs.HowHalves.{moved_word, MovedReady};
+ghost use Rattle.group.specs.HowWords.{is_zero, program_in, ChangeReady, Changes, PassReady, Steps};
+ghost use Rattle.group.specs.HowWords.{unchanged_step, stored_step};
 ghost use Rattle.group.specs.HowLoop.{TurnReady, Turns};
 
 use crate::halves;
@@ -55,8 +55,8 @@ pub fn change_group(
     out: &mut [u64],
 ) -> GroupChange
     requires { ChangeReady s.given lists.now words.now n out.old }
-    ensures { Changes (assignedBy s lists.now) (groupBits words.now n)
-        (programIn words.now n) result out.new }
+    ensures { Changes (assigned_by s lists.now) (group_bits words.now n)
+        (program_in words.now n) result out.new }
 {
     let end = words.len();
     if all_zero(&words[n..end]) {
@@ -82,8 +82,8 @@ fn all_zero(numbers: &[u64]) -> bool
 // Word after word, from number 0 on.
 fn change_words(s: Assigned, lists: &[u64], words: &[u64], n: usize, out: &mut [u64]) -> GroupChange
     requires { ChangeReady s.given lists.now words.now n out.old }
-    ensures { Changes (assignedBy s lists.now) (groupBits words.now n)
-        (programIn words.now n) result out.new }
+    ensures { Changes (assigned_by s lists.now) (group_bits words.now n)
+        (program_in words.now n) result out.new }
 {
     let end = words.len();
     let mut c = indicator::start(end, n);
@@ -112,8 +112,8 @@ fn change_next(
     p: Progress,
     out: &mut [u64],
 ) -> NextWord
-    requires { TurnReady s.given lists.now (assignedBy s lists.now) words.now n p out.old }
-    ensures { Turns (assignedBy s lists.now) words.now n p result out.new }
+    requires { TurnReady s.given lists.now (assigned_by s lists.now) words.now n p out.old }
+    ensures { Turns (assigned_by s lists.now) words.now n p result out.new }
 {
     let c = p.cursor;
     let k = p.word;
@@ -139,9 +139,9 @@ fn move_words(
     p: Progress,
     out: &mut [u64],
 ) -> NextWord
-    requires { (TurnReady s.given lists.now (assignedBy s lists.now) words.now n p out.old)
+    requires { (TurnReady s.given lists.now (assigned_by s lists.now) words.now n p out.old)
         × (p.cursor.ahead / 2 ^ 59 ≡ 8) }
-    ensures { Turns (assignedBy s lists.now) words.now n p result out.new }
+    ensures { Turns (assigned_by s lists.now) words.now n p result out.new }
 {
     let mut c = p.cursor;
     let mut k = p.word;
@@ -170,7 +170,7 @@ fn move_words(
 // Words without change at once, or the one whose two 0s come next.
 fn pass_unchanged(given: &[u64], c: Cursor, k: usize, out: &mut [u64]) -> NextWord
     requires { PassReady given.now c k out.old }
-    ensures { Steps (unchangedStep given.now c k out.old) result out.new }
+    ensures { Steps (unchanged_step given.now c k out.old) result out.new }
 {
     if c.ahead != 0 {
         out[k] = given[k];
@@ -185,7 +185,7 @@ fn pass_unchanged(given: &[u64], c: Cursor, k: usize, out: &mut [u64]) -> NextWo
 // What became of word number k.
 fn store_word(out: &mut [u64], k: usize, r: WordChange) -> NextWord
     requires { (k < length out.old) × (length out.old < 2 ^ 64) }
-    ensures { Steps (storedStep k out.old r) result out.new }
+    ensures { Steps (stored_step k out.old r) result out.new }
 {
     match r {
         WordChange::Next(v, d) => {
@@ -199,7 +199,7 @@ fn store_word(out: &mut [u64], k: usize, r: WordChange) -> NextWord
 // A word whose indicators are 01000: its right field is moved by the area's address.
 fn moved_word(area: Area, c: Cursor, w: u64) -> WordChange
     requires { MovedReady area c w }
-    ensures { result ≡ movedWord area w c }
+    ensures { result ≡ moved_word area w c }
 {
     let a = word::placed(area, Relative(word::field(w, Half::Right)));
     if a.0 < VALUE_LIMIT {

@@ -1,8 +1,8 @@
 // A program word's left half, then its right one, each by its indicator.
 ghost use Rattle.std.specs.Prelude.{◌≡◌, ◌≤◌};
 ghost use Rattle.word.specs.declared.Half.TheVariants.{Left, Right};
-ghost use Rattle.field.specs.Field.{assignedBy};
-ghost use Rattle.group.specs.HowHalves.{passedBits, half_of, bothOf, HalfReady};
+ghost use Rattle.field.specs.Field.{assigned_by};
+ghost use Rattle.group.specs.HowHalves.{passed_bits, half_of, both_of, HalfReady};
 
 use field::{Assigned, Stepped};
 use indicator::{Cursor, NEXT_BIT};
@@ -17,7 +17,7 @@ pub enum WordChange {
 // A word's left half, then its right one.
 pub fn change_word(s: Assigned, lists: &[u64], c: Cursor, w: u64) -> WordChange
     requires { HalfReady s.given lists.now w c 26 }
-    ensures { result ≡ bothOf (assignedBy s lists.now) w c }
+    ensures { result ≡ both_of (assigned_by s lists.now) w c }
 {
     match left_half(s, lists, c, w) {
         WordChange::Next(v, d) => right_half(s, lists, d, v),
@@ -28,7 +28,7 @@ pub fn change_word(s: Assigned, lists: &[u64], c: Cursor, w: u64) -> WordChange
 // Either half has a function of its own, so that its code is made for its bits alone.
 fn left_half(s: Assigned, lists: &[u64], c: Cursor, w: u64) -> WordChange
     requires { HalfReady s.given lists.now w c 13 }
-    ensures { result ≡ half_of (assignedBy s lists.now) Left w c }
+    ensures { result ≡ half_of (assigned_by s lists.now) Left w c }
 {
     if c.ahead < NEXT_BIT {
         return WordChange::Next(w, indicator::pass_bits(c, 1));
@@ -41,7 +41,7 @@ fn left_half(s: Assigned, lists: &[u64], c: Cursor, w: u64) -> WordChange
 
 fn right_half(s: Assigned, lists: &[u64], c: Cursor, w: u64) -> WordChange
     requires { HalfReady s.given lists.now w c 13 }
-    ensures { result ≡ half_of (assignedBy s lists.now) Right w c }
+    ensures { result ≡ half_of (assigned_by s lists.now) Right w c }
 {
     if c.ahead < NEXT_BIT {
         return WordChange::Next(w, indicator::pass_bits(c, 1));
@@ -55,7 +55,7 @@ fn right_half(s: Assigned, lists: &[u64], c: Cursor, w: u64) -> WordChange
 // What became of a half, and the cursor past its indicator, whose first four bits are passed.
 fn passed(c: Cursor, r: Stepped) -> WordChange
     requires { 9 ≤ c.left }
-    ensures { result ≡ passedBits c r }
+    ensures { result ≡ passed_bits c r }
 {
     match r {
         Stepped::Word(v) => WordChange::Next(v, c),

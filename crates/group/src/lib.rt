@@ -6,9 +6,9 @@ mod halves;
 mod refusals;
 
 ghost use Rattle.std.specs.Prelude.{◌≡◌, length};
-ghost use Rattle.field.specs.Field.{assignedBy};
-ghost use Rattle.group.specs.Group.{liesIn, wordsLie, address_of, groupStep, GroupMeets, Ready};
-ghost use Rattle.group.specs.HowGroup.{AddressReady, FillReady, Fitting, zeroFill, countedFill, fillOf, Fills};
+ghost use Rattle.field.specs.Field.{assigned_by};
+ghost use Rattle.group.specs.Group.{lies_in, words_lie, address_of, group_step, GroupMeets, Ready};
+ghost use Rattle.group.specs.HowGroup.{AddressReady, FillReady, Fitting, zero_fill, counted_fill, fill_of, Fills};
 
 use crate::changes::GroupChange;
 use field::Assigned;
@@ -42,7 +42,7 @@ pub fn group_step(
     core: &mut [u64],
 ) -> GroupStep
     requires { Ready s.given lists.now section block.now i core.old }
-    ensures { GroupMeets (groupStep (assignedBy s lists.now) section block.now i core.old)
+    ensures { GroupMeets (group_step (assigned_by s lists.now) section block.now i core.old)
         result core.new }
 {
     match program::read_group(block[i]) {
@@ -63,7 +63,7 @@ pub fn group_step(
 // Whether the words of a group lie in their bank, or in the table section's count. Bit 16 zero is the IBANK; a table section has no
 // such group.
 fn words_lie(section: Section, g: Group) -> bool
-    ensures { result ≡ wordsLie section g }
+    ensures { result ≡ words_lie section g }
 {
     match section {
         Section::Segment(segment) => {
@@ -85,7 +85,7 @@ fn words_lie(section: Section, g: Group) -> bool
 
 // A bank and a group both count from the area's address.
 fn lies_in(bank: Bank, g: Group) -> bool
-    ensures { result ≡ liesIn bank g }
+    ensures { result ≡ lies_in bank g }
 {
     word::run_within(g.at.0, g.program, bank.at.0, bank.count)
 }
@@ -115,7 +115,7 @@ fn fill_group(
     out: &mut [u64],
 ) -> GroupStep
     requires { FillReady s.given lists.now block.now i g out.old }
-    ensures { Fills (fillOf (assignedBy s lists.now) block.now i g) result out.new }
+    ensures { Fills (fill_of (assigned_by s lists.now) block.now i g) result out.new }
 {
     if LAST_WORD < i + g.words as usize {
         return refuse(out, FAULT_18);
@@ -136,7 +136,7 @@ fn count_group(
     out: &mut [u64],
 ) -> GroupStep
     requires { (FillReady s.given lists.now block.now i g out.old) × (Fitting i g) }
-    ensures { Fills (countedFill (assignedBy s lists.now) block.now i g) result out.new }
+    ensures { Fills (counted_fill (assigned_by s lists.now) block.now i g) result out.new }
 {
     let first = i + 1;
     let end = first + g.words as usize;
@@ -155,7 +155,7 @@ fn count_group(
 
 // A refused group leaves zeros where its words would have gone.
 fn refuse(out: &mut [u64], f: Fault) -> GroupStep
-    ensures { Fills (zeroFill (length out.old) f) result out.new }
+    ensures { Fills (zero_fill (length out.old) f) result out.new }
 {
     let n = out.len();
     word::slices::clear(out, 0, n);

@@ -3,10 +3,10 @@
 // are found here together.
 ghost use Rattle.std.specs.Prelude.{◌≡◌, ◌<◌, ◌^◌};
 ghost use Rattle.lists.specs.Load.{Readable};
-ghost use Rattle.field.specs.Field.{assignedBy};
-ghost use Rattle.group.specs.Group.{halfStep};
+ghost use Rattle.field.specs.Field.{assigned_by};
+ghost use Rattle.group.specs.Group.{half_step};
 ghost use Rattle.group.specs.HowHalves.{word_of, HalfReady};
-ghost use Rattle.group.specs.HowFaults.{firstFault, groupFault, FaultReady};
+ghost use Rattle.group.specs.HowFaults.{first_fault, group_fault, FaultReady};
 
 use field::{Assigned, Changed};
 use indicator::{Cursor, Indicator};
@@ -16,7 +16,7 @@ use word::{Fault, Half};
 // The refusal of a group of which a field is refused.
 pub fn group_fault(s: Assigned, lists: &[u64], words: &[u64], n: usize) -> Fault
     requires { FaultReady s.given lists.now words.now n }
-    ensures { result ≡ groupFault (assignedBy s lists.now) words.now n }
+    ensures { result ≡ group_fault (assigned_by s lists.now) words.now n }
 {
     if indicator::count_fits(words, n) {
         return word::further(1, first_fault(s, lists, words, n));
@@ -27,7 +27,7 @@ pub fn group_fault(s: Assigned, lists: &[u64], words: &[u64], n: usize) -> Fault
 // The fault of the first field that is refused, its word counted from the first of these; 0 where none is.
 fn first_fault(s: Assigned, lists: &[u64], words: &[u64], n: usize) -> Fault
     requires { FaultReady s.given lists.now words.now n }
-    ensures { result ≡ firstFault (assignedBy s lists.now) words.now n }
+    ensures { result ≡ first_fault (assigned_by s lists.now) words.now n }
 {
     let end = words.len();
     let mut c = indicator::start(end, n);
@@ -52,7 +52,7 @@ fn first_fault(s: Assigned, lists: &[u64], words: &[u64], n: usize) -> Fault
 // The word w, whose indicators come next, before them so many bits: by its left half and then by its right one.
 fn word_step(s: Assigned, lists: &[u64], bit: u64, c: Cursor, w: u64) -> Changed
     requires { (HalfReady s.given lists.now w c 26) × (bit < 2 ^ 32) }
-    ensures { result ≡ word_of (assignedBy s lists.now) bit w c }
+    ensures { result ≡ word_of (assigned_by s lists.now) bit w c }
 {
     let m = indicator::look(c.ahead, word::field(w, Half::Left));
     let d = indicator::pass(c, m);
@@ -75,7 +75,7 @@ fn word_step(s: Assigned, lists: &[u64], bit: u64, c: Cursor, w: u64) -> Changed
 // A half of the word w by its indicator, before which so many bits stand.
 fn half_step(s: Assigned, lists: &[u64], h: Half, bit: u64, m: Indicator, w: u64) -> Changed
     requires { (Readable s.given lists.now) × (w < 2 ^ 36) }
-    ensures { result ≡ halfStep (assignedBy s lists.now) h bit m w }
+    ensures { result ≡ half_step (assigned_by s lists.now) h bit m w }
 {
     match m {
         Indicator::Same => Changed::Word(w),

@@ -2,70 +2,70 @@
 use mathlib.Core.Path.{◌≡◌, refl}
 use mathlib.Core.Bool.{true, false}
 use lib.ListN.{get_or}
-use Rattle.word.specs.Lists.{every, firstNot, tab}
+use Rattle.word.specs.Lists.{every, first_not, tab}
 use Rattle.block.specs.Fieldata.{spelt, characters}
-use Rattle.block.specs.Records.{program, termination, ofRecord}
+use Rattle.block.specs.Records.{program, termination, of_record}
 use Rattle.block.specs.Checksum.{sum_of, checksum}
-use Rattle.block.specs.Block.{wholeBlock, sealVerdict, verdict}
+use Rattle.block.specs.Block.{whole_block, seal_verdict, verdict}
 use Rattle.block.specs.declared.Record.TheVariants.{Label, Program, Termination}
 use Rattle.block.specs.declared.Verdict.TheVariants.{Pass}
-use Rattle.label.specs.Name.{isName, firstWrong, mayStand, letterOrDigit}
-use Rattle.label.specs.Tables.{tableWordsIn, tableWords, tablesStand, firstTable, tableStands, entriesOf, countsOf, withinLimits}
-use Rattle.label.specs.Label.{label_of, finished, programWordFits}
+use Rattle.label.specs.Name.{is_name, first_wrong, may_stand, letter_or_digit}
+use Rattle.label.specs.Tables.{table_words_in, table_words, tables_stand, first_table, table_stands, entries_of, counts_of, within_limits}
+use Rattle.label.specs.Label.{label_of, finished, program_word_fits}
 use Rattle.label.specs.declared.LabelRead.TheVariants.{Good as label-read}
-use Rattle.program.specs.Sections.{segmentOf, bankOf}
+use Rattle.program.specs.Sections.{segment_of, bank_of}
 use Rattle.program.specs.Groups.{group_of}
-use Rattle.program.specs.Start.{start_of, inBank}
+use Rattle.program.specs.Start.{start_of, in_bank}
 use Rattle.program.specs.declared.SegmentRead.TheVariants.{Good as segment-read}
-use Rattle.program.specs.declared.GroupRead.TheVariants.{Good as group-read}
-use Rattle.hand_deck.specs.Blocks.{blank, with_words, deckLabel, deckProgram, deckTermination}
+use Rattle.program.specs.declared.GroupRead.TheVariants.{Good as group_read_lem}
+use Rattle.hand_deck.specs.Blocks.{blank, with_words, deck_label, deck_program, deck_termination}
 
 -- each is a block, with its checksum, of its record
-pub label-sealed : verdict Label deckLabel ≡ Pass
-unfolding deckLabel with_words blank verdict sealVerdict wholeBlock every checksum sum_of
-label-sealed = refl
+pub label_sealed : verdict Label deck_label ≡ Pass
+unfolding deck_label with_words blank verdict seal_verdict whole_block every checksum sum_of
+label_sealed = refl
 
-pub program-sealed : verdict Program deckProgram ≡ Pass
-unfolding deckProgram with_words blank verdict sealVerdict wholeBlock every checksum sum_of
-program-sealed = refl
+pub program_sealed : verdict Program deck_program ≡ Pass
+unfolding deck_program with_words blank verdict seal_verdict whole_block every checksum sum_of
+program_sealed = refl
 
-pub termination-sealed : verdict Termination deckTermination ≡ Pass
-unfolding deckTermination with_words blank verdict sealVerdict wholeBlock every checksum sum_of
-termination-sealed = refl
+pub termination_sealed : verdict Termination deck_termination ≡ Pass
+unfolding deck_termination with_words blank verdict seal_verdict whole_block every checksum sum_of
+termination_sealed = refl
 
-pub program-known : ofRecord Program deckProgram ≡ true
-unfolding deckProgram with_words blank program spelt
-program-known = refl
+pub program_known : of_record Program deck_program ≡ true
+unfolding deck_program with_words blank program spelt
+program_known = refl
 
-pub termination-known : ofRecord Termination deckTermination ≡ true
-unfolding deckTermination with_words blank termination spelt
-termination-known = refl
+pub termination_known : of_record Termination deck_termination ≡ true
+unfolding deck_termination with_words blank termination spelt
+termination_known = refl
 
 -- the label of a program named A: no tables, no table sections
-pub label-read-whole : label_of deckLabel
+pub label-read-whole : label_of deck_label
     ≡ label-read (record { switches = 0; channels = 0; units = 0; tables = 0; exact = false; sections = 0 })
-unfolding deckLabel with_words blank label_of isName firstWrong mayStand letterOrDigit every characters
-    tableWordsIn tableWords tablesStand firstTable tableStands entriesOf countsOf withinLimits firstNot tab
-    finished programWordFits
+unfolding deck_label with_words blank label_of is_name first_wrong may_stand letter_or_digit every characters
+    table_words_in table_words tables_stand first_table table_stands entries_of counts_of within_limits first_not tab
+    finished program_word_fits
 label-read-whole = refl
 
 -- an IBANK of one word at relative 0, no DBANK
-pub segment-read-whole : segmentOf (get_or deckProgram 1 0) (get_or deckProgram 2 0)
+pub segment-read-whole : segment_of (get_or deck_program 1 0) (get_or deck_program 2 0)
     ≡ segment-read (record {
       ibank = record { at = record { 0 = 0 }; count = 1 };
       dbank =
           record { at = record { 0 = 0 }; count = 0 };
     })
-unfolding deckProgram with_words blank segmentOf bankOf
+unfolding deck_program with_words blank segment_of bank_of
 segment-read-whole = refl
 
 -- one group, the section's last: one program word at relative 0 and one indicator word
-pub group-read-whole : group_of (get_or deckProgram 5 0)
-    ≡ group-read (record { words = 2; program = 1; last = true; ibank = true; at = record { 0 = 0 } })
-unfolding deckProgram with_words blank group_of
-group-read-whole = refl
+pub group_read-whole : group_of (get_or deck_program 5 0)
+    ≡ group_read_lem (record { words = 2; program = 1; last = true; ibank = true; at = record { 0 = 0 } })
+unfolding deck_program with_words blank group_of
+group_read-whole = refl
 
 -- the start is relative 0, in the IBANK
-pub start-in : inBank (record { at = record { 0 = 0 }; count = 1 }) (start_of deckTermination) ≡ true
-unfolding deckTermination with_words blank inBank
-start-in = refl
+pub start_in_lem : in_bank (record { at = record { 0 = 0 }; count = 1 }) (start_of deck_termination) ≡ true
+unfolding deck_termination with_words blank in_bank
+start_in_lem = refl

@@ -1,7 +1,7 @@
 -- The three blocks of the hand deck, as 01 lists them; unnamed words are zero. Of the program block 01 has the checksum
 -- 000001146450: with the carry added back (#104) "the hand deck's program block ends 000001146451".
 use Rattle.std.specs.Prelude.{ℕ, List, [], ◌∷◌, set, replicate}
-use Rattle.word.specs.Limits.{wordsInBlock}
+use Rattle.word.specs.Limits.{words_in_block}
 
 -- a word of a block: its number and its value
 pub record Named : Type 0 where
@@ -14,10 +14,10 @@ with_words [] block = block
 with_words (n ∷ ns) block = with_words ns (set block n.at n.word)
 
 unfoldable pub blank : List ℕ
-blank = replicate wordsInBlock 0
+blank = replicate words_in_block 0
 
-unfoldable pub deckLabel : List ℕ
-deckLabel = with_words (
+unfoldable pub deck_label : List ℕ
+deck_label = with_words (
     record { at = 0; word = 0o060505050505 }
     ∷ record { at = 1; word = 0o050505050505 }
     ∷ record { at = 2; word = 0o100000000000 }
@@ -26,8 +26,8 @@ deckLabel = with_words (
     ∷ record { at = 255; word = 0o060505050505 }
     ∷ []) blank
 
-unfoldable pub deckProgram : List ℕ
-deckProgram = with_words (
+unfoldable pub deck_program : List ℕ
+deck_program = with_words (
     record { at = 0; word = 0o502527242710 }
     ∷ record { at = 1; word = 0o000001000000 }
     ∷ record { at = 5; word = 0o401001400000 }
@@ -36,11 +36,11 @@ deckProgram = with_words (
     ∷ record { at = 255; word = 0o000001146451 }
     ∷ []) blank
 
-unfoldable pub deckTermination : List ℕ
-deckTermination = with_words (
+unfoldable pub deck_termination : List ℕ
+deck_termination = with_words (
     record { at = 0; word = 0o503127222710 }
     ∷ record { at = 255; word = 0o000000726037 }
     ∷ []) blank
 
-abbrev pub deckFile : List (List ℕ)
-deckFile = deckLabel ∷ deckProgram ∷ deckTermination ∷ []
+abbrev pub deck_file : List (List ℕ)
+deck_file = deck_label ∷ deck_program ∷ deck_termination ∷ []

@@ -2,16 +2,16 @@
 -- or request #104 where it changed that. A field's case is in either half, since 01 does not say which.
 use Rattle.std.specs.Prelude.{ℕ, ◌+◌, ◌-◌, ◌*◌, ◌^◌, List, [], ◌∷◌}
 use Rattle.word.specs.declared.Half.{Half}
-use Rattle.word.specs.Word.{field_of, fieldStored}
+use Rattle.word.specs.Word.{field_of, field_stored}
 use Rattle.block.specs.Records.{modification, program, termination}
 use Rattle.block.specs.Checksum.{checksum}
 use Rattle.field.specs.declared.Changed.{Changed}
 use Rattle.field.specs.declared.Changed.TheVariants.{Word, Refused}
-use Rattle.field.specs.Field.{Assignments, fieldStep}
+use Rattle.field.specs.Field.{Assignments, field_step}
 
 -- "area at 5000", "table 0 at 40,000, length 120"
-abbrev pub deckLoad : Assignments
-deckLoad = record {
+abbrev pub deck_load : Assignments
+deck_load = record {
   area = record { at = record { 0 = 5000 }; size = 60536 };
   tables = record { at = record { 0 = 40000 }; len = 120 } ∷ [];
   ios = [];
@@ -29,7 +29,7 @@ as_number h (Refused f) = refusal f.number
 -- the field f of half h in a word else zero, changed by type t, no indicator bits before its own; x is the nine more bits of a long type
 -- 010
 abbrev pub changed : Half → ℕ → ℕ → ℕ → ℕ
-changed h t f x = as_number h (fieldStep deckLoad h 0 t (fieldStored h 0 f) x)
+changed h t f x = as_number h (field_step deck_load h 0 t (field_stored h 0 f) x)
 
 abbrev pub cases : Half → List (ℕ × ℕ)
 cases h =

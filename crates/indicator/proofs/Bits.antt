@@ -9,19 +9,19 @@ use lib.Seq.{get_or-append-add, get_or_at}
 use Rattle.word.specs.Word.{bit}
 use Rattle.word.specs.Lists.{range}
 use Rattle.word.proofs.Cases.{by-lt}
-use Rattle.word.proofs.Lists.{length-range, getD-range, length-range-most}
-use Rattle.indicator.specs.Indicator.{InBlock, bits_of, indicatorBits, bitsBefore, number_at}
+use Rattle.word.proofs.Lists.{length-range, get_d_range, length-range_most}
+use Rattle.indicator.specs.Indicator.{InBlock, bits_of, indicator_bits, bits_before, number_at}
 
-pub length-bitsOf : (n w : ℕ) → length (bits_of n w) ≡ n
+pub length-bits_of : (n w : ℕ) → length (bits_of n w) ≡ n
 unfolding bits_of
-length-bitsOf zero w = refl
-length-bitsOf (suc n) w = ap suc (length-bitsOf n w)
+length-bits_of zero w = refl
+length-bits_of (suc n) w = ap suc (length-bits_of n w)
 
-pub getD-bitsOf : (n w i : ℕ) → i < n → get_or (bits_of n w) i 0 ≡ bit (n - 1 - i) w
+pub get_d_bits_of : (n w i : ℕ) → i < n → get_or (bits_of n w) i 0 ≡ bit (n - 1 - i) w
 unfolding bits_of
-getD-bitsOf zero w i h = absurd (not-suc-le-zero h)
-getD-bitsOf (suc n) w zero h = ap (λ (j : ℕ). bit j w) (omega arith)
-getD-bitsOf (suc n) w (suc i) h = getD-bitsOf n w i (omega arith) ∙ ap (λ (j : ℕ). bit j w) (omega arith)
+get_d_bits_of zero w i h = absurd (not-suc-le-zero h)
+get_d_bits_of (suc n) w zero h = ap (λ (j : ℕ). bit j w) (omega arith)
+get_d_bits_of (suc n) w (suc i) h = get_d_bits_of n w i (omega arith) ∙ ap (λ (j : ℕ). bit j w) (omega arith)
 
 get_d_reverse : (l : List ℕ) (i : ℕ) → i < length l → get_or (reverse l) i 0 ≡ get_or l (length l - 1 - i) 0
 get_d_reverse [] i h = absurd (not-suc-le-zero h)
@@ -39,33 +39,33 @@ zero_bit : (j : ℕ) → bit j 0 ≡ 0
 zero_bit j = ap (λ (x : ℕ). x % 2) (zero-div (2 ^ j))
 
 -- of words one after the other bit k is in word k / 36, 35 - k % 36 bits up; past their end both sides are 0
-flat-at : (ws : List ℕ) (k : ℕ) → get_or (flat_map (bits_of 36) ws) k 0 ≡ bit (35 - k % 36) (get_or ws (k / 36) 0)
+flat_at : (ws : List ℕ) (k : ℕ) → get_or (flat_map (bits_of 36) ws) k 0 ≡ bit (35 - k % 36) (get_or ws (k / 36) 0)
 unfolding flat_map
-flat-at [] k = sym (zero_bit (35 - k % 36))
-flat-at (w ∷ ws) k =
-    let long = length-bitsOf 36 w in
+flat_at [] k = sym (zero_bit (35 - k % 36))
+flat_at (w ∷ ws) k =
+    let long = length-bits_of 36 w in
     by-lt k 36
     (λ l.
     let e : k / 36 ≡ 0 = omega arith in
     let f : 36 - 1 - k ≡ 35 - k % 36 = omega arith in
-    get_or-append (bits_of 36 w) (flat_map (bits_of 36) ws) 0 k (omega arith) ∙ getD-bitsOf 36 w k l ∙ rw (e, f))
+    get_or-append (bits_of 36 w) (flat_map (bits_of 36) ws) 0 k (omega arith) ∙ get_d_bits_of 36 w k l ∙ rw (e, f))
     (λ g.
     let e : k / 36 ≡ suc ((k - 36) / 36) = omega arith in
     let f : k % 36 ≡ (k - 36) % 36 = omega arith in
     ap (λ (j : ℕ). get_or (bits_of 36 w ++ flat_map (bits_of 36) ws) j 0) (omega arith)
     ∙ get_or-append-add (bits_of 36 w) (flat_map (bits_of 36) ws) (k - 36) 0
-    ∙ flat-at ws (k - 36)
+    ∙ flat_at ws (k - 36)
     ∙ rw (e, f))
 
-length-flat : (ws : List ℕ) → length (flat_map (bits_of 36) ws) ≡ 36 * length ws
+length_flat : (ws : List ℕ) → length (flat_map (bits_of 36) ws) ≡ 36 * length ws
 unfolding flat_map
-length-flat [] = refl
-length-flat (w ∷ ws) = length-append (bits_of 36 w) (flat_map (bits_of 36) ws) ∙ omega (arith, length-bitsOf 36 w, length-flat ws)
+length_flat [] = refl
+length_flat (w ∷ ws) = length-append (bits_of 36 w) (flat_map (bits_of 36) ws) ∙ omega (arith, length-bits_of 36 w, length_flat ws)
 
 -- 36 bits a word
-pub length-indicatorBits : (words : List ℕ) → length (indicatorBits words) ≡ 36 * length words
-unfolding indicatorBits
-length-indicatorBits words = length-flat (reverse words) ∙ ap (λ (m : ℕ). 36 * m) (length-reverse words)
+pub length-indicator_bits : (words : List ℕ) → length (indicator_bits words) ≡ 36 * length words
+unfolding indicator_bits
+length-indicator_bits words = length_flat (reverse words) ∙ ap (λ (m : ℕ). 36 * m) (length-reverse words)
 
 -- the n words before place `end`, the last one first
 last-first : (block : List ℕ) (end n i : ℕ) → InBlock block end n → i < n
@@ -75,32 +75,32 @@ last-first block end n i h l =
     let m = length-range block (end - n) n (omega arith) in
     get_d_reverse ws i (rw m l)
     ∙ ap (λ (x : ℕ). get_or ws (x - 1 - i) 0) m
-    ∙ getD-range block (end - n) n (n - 1 - i) (omega arith)
+    ∙ get_d_range block (end - n) n (n - 1 - i) (omega arith)
     ∙ ap (λ (j : ℕ). get_or block j 0) (omega arith)
 
 module _ (block : List ℕ) (end n k : ℕ) where
   -- bit k is in the word k / 36 places before the last, 35 - k % 36 bits up
   pub bits_at : InBlock block end n → k / 36 < n
-      → get_or (bitsBefore block end n) k 0 ≡ bit (35 - k % 36) (get_or block (end - 1 - k / 36) 0)
-  unfolding bitsBefore indicatorBits
+      → get_or (bits_before block end n) k 0 ≡ bit (35 - k % 36) (get_or block (end - 1 - k / 36) 0)
+  unfolding bits_before indicator_bits
   bits_at h l =
-      flat-at (reverse (range block (end - n) n)) k
+      flat_at (reverse (range block (end - n) n)) k
       ∙ ap (bit (35 - k % 36)) (last-first block end n (k / 36) h l)
 
-  pub bits-past : n ≤ k / 36 → get_or (bitsBefore block end n) k 0 ≡ 0
-  unfolding bitsBefore
-  bits-past h =
+  pub bits_past : n ≤ k / 36 → get_or (bits_before block end n) k 0 ≡ 0
+  unfolding bits_before
+  bits_past h =
       let ws = range block (end - n) n in
-      get_or-eq_default (indicatorBits ws) 0 (omega (arith, length-indicatorBits ws, length-range-most block (end - n) n))
+      get_or-eq_default (indicator_bits ws) 0 (omega (arith, length-indicator_bits ws, length-range_most block (end - n) n))
 
-  pub bit_below : get_or (bitsBefore block end n) k 0 < 2
-  unfolding bitsBefore indicatorBits
+  pub bit_below : get_or (bits_before block end n) k 0 < 2
+  unfolding bits_before indicator_bits
   bit_below =
       let ws = reverse (range block (end - n) n) in
-      rw (flat-at ws k) (mod-lt (get_or ws (k / 36) 0 / 2 ^ (35 - k % 36)) (omega arith))
+      rw (flat_at ws k) (mod-lt (get_or ws (k / 36) 0 / 2 ^ (35 - k % 36)) (omega arith))
 
 -- a number of n bits is below 2 ^ n
-pub number-below : (block : List ℕ) (end m p n : ℕ) → number_at (bitsBefore block end m) p n < 2 ^ n
+pub number_below_lem : (block : List ℕ) (end m p n : ℕ) → number_at (bits_before block end m) p n < 2 ^ n
 unfolding number_at
-number-below block end m p zero = omega arith
-number-below block end m p (suc n) = omega (arith, number-below block end m p n, bit_below block end m (p + n))
+number_below_lem block end m p zero = omega arith
+number_below_lem block end m p (suc n) = omega (arith, number_below_lem block end m p n, bit_below block end m (p + n))

@@ -3,17 +3,17 @@
 -- bits that specs/Indicator.antt defines; that it reads the same indicators is proved in proofs/Reading.antt.
 use Rattle.std.specs.Prelude.{ℕ, ◌+◌, ◌-◌, ◌*◌, ◌/◌, ◌%◌, ◌^◌, ◌≤◌, ◌<◌, ◌≡◌, true, cond, ◌&&◌, List, length, get_or, ltb, leb, eqb}
 use Rattle.word.specs.declared.Half.TheVariants.{Left, Right}
-use Rattle.word.specs.Limits.{wordsInBlock}
+use Rattle.word.specs.Limits.{words_in_block}
 use Rattle.word.specs.Lists.{every}
-use Rattle.word.specs.Word.{isWord, bits, is_set, field_of}
+use Rattle.word.specs.Word.{is_word, bits, is_set, field_of}
 use Rattle.indicator.specs.declared.Indicator.{Indicator}
 use Rattle.indicator.specs.declared.Indicator.TheVariants.{Same, Change, Long}
-use Rattle.indicator.specs.Indicator.{bitsBefore, number_at, width_of}
+use Rattle.indicator.specs.Indicator.{bits_before, number_at, width_of}
 use Rattle.indicator.specs.declared.Cursor.{Cursor}
 
 -- the bits of the indicator words of a group: of its words those from place n on
-abbrev pub groupBits : List ℕ → ℕ → List ℕ
-groupBits words n = bitsBefore words (length words) (length words - n)
+abbrev pub group_bits : List ℕ → ℕ → List ℕ
+group_bits words n = bits_before words (length words) (length words - n)
 
 -- more bits than any group reads
 abbrev pub endless : ℕ
@@ -28,14 +28,14 @@ beyond n next = cond (leb next n) endless 0
 pub record Sees (words : List ℕ) (n : ℕ) (c : Cursor) (at d : ℕ) : Type 0 where
   pub few : n ≤ c.next
   pub most : c.next ≤ length words
-  pub seen : c.ahead ≡ number_at (groupBits words c.next) at 64
+  pub seen : c.ahead ≡ number_at (group_bits words c.next) at 64
   pub near : 36 * (length words - c.next) ≤ at + 64
   pub left : c.left + at ≡ 36 * (length words - c.next) + beyond n c.next
   pub room : d ≤ c.left
 
 -- before the first bit
-abbrev pub startCursor : ℕ → ℕ → Cursor
-startCursor end n = record { ahead = 0; left = beyond n end; next = end }
+abbrev pub start_cursor : ℕ → ℕ → Cursor
+start_cursor end n = record { ahead = 0; left = beyond n end; next = end }
 
 -- the place of the next bit
 abbrev pub place_of : ℕ → ℕ → Cursor → ℕ
@@ -49,17 +49,17 @@ look_of ahead f =
     (Change (bits 62 60 ahead)))
 
 -- past k bits; past an indicator; past that of a field that holds f; past a word's two
-abbrev pub pastBits : Cursor → ℕ → Cursor
-pastBits c k = record { ahead = c.ahead * 2 ^ k % 2 ^ 64; left = c.left - k; next = c.next }
+abbrev pub past_bits : Cursor → ℕ → Cursor
+past_bits c k = record { ahead = c.ahead * 2 ^ k % 2 ^ 64; left = c.left - k; next = c.next }
 
 unfoldable pub past_of : Cursor → Indicator → Cursor
-past_of c m = pastBits c (width_of m)
+past_of c m = past_bits c (width_of m)
 
-unfoldable pub pastField : Cursor → ℕ → Cursor
-pastField c f = past_of c (look_of c.ahead f)
+unfoldable pub past_field : Cursor → ℕ → Cursor
+past_field c f = past_of c (look_of c.ahead f)
 
-unfoldable pub pastWord : Cursor → ℕ → Cursor
-pastWord c w = pastField (pastField c (field_of Left w)) (field_of Right w)
+unfoldable pub past_word : Cursor → ℕ → Cursor
+past_word c w = past_field (past_field c (field_of Left w)) (field_of Right w)
 
 -- one indicator word more, behind the bits at hand, where fewer than 29 of these are left
 unfoldable pub refilled : List ℕ → ℕ → Cursor → Cursor
@@ -72,26 +72,26 @@ refilled words n c =
     })
 
 -- how many of the program words left have no change, where all bits at hand are 0: two 0s each
-unfoldable pub plainWords : Cursor → ℕ → ℕ
-plainWords c most = cond (ltb (c.left / 2) most) (c.left / 2) most
+unfoldable pub plain_words : Cursor → ℕ → ℕ
+plain_words c most = cond (ltb (c.left / 2) most) (c.left / 2) most
 
 -- past k words without change
-abbrev pub pastPlain : Cursor → ℕ → Cursor
-pastPlain c k = record { ahead = 0; left = c.left - 2 * k; next = c.next }
+abbrev pub past_plain : Cursor → ℕ → Cursor
+past_plain c k = record { ahead = 0; left = c.left - 2 * k; next = c.next }
 
 -- ---- what is known before: where a place is reckoned, where a word more may be taken, and where a group's bits are counted
 pub record PlaceReady (c : Cursor) (end n : ℕ) : Type 0 where
   pub most : c.next ≤ end
-  pub few : end ≤ wordsInBlock
+  pub few : end ≤ words_in_block
   pub left : c.left ≤ 36 * (end - c.next) + beyond n c.next
 
 pub record RefillReady (words : List ℕ) (n : ℕ) (c : Cursor) : Type 0 where
-  pub long : length words ≤ wordsInBlock
-  pub all : every isWord words ≡ true
+  pub long : length words ≤ words_in_block
+  pub all : every is_word words ≡ true
   pub sees : Sees words n c (place_of (length words) n c) 0
   pub near : place_of (length words) n c + 28 < endless
 
 pub record CountReady (words : List ℕ) (n : ℕ) : Type 0 where
-  pub long : length words ≤ wordsInBlock
-  pub all : every isWord words ≡ true
+  pub long : length words ≤ words_in_block
+  pub all : every is_word words ≡ true
   pub program : n ≤ length words

@@ -3,9 +3,9 @@
 // A group's words are its program words, the first n, and its indicator words after them.
 ghost use Rattle.std.specs.Prelude.{◌≡◌, ◌+◌, ◌-◌, ◌*◌, ◌≤◌, ◌<◌, ◌^◌, length};
 ghost use Rattle.word.specs.Lists.{range};
-ghost use Rattle.indicator.specs.Indicator.{width_of, afterAll, justEnough};
-ghost use Rattle.indicator.specs.HowCursor.{beyond, groupBits, startCursor, place_of, look_of, pastBits, past_of, pastField};
-ghost use Rattle.indicator.specs.HowCursor.{pastWord, refilled, plainWords, pastPlain, RefillReady, PlaceReady, CountReady};
+ghost use Rattle.indicator.specs.Indicator.{width_of, after_all, just_enough};
+ghost use Rattle.indicator.specs.HowCursor.{beyond, group_bits, start_cursor, place_of, look_of, past_bits, past_of, past_field};
+ghost use Rattle.indicator.specs.HowCursor.{past_word, refilled, plain_words, past_plain, RefillReady, PlaceReady, CountReady};
 
 use word::{Half, WORD_BITS};
 
@@ -38,7 +38,7 @@ pub struct Cursor {
 
 // Before the first bit of the words from place n up to place end.
 pub fn start(end: usize, n: usize) -> Cursor
-    ensures { result ≡ startCursor end n }
+    ensures { result ≡ start_cursor end n }
 {
     Cursor {
         ahead: 0,
@@ -94,7 +94,7 @@ pub fn width(m: Indicator) -> usize
 // Past k bits.
 pub fn pass_bits(c: Cursor, k: usize) -> Cursor
     requires { (k ≤ c.left) × (k < 64) }
-    ensures { result ≡ pastBits c k }
+    ensures { result ≡ past_bits c k }
 {
     Cursor {
         ahead: c.ahead << k,
@@ -114,7 +114,7 @@ pub fn pass(c: Cursor, m: Indicator) -> Cursor
 // Past the indicator of a field that holds f.
 fn pass_field(c: Cursor, f: u64) -> Cursor
     requires { 13 ≤ c.left }
-    ensures { result ≡ pastField c f }
+    ensures { result ≡ past_field c f }
 {
     pass(c, look(c.ahead, f))
 }
@@ -122,7 +122,7 @@ fn pass_field(c: Cursor, f: u64) -> Cursor
 // Past a program word's two indicators.
 pub fn pass_word(c: Cursor, w: u64) -> Cursor
     requires { 26 ≤ c.left }
-    ensures { result ≡ pastWord c w }
+    ensures { result ≡ past_word c w }
 {
     let next = pass_field(c, word::field(w, Half::Left));
     pass_field(next, word::field(w, Half::Right))
@@ -147,7 +147,7 @@ pub fn refill(words: &[u64], n: usize, c: Cursor) -> Cursor
 
 // How many of this many program words have no change, where all the bits at hand are 0: two bits each.
 pub fn unchanged(c: Cursor, most: usize) -> usize
-    ensures { result ≡ plainWords c most }
+    ensures { result ≡ plain_words c most }
 {
     let k = c.left / 2;
     if k < most { k } else { most }
@@ -156,7 +156,7 @@ pub fn unchanged(c: Cursor, most: usize) -> usize
 // Past this many words without change.
 pub fn pass_plain(c: Cursor, k: usize) -> Cursor
     requires { 2 * k ≤ c.left }
-    ensures { result ≡ pastPlain c k }
+    ensures { result ≡ past_plain c k }
 {
     Cursor {
         ahead: 0,
@@ -168,7 +168,7 @@ pub fn pass_plain(c: Cursor, k: usize) -> Cursor
 // Whether n indicator words are just as many as the bits need.
 pub fn just_enough(bits: usize, n: usize) -> bool
     requires { (bits + 36 < 2 ^ 64) × (36 * n < 2 ^ 64) }
-    ensures { result ≡ justEnough bits n }
+    ensures { result ≡ just_enough bits n }
 {
     if bits <= WORD_BITS * n {
         return WORD_BITS * n < bits + WORD_BITS;
@@ -179,7 +179,7 @@ pub fn just_enough(bits: usize, n: usize) -> bool
 // Whether the indicators of the n program words of a group need just the words after these.
 pub fn count_fits(words: &[u64], n: usize) -> bool
     requires { CountReady words.now n }
-    ensures { result ≡ justEnough (afterAll (groupBits words.now n) 0 (range words.now 0 n))
+    ensures { result ≡ just_enough (after_all (group_bits words.now n) 0 (range words.now 0 n))
         (length words.now - n) }
 {
     let end = words.len();

@@ -8,10 +8,10 @@ use lib.Dec.{eqb, leb}
 use borrow.Author.Tests.{leb-true}
 use Rattle.word.specs.Word.{bits}
 use Rattle.word.proofs.Cases.{when, and_right}
-use Rattle.label.specs.Name.{isName}
-use Rattle.label.specs.Tables.{tableWords, tablesStand, countsOf, withinLimits}
-use Rattle.label.specs.Label.{name_of, programWordFits, total_of, finished, label_of, Carried}
-use Rattle.label.proofs.Tables.{few-channels, few-io, few-tables, stand-within}
+use Rattle.label.specs.Name.{is_name}
+use Rattle.label.specs.Tables.{table_words, tables_stand, counts_of, within_limits}
+use Rattle.label.specs.Label.{name_of, program_word_fits, total_of, finished, label_of, Carried}
+use Rattle.label.proofs.Tables.{few_channels, few_io, few_tables, stand_within}
 use Rattle.label.specs.declared.Counts.{Counts}
 use Rattle.label.specs.declared.Label.{Label}
 use Rattle.label.specs.declared.LabelRead.{LabelRead}
@@ -21,24 +21,24 @@ abbrev Holds : LabelRead → Type 0
 Holds (Good l) = Carried l
 Holds (Bad f) = Unit {0}
 
-sections-few : (w n : ℕ) → programWordFits w n ≡ true → bits 15 0 w ≤ n
-unfolding programWordFits
-sections-few w n q =
+sections_few : (w n : ℕ) → program_word_fits w n ≡ true → bits 15 0 w ≤ n
+unfolding program_word_fits
+sections_few w n q =
     leb-true (bits 15 0 w) n
     (and_right (eqb (bits 33 18 w) 1) (leb (bits 15 0 w) n)
     (and_right (eqb (bits 17 16 w) 0) _ (and_right (eqb (bits 35 34 w) 0) _ q)))
 
-finished-holds : (block : List ℕ) (c : Counts) → withinLimits c ≡ true → Holds (finished block c)
+finished-holds : (block : List ℕ) (c : Counts) → within_limits c ≡ true → Holds (finished block c)
 unfolding finished
 finished-holds block c l =
     when Holds (eqb (total_of c) (bits 10 0 (get_or block 3 0)))
-    (λ _. when Holds (programWordFits (get_or block 253 0) c.tables)
+    (λ _. when Holds (program_word_fits (get_or block 253 0) c.tables)
     (λ q. when Holds (eqb (get_or block 255 0) (get_or block 0 0))
     (λ _. record {
-      channels = few-channels c l;
-      io = few-io c l;
-      core = few-tables c l;
-      sections = sections-few (get_or block 253 0) c.tables q;
+      channels = few_channels c l;
+      io = few_io c l;
+      core = few_tables c l;
+      sections = sections_few (get_or block 253 0) c.tables q;
     })
     (λ _. tt))
     (λ _. tt))
@@ -47,10 +47,10 @@ finished-holds block c l =
 label-holds : (block : List ℕ) → Holds (label_of block)
 unfolding label_of
 label-holds block =
-    when Holds (isName (name_of block))
+    when Holds (is_name (name_of block))
     (λ _. when Holds (eqb (bits 35 33 (get_or block 2 0)) 1)
-    (λ _. when Holds (tablesStand (tableWords block))
-    (λ q. finished-holds block (countsOf (tableWords block)) (stand-within (tableWords block) q))
+    (λ _. when Holds (tables_stand (table_words block))
+    (λ q. finished-holds block (counts_of (table_words block)) (stand_within (table_words block) q))
     (λ _. tt))
     (λ _. tt))
     (λ _. tt)

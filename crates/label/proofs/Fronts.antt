@@ -6,13 +6,13 @@ use mathlib.Core.List.{List, [], ◌∷◌}
 use native.Mathlib.Omega.{arith}
 use lib.ListN.{length, get_or, take}
 use Rattle.word.specs.Lists.{every}
-use Rattle.word.proofs.Cases.{and_assoc, and-true}
+use Rattle.word.proofs.Cases.{and_assoc, and_true}
 
 pub every_front : {A : Type 0} (f : A → Bool) (d : A) (l : List A) (j : ℕ) → j < length l
     → every f (take (suc j) l) ≡ (every f (take j l) && f (get_or l j d))
 unfolding every
 every_front f d [] j h = absurd (omega arith)
-every_front f d (x ∷ xs) zero h = and-true (f x)
+every_front f d (x ∷ xs) zero h = and_true (f x)
 every_front f d (x ∷ xs) (suc j) h =
     ap (λ (b : Bool). f x && b) (every_front f d xs j (omega arith))
     ∙ sym (and_assoc (f x) (every f (take j xs)) (f (get_or xs j d)))

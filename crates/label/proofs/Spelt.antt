@@ -13,10 +13,10 @@ use Rattle.word.specs.Fault.{fault, further}
 use Rattle.word.specs.Lists.{every}
 use Rattle.word.specs.declared.Fault.{Fault}
 use Rattle.word.proofs.Cases.{by-test, by-lt, both, when, and_left}
-use Rattle.word.proofs.First.{AllBelow, first-at, first-most, first-before, first-fails}
-use Rattle.block.specs.Fieldata.{hyphen, characters, isLetter, letter, digit}
-use Rattle.label.specs.Name.{letterOrDigit, isSpace, noSpace, mayStand, firstWrong, isName, nameFault, nameRead}
-use Rattle.label.specs.HowSpelling.{nextSpelling, spelled, isWrong}
+use Rattle.word.proofs.First.{AllBelow, first-at, first_most, first-before, first_fails}
+use Rattle.block.specs.Fieldata.{hyphen, characters, is_letter, letter, digit}
+use Rattle.label.specs.Name.{letter_or_digit, is_space, no_space, may_stand, first_wrong, is_name, name_fault, name_read}
+use Rattle.label.specs.HowSpelling.{next_spelling, spelled, is_wrong}
 use Rattle.label.specs.declared.NameRead.{NameRead}
 use Rattle.label.specs.declared.NameRead.TheVariants.{Good, Bad}
 use Rattle.label.specs.declared.Spelling.{Spelling}
@@ -27,12 +27,12 @@ use Rattle.label.proofs.Fronts.{every_front}
 -- how far the first j characters have come, where each may stand
 unfoldable reached : List ℕ → ℕ → Spelling
 reached cs zero = First
-reached cs (suc j) = cond (every noSpace (take (suc j) cs)) Inside Spaces
+reached cs (suc j) = cond (every no_space (take (suc j) cs)) Inside Spaces
 
 -- a letter or digit is no space
-no-space : (c : ℕ) → letterOrDigit c ≡ true → noSpace c ≡ true
-unfolding letterOrDigit
-no-space c q = by-test (isLetter c)
+no_space_lem : (c : ℕ) → letter_or_digit c ≡ true → no_space c ≡ true
+unfolding letter_or_digit
+no_space_lem c q = by-test (is_letter c)
     (λ l. let h = leb-true (letter 1) c (and_left (leb (letter 1) c) (leb c (letter 26)) l) in rw (ne_eqb c 5 (λ e. omega arith)))
     (λ n. let d = rw n at q in
     let h = leb-true (digit 0) c (and_left (leb (digit 0) c) (leb c (digit 9)) d) in rw (ne_eqb c 5 (λ e. omega arith)))
@@ -43,187 +43,187 @@ first_next : (l n : Bool) → (l ≡ true → n ≡ true) → cond l Inside Wron
 first_next true n k = rw (k refl)
 first_next false n k = refl
 
-inside-next : (s l h : Bool)
+inside_next : (s l h : Bool)
     → cond s Spaces (cond l Inside (cond h Inside Wrong)) ≡ cond (s || (l || h)) (cond (not s) Inside Spaces) Wrong
-inside-next true l h = refl
-inside-next false true h = refl
-inside-next false false true = refl
-inside-next false false false = refl
+inside_next true l h = refl
+inside_next false true h = refl
+inside_next false false true = refl
+inside_next false false false = refl
 
-spaces-next : (s : Bool) → cond s Spaces Wrong ≡ cond (s || false) Spaces Wrong
-spaces-next true = refl
-spaces-next false = refl
+spaces_next : (s : Bool) → cond s Spaces Wrong ≡ cond (s || false) Spaces Wrong
+spaces_next true = refl
+spaces_next false = refl
 
-later-next : (b : Bool) (c : ℕ) → nextSpelling (cond b Inside Spaces) c
-    ≡ cond (isSpace c || (b && (letterOrDigit c || eqb c hyphen))) (cond (b && noSpace c) Inside Spaces) Wrong
-unfolding nextSpelling
-later-next true c = inside-next (isSpace c) (letterOrDigit c) (eqb c hyphen)
-later-next false c = spaces-next (isSpace c)
+later_next : (b : Bool) (c : ℕ) → next_spelling (cond b Inside Spaces) c
+    ≡ cond (is_space c || (b && (letter_or_digit c || eqb c hyphen))) (cond (b && no_space c) Inside Spaces) Wrong
+unfolding next_spelling
+later_next true c = inside_next (is_space c) (letter_or_digit c) (eqb c hyphen)
+later_next false c = spaces_next (is_space c)
 
-next-at : (cs : List ℕ) (j : ℕ) → j < length cs
-    → nextSpelling (reached cs j) (get_or cs j 0) ≡ cond (mayStand cs j) (reached cs (suc j)) Wrong
-unfolding nextSpelling mayStand reached every
-next-at cs zero h =
-    rw (every_front noSpace 0 cs 0 h) (first_next (letterOrDigit (get_or cs 0 0)) (noSpace (get_or cs 0 0)) (no-space (get_or cs 0 0)))
-next-at cs (suc j) h = rw (every_front noSpace 0 cs (suc j) h) (later-next (every noSpace (take (suc j) cs)) (get_or cs (suc j) 0))
+next_at_lem : (cs : List ℕ) (j : ℕ) → j < length cs
+    → next_spelling (reached cs j) (get_or cs j 0) ≡ cond (may_stand cs j) (reached cs (suc j)) Wrong
+unfolding next_spelling may_stand reached every
+next_at_lem cs zero h =
+    rw (every_front no_space 0 cs 0 h) (first_next (letter_or_digit (get_or cs 0 0)) (no_space (get_or cs 0 0)) (no_space_lem (get_or cs 0 0)))
+next_at_lem cs (suc j) h = rw (every_front no_space 0 cs (suc j) h) (later_next (every no_space (take (suc j) cs)) (get_or cs (suc j) 0))
 
 -- ---- some characters
 pub spelled-append : (s : Spelling) (cs ds : List ℕ) → spelled s (cs ++ ds) ≡ spelled (spelled s cs) ds
 unfolding spelled
 spelled-append s [] ds = refl
-spelled-append s (c ∷ cs) ds = spelled-append (nextSpelling s c) cs ds
+spelled-append s (c ∷ cs) ds = spelled-append (next_spelling s c) cs ds
 
-stays-wrong : (cs : List ℕ) → spelled Wrong cs ≡ Wrong
-unfolding spelled nextSpelling
-stays-wrong [] = refl
-stays-wrong (c ∷ cs) = stays-wrong cs
+stays_wrong : (cs : List ℕ) → spelled Wrong cs ≡ Wrong
+unfolding spelled next_spelling
+stays_wrong [] = refl
+stays_wrong (c ∷ cs) = stays_wrong cs
 
 -- the loop over the characters of a word, of which n are left
-pub spelled-more : (s : Spelling) (w n : ℕ) (t r : Spelling) → 0 < n → t ≡ nextSpelling s (part (6 * (n - 1)) 6 w)
+pub spelled_more : (s : Spelling) (w n : ℕ) (t r : Spelling) → 0 < n → t ≡ next_spelling s (part (6 * (n - 1)) 6 w)
     → r ≡ spelled s (characters n w)
     → r ≡ spelled t (characters (n - 1) w)
 unfolding spelled characters
-spelled-more s w zero t r h e q = absurd (omega arith)
-spelled-more s w (suc n) t r h e q = let k : suc n - 1 ≡ n = omega arith in q ∙ rw (e, k)
+spelled_more s w zero t r h e q = absurd (omega arith)
+spelled_more s w (suc n) t r h e q = let k : suc n - 1 ≡ n = omega arith in q ∙ rw (e, k)
 
-pub spelled-end : (s : Spelling) (w n : ℕ) (r : Spelling) → n ≡ 0 → r ≡ spelled s (characters n w) → s ≡ r
+pub spelled_end : (s : Spelling) (w n : ℕ) (r : Spelling) → n ≡ 0 → r ≡ spelled s (characters n w) → s ≡ r
 unfolding spelled characters
-spelled-end s w n r e q = sym (q ∙ rw e)
+spelled_end s w n r e q = sym (q ∙ rw e)
 
 -- ---- up to the first wrong character
-spelled-front : (cs : List ℕ) (j : ℕ) → j ≤ length cs → AllBelow (mayStand cs) j → spelled First (take j cs) ≡ reached cs j
+spelled-front : (cs : List ℕ) (j : ℕ) → j ≤ length cs → AllBelow (may_stand cs) j → spelled First (take j cs) ≡ reached cs j
 unfolding spelled reached
 spelled-front cs zero h a = refl
 spelled-front cs (suc j) h a =
     ap (spelled First) (take-suc cs j 0 h)
     ∙ spelled-append First (take j cs) (get_or cs j 0 ∷ [])
-    ∙ ap (λ (s : Spelling). nextSpelling s (get_or cs j 0)) (spelled-front cs j (omega arith) (λ i l. a i (omega arith)))
-    ∙ next-at cs j h
+    ∙ ap (λ (s : Spelling). next_spelling s (get_or cs j 0)) (spelled-front cs j (omega arith) (λ i l. a i (omega arith)))
+    ∙ next_at_lem cs j h
     ∙ rw (a j (omega arith))
 
-reached-right : (cs : List ℕ) (j : ℕ) → isWrong (reached cs j) ≡ false
+reached_right : (cs : List ℕ) (j : ℕ) → is_wrong (reached cs j) ≡ false
 unfolding reached
-reached-right cs zero = refl
-reached-right cs (suc j) = both (λ (s : Spelling). isWrong s ≡ false) (every noSpace (take (suc j) cs)) refl refl
+reached_right cs zero = refl
+reached_right cs (suc j) = both (λ (s : Spelling). is_wrong s ≡ false) (every no_space (take (suc j) cs)) refl refl
 
 module _ (cs : List ℕ) where
-  pub spelled-right : AllBelow (mayStand cs) (length cs) → isWrong (spelled First cs) ≡ false
-  spelled-right a =
-      ap (λ (ds : List ℕ). isWrong (spelled First ds)) (sym (take_all (length cs) cs (omega arith)))
-      ∙ ap isWrong (spelled-front cs (length cs) (omega arith) a)
-      ∙ reached-right cs (length cs)
+  pub spelled_right : AllBelow (may_stand cs) (length cs) → is_wrong (spelled First cs) ≡ false
+  spelled_right a =
+      ap (λ (ds : List ℕ). is_wrong (spelled First ds)) (sym (take_all (length cs) cs (omega arith)))
+      ∙ ap is_wrong (spelled-front cs (length cs) (omega arith) a)
+      ∙ reached_right cs (length cs)
 
-  pub spelled-wrong : (k : ℕ) → k < length cs → AllBelow (mayStand cs) k → mayStand cs k ≡ false → isWrong (spelled First cs) ≡ true
+  pub spelled_wrong : (k : ℕ) → k < length cs → AllBelow (may_stand cs) k → may_stand cs k ≡ false → is_wrong (spelled First cs) ≡ true
   unfolding spelled
-  spelled-wrong k h a q =
-      ap isWrong
+  spelled_wrong k h a q =
+      ap is_wrong
       (ap (spelled First) (sym (take-append-drop k cs))
       ∙ spelled-append First (take k cs) (drop k cs)
       ∙ ap (λ (ds : List ℕ). spelled (spelled First (take k cs)) ds) (drop-cons cs k 0 h)
-      ∙ ap (λ (s : Spelling). spelled (nextSpelling s (get_or cs k 0)) (drop (suc k) cs)) (spelled-front cs k (omega arith) a)
-      ∙ ap (λ (s : Spelling). spelled s (drop (suc k) cs)) (next-at cs k h ∙ rw q)
-      ∙ stays-wrong (drop (suc k) cs))
+      ∙ ap (λ (s : Spelling). spelled (next_spelling s (get_or cs k 0)) (drop (suc k) cs)) (spelled-front cs k (omega arith) a)
+      ∙ ap (λ (s : Spelling). spelled s (drop (suc k) cs)) (next_at_lem cs k h ∙ rw q)
+      ∙ stays_wrong (drop (suc k) cs))
 
-  before-wrong : AllBelow (mayStand cs) (firstWrong cs)
-  unfolding firstWrong
-  before-wrong = first-before (mayStand cs) (length cs)
+  before_wrong : AllBelow (may_stand cs) (first_wrong cs)
+  unfolding first_wrong
+  before_wrong = first-before (may_stand cs) (length cs)
 
-  wrong-most : firstWrong cs ≤ length cs
-  unfolding firstWrong
-  wrong-most = first-most (mayStand cs) (length cs)
+  wrong_most : first_wrong cs ≤ length cs
+  unfolding first_wrong
+  wrong_most = first_most (may_stand cs) (length cs)
 
-  wrong-fails : firstWrong cs < length cs → mayStand cs (firstWrong cs) ≡ false
-  unfolding firstWrong
-  wrong-fails h = first-fails (mayStand cs) (length cs) h
+  wrong_fails : first_wrong cs < length cs → may_stand cs (first_wrong cs) ≡ false
+  unfolding first_wrong
+  wrong_fails h = first_fails (may_stand cs) (length cs) h
 
   -- told by the spelling
-  some-wrong : isWrong (spelled First cs) ≡ true → firstWrong cs < length cs
-  some-wrong q = by-lt (firstWrong cs) (length cs) (λ h. h)
-      (λ g. let e : firstWrong cs ≡ length cs = omega (arith, wrong-most) in
-      absurd (false≢true (sym (spelled-right (rw e at before-wrong)) ∙ q)))
+  some_wrong : is_wrong (spelled First cs) ≡ true → first_wrong cs < length cs
+  some_wrong q = by-lt (first_wrong cs) (length cs) (λ h. h)
+      (λ g. let e : first_wrong cs ≡ length cs = omega (arith, wrong_most) in
+      absurd (false≢true (sym (spelled_right (rw e at before_wrong)) ∙ q)))
 
-  none-wrong : isWrong (spelled First cs) ≡ false → firstWrong cs ≡ length cs
-  none-wrong q = by-lt (firstWrong cs) (length cs)
-      (λ h. absurd (false≢true (sym q ∙ spelled-wrong (firstWrong cs) h before-wrong (wrong-fails h))))
-      (λ g. omega (arith, wrong-most))
+  none_wrong : is_wrong (spelled First cs) ≡ false → first_wrong cs ≡ length cs
+  none_wrong q = by-lt (first_wrong cs) (length cs)
+      (λ h. absurd (false≢true (sym q ∙ spelled_wrong (first_wrong cs) h before_wrong (wrong_fails h))))
+      (λ g. omega (arith, wrong_most))
 
 -- ---- two words of a name, one read after the other
 module _ (a b : List ℕ) (six : length a ≡ 6) (more : length b ≡ 6) where
   twelve : length (a ++ b) ≡ 12
   twelve = omega (arith, length-append a b)
 
-  alike : (j : ℕ) → j < 6 → mayStand (a ++ b) j ≡ mayStand a j
-  unfolding mayStand
+  alike : (j : ℕ) → j < 6 → may_stand (a ++ b) j ≡ may_stand a j
+  unfolding may_stand
   alike zero h = rw (get_or-append a b 0 0 (omega arith))
   alike (suc j) h = rw (get_or-append a b 0 (suc j) (omega arith), take-append-le (suc j) a b (omega arith))
 
   -- the first wrong character is one of the first word, one of the second, or none is
-  in-first : isWrong (spelled First a) ≡ true → firstWrong (a ++ b) < 6
-  unfolding firstWrong
-  in-first q =
-      let h = some-wrong a q in
-      let e = first-at (mayStand (a ++ b)) (length (a ++ b)) (firstWrong a) (omega (arith, twelve))
-      (λ i l. alike i (omega arith) ∙ before-wrong a i l)
-      (alike (firstWrong a) (omega arith) ∙ wrong-fails a h) in
+  in_first : is_wrong (spelled First a) ≡ true → first_wrong (a ++ b) < 6
+  unfolding first_wrong
+  in_first q =
+      let h = some_wrong a q in
+      let e = first-at (may_stand (a ++ b)) (length (a ++ b)) (first_wrong a) (omega (arith, twelve))
+      (λ i l. alike i (omega arith) ∙ before_wrong a i l)
+      (alike (first_wrong a) (omega arith) ∙ wrong_fails a h) in
       omega arith
 
-  not-in-first : isWrong (spelled First a) ≡ false → 6 ≤ firstWrong (a ++ b)
-  not-in-first q = by-lt (firstWrong (a ++ b)) 6
+  not_in_first : is_wrong (spelled First a) ≡ false → 6 ≤ first_wrong (a ++ b)
+  not_in_first q = by-lt (first_wrong (a ++ b)) 6
       (λ h.
-      let e = none-wrong a q in
-      let f = wrong-fails (a ++ b) (omega (arith, twelve)) in
-      let t = before-wrong a (firstWrong (a ++ b)) (omega arith) in
-      absurd (false≢true (sym f ∙ alike (firstWrong (a ++ b)) h ∙ t)))
+      let e = none_wrong a q in
+      let f = wrong_fails (a ++ b) (omega (arith, twelve)) in
+      let t = before_wrong a (first_wrong (a ++ b)) (omega arith) in
+      absurd (false≢true (sym f ∙ alike (first_wrong (a ++ b)) h ∙ t)))
       (λ g. g)
 
-  pub name-first : (s : Spelling) → s ≡ spelled First a → isWrong s ≡ true → Bad (fault 15) ≡ nameRead (a ++ b)
-  unfolding nameRead isName
-  name-first s p h =
-      let k = in-first (ap isWrong (sym p) ∙ h) in
-      let e : firstWrong (a ++ b) / 6 ≡ 0 = omega arith in
-      rw (ne_eqb (firstWrong (a ++ b)) (length (a ++ b)) (λ z. omega (arith, twelve)), e)
+  pub name_first : (s : Spelling) → s ≡ spelled First a → is_wrong s ≡ true → Bad (fault 15) ≡ name_read (a ++ b)
+  unfolding name_read is_name
+  name_first s p h =
+      let k = in_first (ap is_wrong (sym p) ∙ h) in
+      let e : first_wrong (a ++ b) / 6 ≡ 0 = omega arith in
+      rw (ne_eqb (first_wrong (a ++ b)) (length (a ++ b)) (λ z. omega (arith, twelve)), e)
 
   module _ (s t : Spelling) (p : s ≡ spelled First a) (q : t ≡ spelled s b) where
-    spelled-both : t ≡ spelled First (a ++ b)
-    spelled-both = q ∙ ap (λ (r : Spelling). spelled r b) p ∙ sym (spelled-append First a b)
+    spelled_both : t ≡ spelled First (a ++ b)
+    spelled_both = q ∙ ap (λ (r : Spelling). spelled r b) p ∙ sym (spelled-append First a b)
 
-    pub name-second : isWrong s ≡ false → isWrong t ≡ true → Bad (further 1 (fault 15)) ≡ nameRead (a ++ b)
-    unfolding nameRead isName
-    name-second h g =
-        let k = not-in-first (ap isWrong (sym p) ∙ h) in
-        let l = some-wrong (a ++ b) (ap isWrong (sym spelled-both) ∙ g) in
-        let e : firstWrong (a ++ b) / 6 ≡ 1 = omega (arith, twelve) in
-        rw (ne_eqb (firstWrong (a ++ b)) (length (a ++ b)) (λ z. omega arith), e)
+    pub name_second : is_wrong s ≡ false → is_wrong t ≡ true → Bad (further 1 (fault 15)) ≡ name_read (a ++ b)
+    unfolding name_read is_name
+    name_second h g =
+        let k = not_in_first (ap is_wrong (sym p) ∙ h) in
+        let l = some_wrong (a ++ b) (ap is_wrong (sym spelled_both) ∙ g) in
+        let e : first_wrong (a ++ b) / 6 ≡ 1 = omega (arith, twelve) in
+        rw (ne_eqb (first_wrong (a ++ b)) (length (a ++ b)) (λ z. omega arith), e)
 
-    pub name-right : isWrong t ≡ false → Good ≡ nameRead (a ++ b)
-    unfolding nameRead isName
-    name-right g = rw (eq-eqb _ _ (none-wrong (a ++ b) (ap isWrong (sym spelled-both) ∙ g)))
+    pub name_right : is_wrong t ≡ false → Good ≡ name_read (a ++ b)
+    unfolding name_read is_name
+    name_right g = rw (eq-eqb _ _ (none_wrong (a ++ b) (ap is_wrong (sym spelled_both) ∙ g)))
 
 pub six : (w : ℕ) → length (characters 6 w) ≡ 6
 unfolding characters
 six w = refl
 
 -- so where they are no name, the first wrong character is one of word 0 or of word 1
-pub name-place : (u v : ℕ) → isName (characters 6 u ++ characters 6 v) ≡ false
-    → firstWrong (characters 6 u ++ characters 6 v) / 6 ≤ 1
-unfolding isName
-name-place u v q =
+pub name_place : (u v : ℕ) → is_name (characters 6 u ++ characters 6 v) ≡ false
+    → first_wrong (characters 6 u ++ characters 6 v) / 6 ≤ 1
+unfolding is_name
+name_place u v q =
     let cs = characters 6 u ++ characters 6 v in
     let n = twelve (characters 6 u) (characters 6 v) (six u) (six v) in
-    let h = eqb-false (firstWrong cs) (length cs) q in
-    omega (arith, wrong-most cs)
+    let h = eqb-false (first_wrong cs) (length cs) q in
+    omega (arith, wrong_most cs)
 
 -- ---- what it is answered with
 module _ (cs : List ℕ) where
-  pub name-good : nameRead cs ≡ Good → isName cs ≡ true
-  unfolding nameRead
-  name-good =
-      when (λ (y : NameRead). y ≡ Good → isName cs ≡ true) (isName cs) (λ s q. s)
+  pub name_good : name_read cs ≡ Good → is_name cs ≡ true
+  unfolding name_read
+  name_good =
+      when (λ (y : NameRead). y ≡ Good → is_name cs ≡ true) (is_name cs) (λ s q. s)
       (λ s q. let z : ◌≡◌ {A = ℕ} 0 1 = cc in absurd (omega arith))
 
-  pub name-bad : (f : Fault) → nameRead cs ≡ Bad f → (isName cs ≡ false) × (f ≡ nameFault cs)
-  unfolding nameRead
-  name-bad f =
-      when (λ (y : NameRead). y ≡ Bad f → (isName cs ≡ false) × (f ≡ nameFault cs)) (isName cs)
+  pub name_bad : (f : Fault) → name_read cs ≡ Bad f → (is_name cs ≡ false) × (f ≡ name_fault cs)
+  unfolding name_read
+  name_bad f =
+      when (λ (y : NameRead). y ≡ Bad f → (is_name cs ≡ false) × (f ≡ name_fault cs)) (is_name cs)
       (λ s q. let z : ◌≡◌ {A = ℕ} 0 1 = cc in absurd (omega arith))
       (λ s q. (s, cc))

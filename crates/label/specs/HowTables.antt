@@ -1,34 +1,34 @@
 -- how the code goes, not a rule of 01
 -- The tables of a label taken one after another: each is carried, has entries, its type is none below a least one, and with its
--- entries the counts are within the limits. That this tells of each table what `tableStands` tells is `Stands-read` in
+-- entries the counts are within the limits. That this tells of each table what `table_stands` tells is `Stands-read` in
 -- proofs/TableTurns.antt.
 use Rattle.std.specs.Prelude.{ℕ, ◌+◌, ◌≤◌, ◌^◌, Bool, cond, ◌&&◌, List, leb}
 use Rattle.word.specs.Fault.{fault}
-use Rattle.label.specs.Tables.{TableWord, switchType, channelType, unitType, coreType, isCarried, hasEntries, entriesIf}
-use Rattle.label.specs.Tables.{countsOf, withinLimits, tablesStand, tableFault}
+use Rattle.label.specs.Tables.{TableWord, switch_type, channel_type, unit_type, core_type, is_carried, has_entries, entries_if}
+use Rattle.label.specs.Tables.{counts_of, within_limits, tables_stand, table_fault}
 use Rattle.label.specs.declared.Counts.{Counts}
 use Rattle.label.specs.declared.TablesRead.{TablesRead}
 use Rattle.label.specs.declared.TablesRead.TheVariants.{Good, Bad}
 
 -- a table that may come where the least type is given
-unfoldable pub mayFollow : ℕ → TableWord → Bool
-mayFollow least x = leb least x.type && (hasEntries x && isCarried x.type)
+unfoldable pub may_follow : ℕ → TableWord → Bool
+may_follow least x = leb least x.type && (has_entries x && is_carried x.type)
 
 -- counts, and the entries of one table more
-unfoldable pub countedWith : Counts → TableWord → Counts
-countedWith c x = record {
-  switches = c.switches + entriesIf switchType x;
-  channels = c.channels + entriesIf channelType x;
-  units = c.units + entriesIf unitType x;
-  tables = c.tables + entriesIf coreType x;
+unfoldable pub counted_with : Counts → TableWord → Counts
+counted_with c x = record {
+  switches = c.switches + entries_if switch_type x;
+  channels = c.channels + entries_if channel_type x;
+  units = c.units + entries_if unit_type x;
+  tables = c.tables + entries_if core_type x;
 }
 
-unfoldable pub tableRead : ℕ → Counts → TableWord → TablesRead
-tableRead least c x =
-    cond (mayFollow least x) (cond (withinLimits (countedWith c x)) (Good (countedWith c x)) (Bad (fault 15))) (Bad (fault 15))
+unfoldable pub table_read : ℕ → Counts → TableWord → TablesRead
+table_read least c x =
+    cond (may_follow least x) (cond (within_limits (counted_with c x)) (Good (counted_with c x)) (Bad (fault 15))) (Bad (fault 15))
 
-unfoldable pub tablesRead : List TableWord → TablesRead
-tablesRead ts = cond (tablesStand ts) (Good (countsOf ts)) (Bad (tableFault ts))
+unfoldable pub tables_read : List TableWord → TablesRead
+tables_read ts = cond (tables_stand ts) (Good (counts_of ts)) (Bad (table_fault ts))
 
 -- counts whose sums cannot wrap
 pub record FewEntries (c : Counts) : Type 0 where

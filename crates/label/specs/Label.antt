@@ -4,10 +4,10 @@
 use Rattle.std.specs.Prelude.{ℕ, ◌+◌, ◌≤◌, Bool, ◌&&◌, List, ◌++◌, get_or, eqb, leb}
 use Rattle.word.specs.Word.{bits, is_set}
 use Rattle.word.specs.Fault.{fault, further, unless}
-use Rattle.word.specs.Limits.{ioMost, tablesMost}
+use Rattle.word.specs.Limits.{io_most, tables_most}
 use Rattle.block.specs.Fieldata.{characters}
-use Rattle.label.specs.Name.{isName, nameFault}
-use Rattle.label.specs.Tables.{tableWords, tablesStand, tableFault, countsOf, channelsMost}
+use Rattle.label.specs.Name.{is_name, name_fault}
+use Rattle.label.specs.Tables.{table_words, tables_stand, table_fault, counts_of, channels_most}
 use Rattle.label.specs.declared.Counts.{Counts}
 use Rattle.label.specs.declared.Label.{Label}
 use Rattle.label.specs.declared.LabelRead.{LabelRead}
@@ -19,8 +19,8 @@ name_of block = characters 6 (get_or block 0 0) ++ characters 6 (get_or block 1 
 
 -- "Word 253: bits 33-18 segments, bits 15-0 table sections, rest zero." House: "the segment count is 1"; "table sections are no
 -- more than core entries"
-unfoldable pub programWordFits : ℕ → ℕ → Bool
-programWordFits w tables =
+unfoldable pub program_word_fits : ℕ → ℕ → Bool
+program_word_fits w tables =
     eqb (bits 35 34 w) 0
     && (eqb (bits 17 16 w) 0
     && (eqb (bits 33 18 w) 1
@@ -34,7 +34,7 @@ total_of c = c.switches + c.channels + c.units + c.tables
 unfoldable pub finished : List ℕ → Counts → LabelRead
 finished block c =
     unless (eqb (total_of c) (bits 10 0 (get_or block 3 0))) (Bad (further 3 (fault 15)))
-    (unless (programWordFits (get_or block 253 0) c.tables) (Bad (further 253 (fault 15)))
+    (unless (program_word_fits (get_or block 253 0) c.tables) (Bad (further 253 (fault 15)))
     (unless (eqb (get_or block 255 0) (get_or block 0 0)) (Bad (further 255 (fault 15)))
     (Good (record {
       switches = c.switches;
@@ -48,21 +48,21 @@ finished block c =
 -- "Word 2 bits 35-33 are the type flag", which must be 001
 unfoldable pub label_of : List ℕ → LabelRead
 label_of block =
-    unless (isName (name_of block)) (Bad (nameFault (name_of block)))
+    unless (is_name (name_of block)) (Bad (name_fault (name_of block)))
     (unless (eqb (bits 35 33 (get_or block 2 0)) 1) (Bad (further 2 (fault 14)))
-    (unless (tablesStand (tableWords block)) (Bad (further 4 (tableFault (tableWords block))))
-    (finished block (countsOf (tableWords block)))))
+    (unless (tables_stand (table_words block)) (Bad (further 4 (table_fault (table_words block))))
+    (finished block (counts_of (table_words block)))))
 
 -- how many entries are of types 0 and 2, and how many of types 0, 2 and 3: the I/O references
-abbrev pub channelCount : Label → ℕ
-channelCount l = l.switches + l.channels
+abbrev pub channel_count : Label → ℕ
+channel_count l = l.switches + l.channels
 
-abbrev pub ioCount : Label → ℕ
-ioCount l = l.switches + l.channels + l.units
+abbrev pub io_count : Label → ℕ
+io_count l = l.switches + l.channels + l.units
 
 -- the house's limits, as facts of a label
 pub record Carried (l : Label) : Type 0 where
-  pub channels : channelCount l ≤ channelsMost
-  pub io : ioCount l ≤ ioMost
-  pub core : l.tables ≤ tablesMost
+  pub channels : channel_count l ≤ channels_most
+  pub io : io_count l ≤ io_most
+  pub core : l.tables ≤ tables_most
   pub sections : l.sections ≤ l.tables

@@ -3,10 +3,10 @@ pub mod name;
 
 ghost use Rattle.std.specs.Prelude.{◌≡◌, true, length};
 ghost use Rattle.word.specs.Fault.{fault, further};
-ghost use Rattle.word.specs.Limits.{wordsInBlock};
-ghost use Rattle.label.specs.Tables.{tableWord, tableWords, isCarried, entriesIf, withinLimits};
-ghost use Rattle.label.specs.HowTables.{mayFollow, countedWith, tableRead, tablesRead, FewEntries};
-ghost use Rattle.label.specs.Label.{label_of, finished, programWordFits};
+ghost use Rattle.word.specs.Limits.{words_in_block};
+ghost use Rattle.label.specs.Tables.{table_word, table_words, is_carried, entries_if, within_limits};
+ghost use Rattle.label.specs.HowTables.{may_follow, counted_with, table_read, tables_read, FewEntries};
+ghost use Rattle.label.specs.Label.{label_of, finished, program_word_fits};
 
 use word::Fault;
 use word::faults::{FAULT_14, FAULT_15};
@@ -88,7 +88,7 @@ pub enum LabelRead {
 
 // The label of a block of 256 words.
 pub fn read_label(block: &[u64]) -> LabelRead
-    requires { length block.now ≡ wordsInBlock }
+    requires { length block.now ≡ words_in_block }
     ensures { result ≡ label_of block.now }
 {
     match name::read_name(block[0], block[1]) {
@@ -107,8 +107,8 @@ pub fn read_label(block: &[u64]) -> LabelRead
 
 // The table words from word 4 on, as many as word 3 counts: the entries of each type, or 15 at the first word that breaks a rule.
 fn read_tables(block: &[u64]) -> TablesRead
-    requires { length block.now ≡ wordsInBlock }
-    ensures { result ≡ tablesRead (tableWords block.now) }
+    requires { length block.now ≡ words_in_block }
+    ensures { result ≡ tables_read (table_words block.now) }
 {
     let n = word::bits(block[COUNTS_WORD], 28, 18) as usize;
     let mut c = Counts {
@@ -135,8 +135,8 @@ fn read_tables(block: &[u64]) -> TablesRead
 
 // One table word, whose type must be none below the least: the counts with its entries, or 15.
 fn read_table(least: u64, c: Counts, w: u64) -> TablesRead
-    requires { withinLimits c ≡ true }
-    ensures { result ≡ tableRead least c (tableWord w) }
+    requires { within_limits c ≡ true }
+    ensures { result ≡ table_read least c (table_word w) }
 {
     if !may_follow(least, w) {
         return TablesRead::Bad(FAULT_15);
@@ -150,7 +150,7 @@ fn read_table(least: u64, c: Counts, w: u64) -> TablesRead
 
 // One table word: its type must be carried and none below the least, its entries some.
 fn may_follow(least: u64, w: u64) -> bool
-    ensures { result ≡ mayFollow least (tableWord w) }
+    ensures { result ≡ may_follow least (table_word w) }
 {
     let t = word::bits(w, 35, 32);
     if t < least {
@@ -163,7 +163,7 @@ fn may_follow(least: u64, w: u64) -> bool
 }
 
 pub fn is_carried(t: u64) -> bool
-    ensures { result ≡ isCarried t }
+    ensures { result ≡ is_carried t }
 {
     if t == JUMP_SWITCH {
         return true;
@@ -180,7 +180,7 @@ pub fn is_carried(t: u64) -> bool
 // The counts, and the entries of one table more.
 fn count_with(c: Counts, w: u64) -> Counts
     requires { FewEntries c }
-    ensures { result ≡ countedWith c (tableWord w) }
+    ensures { result ≡ counted_with c (table_word w) }
 {
     Counts {
         switches: c.switches + entries_if(w, JUMP_SWITCH),
@@ -192,7 +192,7 @@ fn count_with(c: Counts, w: u64) -> Counts
 
 // The entries of a table word, where it is of type t.
 fn entries_if(w: u64, t: u64) -> u64
-    ensures { result ≡ entriesIf t (tableWord w) }
+    ensures { result ≡ entries_if t (table_word w) }
 {
     if word::bits(w, 35, 32) == t {
         return word::bits(w, 8, 0);
@@ -202,7 +202,7 @@ fn entries_if(w: u64, t: u64) -> u64
 
 pub fn within_limits(c: Counts) -> bool
     requires { FewEntries c }
-    ensures { result ≡ withinLimits c }
+    ensures { result ≡ within_limits c }
 {
     if CHANNELS_MOST < c.switches + c.channels {
         return false;
@@ -215,7 +215,7 @@ pub fn within_limits(c: Counts) -> bool
 
 // What is read after the table words: the entry total, word 253 and word 255.
 fn finish(block: &[u64], c: Counts) -> LabelRead
-    requires { (length block.now ≡ wordsInBlock) × (FewEntries c) }
+    requires { (length block.now ≡ words_in_block) × (FewEntries c) }
     ensures { result ≡ finished block.now c }
 {
     let w = block[COUNTS_WORD];
@@ -248,7 +248,7 @@ fn bad_at(k: usize) -> LabelRead
 
 // Word 253: its other bits zero, one segment, no more table sections than core tables.
 fn program_word_fits(w: u64, tables: u64) -> bool
-    ensures { result ≡ programWordFits w tables }
+    ensures { result ≡ program_word_fits w tables }
 {
     if word::bits(w, 35, 34) != 0 {
         return false;

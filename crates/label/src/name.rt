@@ -1,8 +1,8 @@
 // A program's name, read a character at a time.
 ghost use Rattle.std.specs.Prelude.{◌≡◌, ◌++◌};
 ghost use Rattle.block.specs.Fieldata.{characters};
-ghost use Rattle.label.specs.Name.{letterOrDigit, nameRead};
-ghost use Rattle.label.specs.HowSpelling.{nextSpelling, spelled, isWrong};
+ghost use Rattle.label.specs.Name.{letter_or_digit, name_read};
+ghost use Rattle.label.specs.HowSpelling.{next_spelling, spelled, is_wrong};
 
 use crate::{NameRead, Spelling};
 use word::faults::FAULT_15;
@@ -25,7 +25,7 @@ const SPACE: u64 = 0o05;
 
 // The name that two words spell, or 15 at the one in which the first wrong character stands.
 pub fn read_name(first: u64, second: u64) -> NameRead
-    ensures { result ≡ nameRead (characters 6 first ++ characters 6 second) }
+    ensures { result ≡ name_read (characters 6 first ++ characters 6 second) }
 {
     let s = spell_word(Spelling::First, first);
     if is_wrong(s) {
@@ -38,7 +38,7 @@ pub fn read_name(first: u64, second: u64) -> NameRead
 }
 
 fn is_wrong(s: Spelling) -> bool
-    ensures { result ≡ isWrong s }
+    ensures { result ≡ is_wrong s }
 {
     match s {
         Spelling::First => false,
@@ -63,7 +63,7 @@ fn spell_word(start: Spelling, w: u64) -> Spelling
 
 // One character.
 fn spell(s: Spelling, c: u64) -> Spelling
-    ensures { result ≡ nextSpelling s c }
+    ensures { result ≡ next_spelling s c }
 {
     match s {
         Spelling::First => spell_first(c),
@@ -74,7 +74,7 @@ fn spell(s: Spelling, c: u64) -> Spelling
 }
 
 fn spell_first(c: u64) -> Spelling
-    ensures { result ≡ nextSpelling Spelling.First c }
+    ensures { result ≡ next_spelling Spelling.First c }
 {
     if letter_or_digit(c) {
         return Spelling::Inside;
@@ -83,7 +83,7 @@ fn spell_first(c: u64) -> Spelling
 }
 
 fn spell_inside(c: u64) -> Spelling
-    ensures { result ≡ nextSpelling Spelling.Inside c }
+    ensures { result ≡ next_spelling Spelling.Inside c }
 {
     if c == SPACE {
         return Spelling::Spaces;
@@ -98,7 +98,7 @@ fn spell_inside(c: u64) -> Spelling
 }
 
 fn spell_space(c: u64) -> Spelling
-    ensures { result ≡ nextSpelling Spelling.Spaces c }
+    ensures { result ≡ next_spelling Spelling.Spaces c }
 {
     if c == SPACE {
         return Spelling::Spaces;
@@ -107,7 +107,7 @@ fn spell_space(c: u64) -> Spelling
 }
 
 fn letter_or_digit(c: u64) -> bool
-    ensures { result ≡ letterOrDigit c }
+    ensures { result ≡ letter_or_digit c }
 {
     if c < LETTER_A {
         return false;

@@ -1,8 +1,8 @@
 // Where the numbers of a desk stand, and reading them.
 ghost use Rattle.std.specs.Prelude.{◌≡◌, ◌+◌, ◌<◌, length};
-ghost use Rattle.word.specs.Limits.{roomCount, placeCount};
-ghost use Rattle.layout.specs.Layout.{deskWords, placeWords, mapNumbers, place_in, holders, holds};
-ghost use Rattle.layout.specs.Layout.{own_of, stageIn, listsIn};
+ghost use Rattle.word.specs.Limits.{room_count, place_count};
+ghost use Rattle.layout.specs.Layout.{desk_words, place_words, map_numbers, place_in, holders, holds};
+ghost use Rattle.layout.specs.Layout.{own_of, stage_in, lists_in};
 
 use lists::Given;
 use lists::load::LISTS;
@@ -48,7 +48,7 @@ pub struct Place {
 
 // The numbers of place p.
 pub fn place_at(desk: &[u64], p: usize) -> &[u64]
-    requires { (length desk.now ≡ deskWords) × (p < placeCount) }
+    requires { (length desk.now ≡ desk_words) × (p < place_count) }
     ensures { result.now ≡ place_in desk.now p }
 {
     let b = PLACES_AT + p * PLACE_WORDS;
@@ -57,7 +57,7 @@ pub fn place_at(desk: &[u64], p: usize) -> &[u64]
 
 // A place's own numbers.
 pub fn own_of(place: &[u64]) -> Place
-    requires { length place.now ≡ placeWords }
+    requires { length place.now ≡ place_words }
     ensures { result ≡ own_of place.now }
 {
     Place {
@@ -76,23 +76,23 @@ pub fn own_of(place: &[u64]) -> Place
 
 // The stage of the load at a place.
 pub fn stage_of(place: &[u64]) -> Stage
-    requires { length place.now ≡ placeWords }
-    ensures { result ≡ stageIn place.now }
+    requires { length place.now ≡ place_words }
+    ensures { result ≡ stage_in place.now }
 {
     stage::read_stage(&place[STAGE_AT..LISTS_AT])
 }
 
 // The lists of the load at a place.
 pub fn lists_of(place: &[u64]) -> &[u64]
-    requires { length place.now ≡ placeWords }
-    ensures { result.now ≡ listsIn place.now }
+    requires { length place.now ≡ place_words }
+    ensures { result.now ≡ lists_in place.now }
 {
     &place[LISTS_AT..PLACE_WORDS]
 }
 
 // Who holds each place.
 pub fn read_holders(desk: &[u64]) -> [u64; PLACES]
-    requires { length desk.now ≡ deskWords }
+    requires { length desk.now ≡ desk_words }
     ensures { result ≡ holders desk.now }
 {
     let mut h = [0u64; PLACES];
@@ -106,7 +106,7 @@ pub fn read_holders(desk: &[u64]) -> [u64; PLACES]
 
 // Whether the room holds the place; a place over 11 nobody holds.
 pub fn holds_place(desk: &[u64], room: u64, place: u64) -> bool
-    requires { (length desk.now ≡ deskWords) × (room < roomCount) }
+    requires { (length desk.now ≡ desk_words) × (room < room_count) }
     ensures { result ≡ holds desk.now room place }
 {
     if PLACES as u64 <= place {
@@ -117,8 +117,8 @@ pub fn holds_place(desk: &[u64], room: u64, place: u64) -> bool
 
 // The map's numbers.
 pub fn map_numbers(desk: &[u64]) -> &[u64]
-    requires { length desk.now ≡ deskWords }
-    ensures { result.now ≡ mapNumbers desk.now }
+    requires { length desk.now ≡ desk_words }
+    ensures { result.now ≡ map_numbers desk.now }
 {
     &desk[MAP_AT..PLACES_AT]
 }

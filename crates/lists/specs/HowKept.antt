@@ -12,49 +12,49 @@ unfoldable pub number_in : List ℕ → ℕ → ℕ
 number_in ws k = part (16 * (k % 4)) 16 (slice_index ws (k / 4))
 
 -- the first n of them, in order
-unfoldable pub numbersIn : List ℕ → ℕ → List ℕ
-numbersIn ws n = tab (number_in ws) n
+unfoldable pub numbers_in : List ℕ → ℕ → List ℕ
+numbers_in ws n = tab (number_in ws) n
 
 -- ---- "and for each core table its address and length": a word for each table that is not empty, in rising order, with the
 -- table's address in bits 63-40, its number in bits 39-20 and its length in bits 19-0
-abbrev pub addressIn : ℕ → ℕ
-addressIn w = part 40 24 w
+abbrev pub address_in : ℕ → ℕ
+address_in w = part 40 24 w
 
-abbrev pub tableNumberIn : ℕ → ℕ
-tableNumberIn w = part 20 20 w
+abbrev pub table_number_in : ℕ → ℕ
+table_number_in w = part 20 20 w
 
-abbrev pub lengthIn : ℕ → ℕ
-lengthIn w = part 0 20 w
+abbrev pub length_in : ℕ → ℕ
+length_in w = part 0 20 w
 
 -- the table that such a word tells
 unfoldable pub table_of : ℕ → Table
-table_of w = record { at = record { 0 = addressIn w }; len = lengthIn w }
+table_of w = record { at = record { 0 = address_in w }; len = length_in w }
 
 -- and a word for every table, with its rank among those in bits 19-0, and where the table is empty its address in bits 63-20
-abbrev pub rankIn : ℕ → ℕ
-rankIn r = part 0 20 r
+abbrev pub rank_in : ℕ → ℕ
+rank_in r = part 0 20 r
 
-abbrev pub awayIn : ℕ → ℕ
-awayIn r = part 20 44 r
+abbrev pub away_in : ℕ → ℕ
+away_in r = part 20 44 r
 
 -- an empty table at the address a, or at the area's address where a is not in the area
-unfoldable pub emptyIn : Area → ℕ → Table
-emptyIn area a = record { at = cond (within a 0 area.at.0 area.size) (record { 0 = a }) area.at; len = 0 }
+unfoldable pub empty_in : Area → ℕ → Table
+empty_in area a = record { at = cond (within a 0 area.at.0 area.size) (record { 0 = a }) area.at; len = 0 }
 
 -- table k by the word r that is kept for it: what the word at its rank tells, if there is one and it bears the number k; else
 -- an empty table. So ranks need no test: a wrong one reads as an empty table.
-unfoldable pub tableBy : Area → List ℕ → ℕ → ℕ → Table
-tableBy area ws r k =
-    cond (nat_lt (rankIn r) (length ws))
-    (cond (tableNumberIn (slice_index ws (rankIn r)) == k)
-    (table_of (slice_index ws (rankIn r)))
-    (emptyIn area (awayIn r)))
-    (emptyIn area (awayIn r))
+unfoldable pub table_by : Area → List ℕ → ℕ → ℕ → Table
+table_by area ws r k =
+    cond (nat_lt (rank_in r) (length ws))
+    (cond (table_number_in (slice_index ws (rank_in r)) == k)
+    (table_of (slice_index ws (rank_in r)))
+    (empty_in area (away_in r)))
+    (empty_in area (away_in r))
 
 -- table k of the lists
 unfoldable pub table_at : Area → List ℕ → List ℕ → ℕ → Table
-table_at area ws rs k = tableBy area ws (slice_index rs k) k
+table_at area ws rs k = table_by area ws (slice_index rs k) k
 
 -- all tables in order, one for each word of the ranks
-unfoldable pub tablesIn : Area → List ℕ → List ℕ → List Table
-tablesIn area ws rs = tab (table_at area ws rs) (length rs)
+unfoldable pub tables_in : Area → List ℕ → List ℕ → List Table
+tables_in area ws rs = tab (table_at area ws rs) (length rs)

@@ -1,7 +1,7 @@
 // The lists of a load, in the one slice that the desk keeps of them, read: what stands where says specs/Load.antt.
 ghost use Rattle.std.specs.Prelude.{◌≡◌, slice_index};
 ghost use Rattle.lists.specs.HowChain.{chain};
-ghost use Rattle.lists.specs.Load.{words_in, coreTable, ioNumbers, keptLists, Readable, Keepable};
+ghost use Rattle.lists.specs.Load.{words_in, core_table, io_numbers, kept_lists, Readable, Keepable};
 
 use crate::{Given, Table};
 use word::limits::{IO_MOST, TABLES_MOST};
@@ -20,7 +20,7 @@ pub const LISTS: usize = RANKS + TABLES_MOST;
 // (01, "Reference lists of 128 numbers .. built with repeat arrays"), with zeros past the last, so that every four is a full one.
 pub fn keep_lists(area: Area, ios: &[u64], tables: &[u64], words: &[u64], lists: &mut [u64])
     requires { Keepable area ios.now tables.now words.now lists.old }
-    ensures { lists.new ≡ keptLists ios.now tables.now lists.old }
+    ensures { lists.new ≡ kept_lists ios.now tables.now lists.old }
 {
     let mut numbers = [0u64; IO_MOST];
     word::slices::copy_in(&mut numbers, 0, ios);
@@ -32,7 +32,7 @@ pub fn keep_lists(area: Area, ios: &[u64], tables: &[u64], words: &[u64], lists:
 // Core table k of a load; one that it has not is empty.
 pub fn core_table(g: Given, lists: &[u64], k: Reference) -> Table
     requires { Readable g lists.now }
-    ensures { result ≡ coreTable g lists.now k.0 }
+    ensures { result ≡ core_table g lists.now k.0 }
 {
     let n = g.kept as usize;
     let m = g.tables as usize;
@@ -43,7 +43,7 @@ pub fn core_table(g: Given, lists: &[u64], k: Reference) -> Table
 // The number assigned to I/O reference k of a load; 0 past the last, as in the definitions.
 pub fn io_assigned(g: Given, lists: &[u64], k: Reference) -> u64
     requires { Readable g lists.now }
-    ensures { result ≡ slice_index (ioNumbers g lists.now) k.0 }
+    ensures { result ≡ slice_index (io_numbers g lists.now) k.0 }
 {
     if k.0 < g.io {
         return crate::io_number(&lists[..IO_WORDS], k);

@@ -1,8 +1,8 @@
 // The tables of a lent list, and the words of those that are not empty.
 ghost use Rattle.std.specs.Prelude.{◌≡◌, ◌/◌, ◌<◌, true, length, slice_index_or};
 ghost use Rattle.word.specs.Lists.{every};
-ghost use Rattle.lists.specs.HowKeep.{hasRoom, hasWords};
-ghost use Rattle.lists.specs.Obey.{tables_of, noTable};
+ghost use Rattle.lists.specs.HowKeep.{has_room, has_words};
+ghost use Rattle.lists.specs.Obey.{tables_of, no_table};
 ghost use Rattle.lists.specs.HowTaking.{Fillable, FillsWords};
 
 use crate::{ADDRESS, NUMBER, Table, WRAPPED};
@@ -11,7 +11,7 @@ use word::Absolute;
 // Table k of a lent list.
 pub fn lent_table(tables: &[u64], k: usize) -> Table
     requires { k < length tables.now / 2 }
-    ensures { result ≡ slice_index_or (tables_of tables.now) k noTable }
+    ensures { result ≡ slice_index_or (tables_of tables.now) k no_table }
 {
     Table {
         at: Absolute(tables[2 * k]),
@@ -33,8 +33,8 @@ pub fn fill_words(tables: &[u64], words: &mut [u64]) -> usize
 // Whether no table is empty. One less than a length wraps, and so has its top bit set, only where the length is 0; one word gathers
 // these bits, so that the loop has no branch.
 fn none_empty(tables: &[u64]) -> bool
-    requires { every hasRoom (tables_of tables.now) ≡ true }
-    ensures { result ≡ every hasWords (tables_of tables.now) }
+    requires { every has_room (tables_of tables.now) ≡ true }
+    ensures { result ≡ every has_words (tables_of tables.now) }
 {
     let mut any: u64 = 0;
     let mut k: usize = 0;
@@ -48,7 +48,7 @@ fn none_empty(tables: &[u64]) -> bool
 
 // The words of the tables where none is empty: each stands at its table's number.
 fn fill_all(tables: &[u64], words: &mut [u64]) -> usize
-    requires { Fillable (tables_of tables.now) words.old × (every hasWords (tables_of tables.now) ≡ true) }
+    requires { Fillable (tables_of tables.now) words.old × (every has_words (tables_of tables.now) ≡ true) }
     ensures { FillsWords (tables_of tables.now) words.old result words.new }
 {
     let mut k: usize = 0;

@@ -2,11 +2,11 @@
 -- A map whose stretches stand in the order of their rooms, as the code looks at it first.
 use Rattle.std.specs.Prelude.{ℕ, ◌+◌, Bool, true, cond, ◌&&◌, List, [], ◌∷◌, ◌==◌, nat_le}
 use Rattle.map.specs.declared.Stretch.{Stretch}
-use Rattle.map.specs.Map.{inCore}
+use Rattle.map.specs.Map.{in_core}
 
 -- each stretch lies in the core, and starts at or behind the end of those before it; an empty one may start before that
-unfoldable pub inOrder : ℕ → ℕ → List Stretch → Bool
-inOrder core end [] = true
-inOrder core end (s ∷ m) =
-    inCore core s
-    && cond (nat_le end s.start.0) (inOrder core (s.start.0 + s.len) m) (s.len == 0 && inOrder core end m)
+unfoldable pub in_order : ℕ → ℕ → List Stretch → Bool
+in_order core end [] = true
+in_order core end (s ∷ m) =
+    in_core core s
+    && cond (nat_le end s.start.0) (in_order core (s.start.0 + s.len) m) (s.len == 0 && in_order core end m)

@@ -1,10 +1,10 @@
 // The map: which stretch of core is each room's. It is read from numbers, passed whole, and tested against its rule (01, "The desk"
 // and refusal 3).
 ghost use Rattle.std.specs.Prelude.{◌≡◌, ◌+◌, ◌<◌, length, drop, slice_index_or};
-ghost use Rattle.word.specs.Lists.{every, everyTwo};
-ghost use Rattle.word.specs.Limits.{roomCount, mapWords};
-ghost use Rattle.map.specs.Map.{none, stretchOf, mapOf, inCore, stretchesApart, mapObeys};
-ghost use Rattle.map.specs.HowOrder.{inOrder};
+ghost use Rattle.word.specs.Lists.{every, every_two};
+ghost use Rattle.word.specs.Limits.{room_count, map_words};
+ghost use Rattle.map.specs.Map.{none, stretch_of, map_of, in_core, stretches_apart, map_obeys};
+ghost use Rattle.map.specs.HowOrder.{in_order};
 
 use word::Absolute;
 use word::limits::{MAP_WORDS, ROOMS};
@@ -18,7 +18,7 @@ pub struct Stretch {
 
 // The map that a list start, length, start, length and so on tells.
 pub fn read_map(numbers: &[u64]) -> [Stretch; ROOMS]
-    ensures { result ≡ mapOf numbers.now }
+    ensures { result ≡ map_of numbers.now }
 {
     let none = Stretch {
         start: Absolute(0),
@@ -37,7 +37,7 @@ pub fn read_map(numbers: &[u64]) -> [Stretch; ROOMS]
 // Whether the map that a list tells obeys its rule. Stretches that stand in the order of their rooms obey without more; others are
 // compared with each other.
 pub fn map_fits(core: u64, numbers: &[u64]) -> bool
-    ensures { result ≡ mapObeys core (mapOf numbers.now) }
+    ensures { result ≡ map_obeys core (map_of numbers.now) }
 {
     if numbers.len() != MAP_WORDS {
         return pairs_fit(core, numbers);
@@ -50,7 +50,7 @@ pub fn map_fits(core: u64, numbers: &[u64]) -> bool
 
 // Whether each stretch lies inside the core and no two share a word, whatever the numbers are.
 pub fn map_obeys(core: u64, m: [Stretch; ROOMS]) -> bool
-    ensures { result ≡ mapObeys core m }
+    ensures { result ≡ map_obeys core m }
 {
     if all_in_core(core, m) {
         return all_apart(m);
@@ -60,7 +60,7 @@ pub fn map_obeys(core: u64, m: [Stretch; ROOMS]) -> bool
 
 // The same of any list, two stretches at a time.
 fn pairs_fit(core: u64, numbers: &[u64]) -> bool
-    ensures { result ≡ mapObeys core (mapOf numbers.now) }
+    ensures { result ≡ map_obeys core (map_of numbers.now) }
 {
     map_obeys(core, read_map(numbers))
 }
@@ -69,8 +69,8 @@ fn pairs_fit(core: u64, numbers: &[u64]) -> bool
 // What is left of the core behind them tells it: a stretch that starts past the core has a difference that wraps, and so is over
 // it. The loop goes to the list's length, which the caller knows: so it is short here, and compiled into the caller.
 fn in_order(core: u64, numbers: &[u64]) -> bool
-    requires { length numbers.now ≡ mapWords }
-    ensures { result ≡ inOrder core 0 (mapOf numbers.now) }
+    requires { length numbers.now ≡ map_words }
+    ensures { result ≡ in_order core 0 (map_of numbers.now) }
 {
     let mut left = core;
     let mut r: usize = 0;
@@ -97,8 +97,8 @@ fn in_order(core: u64, numbers: &[u64]) -> bool
 
 // Room r's pair of a list that has it.
 pub fn stretch_at(numbers: &[u64], r: usize) -> Stretch
-    requires { (r < roomCount) × (length numbers.now ≡ mapWords) }
-    ensures { result ≡ stretchOf numbers.now r }
+    requires { (r < room_count) × (length numbers.now ≡ map_words) }
+    ensures { result ≡ stretch_of numbers.now r }
 {
     Stretch {
         start: Absolute(numbers[2 * r]),
@@ -108,8 +108,8 @@ pub fn stretch_at(numbers: &[u64], r: usize) -> Stretch
 
 // Room r's pair of the list.
 fn stretch_of(numbers: &[u64], r: usize) -> Stretch
-    requires { r < roomCount }
-    ensures { result ≡ stretchOf numbers.now r }
+    requires { r < room_count }
+    ensures { result ≡ stretch_of numbers.now r }
 {
     let start = word::word_at(numbers, 2 * r);
     let len = word::word_at(numbers, 2 * r + 1);
@@ -120,7 +120,7 @@ fn stretch_of(numbers: &[u64], r: usize) -> Stretch
 }
 
 fn all_in_core(core: u64, m: [Stretch; ROOMS]) -> bool
-    ensures { result ≡ every (inCore core) m }
+    ensures { result ≡ every (in_core core) m }
 {
     let mut r: usize = 0;
     while r < ROOMS {
@@ -135,7 +135,7 @@ fn all_in_core(core: u64, m: [Stretch; ROOMS]) -> bool
 
 // Whether each two share no word: each with those after it.
 fn all_apart(m: [Stretch; ROOMS]) -> bool
-    ensures { result ≡ everyTwo stretchesApart m }
+    ensures { result ≡ every_two stretches_apart m }
 {
     let mut r: usize = 0;
     while r < ROOMS {
@@ -149,8 +149,8 @@ fn all_apart(m: [Stretch; ROOMS]) -> bool
 
 // Whether room r's stretch shares no word with those of the rooms after it.
 fn apart_from_later(m: [Stretch; ROOMS], r: usize) -> bool
-    requires { r < roomCount }
-    ensures { result ≡ every (stretchesApart (slice_index_or m r none)) (drop (r + 1) m) }
+    requires { r < room_count }
+    ensures { result ≡ every (stretches_apart (slice_index_or m r none)) (drop (r + 1) m) }
 {
     let s = m[r];
     let mut q = r + 1;

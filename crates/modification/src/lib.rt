@@ -2,12 +2,12 @@
 // record, with how many words and blocks its entries take and where each minimum length stands.
 ghost use Rattle.std.specs.Prelude.{◌≡◌, ◌*◌, ◌≤◌, ◌^◌, length};
 ghost use Rattle.word.specs.Lists.{every};
-ghost use Rattle.lists.specs.HowKept.{numbersIn};
-ghost use Rattle.lists.specs.Load.{ioNumbers, Readable};
+ghost use Rattle.lists.specs.HowKept.{numbers_in};
+ghost use Rattle.lists.specs.Load.{io_numbers, Readable};
 ghost use Rattle.label.specs.Label.{Carried};
-ghost use Rattle.modification.specs.Entries.{entryWords, entryBlocks, ioEntry, coreEntry, spot_of, lengthSpot};
-ghost use Rattle.modification.specs.Entries.{minimum, lengthFits};
-ghost use Rattle.modification.specs.Assignments.{isChannel, assignmentsFit};
+ghost use Rattle.modification.specs.Entries.{entry_words, entry_blocks, io_entry, core_entry, spot_of, length_spot};
+ghost use Rattle.modification.specs.Entries.{minimum, length_fits};
+ghost use Rattle.modification.specs.Assignments.{is_channel, assignments_fit};
 
 use label::Label;
 use lists::Given;
@@ -30,7 +30,7 @@ pub struct Spot {
 // Whether the lists that a load was given fit the label.
 pub fn assignments_fit(l: Label, g: Given, lists: &[u64]) -> bool
     requires { (Carried l) × (Readable g lists.now) }
-    ensures { result ≡ assignmentsFit l (ioNumbers g lists.now) g.tables }
+    ensures { result ≡ assignments_fit l (io_numbers g lists.now) g.tables }
 {
     if g.io != l.switches + l.channels + l.units {
         return false;
@@ -44,7 +44,7 @@ pub fn assignments_fit(l: Label, g: Given, lists: &[u64]) -> bool
 // Whether each of the first m I/O numbers is one for a jump switch or a channel.
 fn channels_fit(ios: &[u64], m: u64) -> bool
     requires { m ≤ 4 * length ios.now }
-    ensures { result ≡ every isChannel (numbersIn ios.now m) }
+    ensures { result ≡ every is_channel (numbers_in ios.now m) }
 {
     let mut k: u64 = 0;
     while k < m {
@@ -59,7 +59,7 @@ fn channels_fit(ios: &[u64], m: u64) -> bool
 // How many words the entries of io I/O references and as many core tables take.
 pub fn entry_words(io: u64, tables: u64) -> u64
     requires { (io ≤ 2 ^ 16) × (tables ≤ 2 ^ 16) }
-    ensures { result ≡ entryWords io tables }
+    ensures { result ≡ entry_words io tables }
 {
     2 * io + 3 * tables
 }
@@ -67,7 +67,7 @@ pub fn entry_words(io: u64, tables: u64) -> u64
 // How many modification blocks hold them.
 pub fn entry_blocks(io: u64, tables: u64) -> u64
     requires { (io ≤ 2 ^ 16) × (tables ≤ 2 ^ 16) }
-    ensures { result ≡ entryBlocks io tables }
+    ensures { result ≡ entry_blocks io tables }
 {
     (entry_words(io, tables) + (ENTRY_WORDS - 1)) / ENTRY_WORDS
 }
@@ -85,7 +85,7 @@ pub fn spot_of(k: u64) -> Spot
 // The first word of table t's entry, so counted.
 pub fn core_entry(io: u64, t: Reference) -> u64
     requires { (io ≤ 2 ^ 16) × (t.0 ≤ 2 ^ 16) }
-    ensures { result ≡ coreEntry io t }
+    ensures { result ≡ core_entry io t }
 {
     2 * io + 3 * t.0
 }
@@ -93,7 +93,7 @@ pub fn core_entry(io: u64, t: Reference) -> u64
 // The first word of I/O reference r's entry.
 pub fn io_entry(r: Reference) -> u64
     requires { r.0 ≤ 2 ^ 16 }
-    ensures { result ≡ ioEntry r }
+    ensures { result ≡ io_entry r }
 {
     2 * r.0
 }
@@ -101,7 +101,7 @@ pub fn io_entry(r: Reference) -> u64
 // Where the third word of table t's entry stands.
 pub fn length_spot(io: u64, t: Reference) -> Spot
     requires { (io ≤ 2 ^ 16) × (t.0 ≤ 2 ^ 16) }
-    ensures { result ≡ lengthSpot io t }
+    ensures { result ≡ length_spot io t }
 {
     spot_of(core_entry(io, t) + 2)
 }
@@ -115,7 +115,7 @@ pub fn minimum_length(w: u64) -> u64
 
 // Whether an assigned length agrees with the minimum: where it does not, the refusal is 16.
 pub fn length_fits(exact: bool, least: u64, len: u64) -> bool
-    ensures { result ≡ lengthFits exact least len }
+    ensures { result ≡ length_fits exact least len }
 {
     if exact {
         return len == least;

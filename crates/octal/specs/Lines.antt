@@ -5,21 +5,21 @@ use Rattle.octal.specs.declared.Line.{Line}
 use Rattle.octal.specs.declared.Line.TheVariants.{Word, Bad}
 
 -- a line's digits, its bytes with the newline, the lines of a block and the bytes of its text
-abbrev pub digitCount : ℕ
-digitCount = 12
+abbrev pub digit_count : ℕ
+digit_count = 12
 
-abbrev pub lineBytes : ℕ
-lineBytes = 13
+abbrev pub line_bytes : ℕ
+line_bytes = 13
 
-abbrev pub lineCount : ℕ
-lineCount = 256
+abbrev pub line_count : ℕ
+line_count = 256
 
-abbrev pub textBytes : ℕ
-textBytes = lineCount * lineBytes
+abbrev pub text_bytes : ℕ
+text_bytes = line_count * line_bytes
 
 -- in ASCII the digits 0 to 7 are 48 to 55
-abbrev pub isOctal : ℕ → Bool
-isOctal d = leb 48 d && leb d 55
+abbrev pub is_octal : ℕ → Bool
+is_octal d = leb 48 d && leb d 55
 
 abbrev pub newline : ℕ
 newline = 10
@@ -32,13 +32,13 @@ octal w (d ∷ ds) = octal (w * 8 + (d - 48)) ds
 -- the line whose first byte is at place a
 unfoldable pub line_at : List ℕ → ℕ → Line
 line_at text a =
-    cond (every isOctal (range text a digitCount) && eqb (get_or text (a + digitCount) 0) newline)
-    (Word (octal 0 (range text a digitCount)))
+    cond (every is_octal (range text a digit_count) && eqb (get_or text (a + digit_count) 0) newline)
+    (Word (octal 0 (range text a digit_count)))
     Bad
 
-abbrev pub isGood : Line → Bool
-isGood (Word w) = true
-isGood Bad = false
+abbrev pub is_good : Line → Bool
+is_good (Word w) = true
+is_good Bad = false
 
 -- a bad line has no word: 0 stands for it, and the block that it is in is not fed
 abbrev pub word_of : Line → ℕ
@@ -47,24 +47,24 @@ word_of Bad = 0
 
 -- line i of a text, and its word
 abbrev pub line : List ℕ → ℕ → Line
-line text i = line_at text (i * lineBytes)
+line text i = line_at text (i * line_bytes)
 
-abbrev pub lineWord : List ℕ → ℕ → ℕ
-lineWord text i = word_of (line text i)
+abbrev pub line_word : List ℕ → ℕ → ℕ
+line_word text i = word_of (line text i)
 
 -- "A bad line .. prints `input bad`": all 256 lines are good
-unfoldable pub isBlock : List ℕ → Bool
-isBlock text = every isGood (tab (line text) lineCount)
+unfoldable pub is_block : List ℕ → Bool
+is_block text = every is_good (tab (line text) line_count)
 
 -- the block that a text spells
 unfoldable pub block_of : List ℕ → List ℕ
-block_of text = tab (lineWord text) lineCount
+block_of text = tab (line_word text) line_count
 
 -- how many bytes are a block's text: 3,328, or one less, where the input ends without the last newline; any other number of bytes
 -- is a part block
 unfoldable pub is_whole : ℕ → Bool
-is_whole n = eqb n textBytes || eqb n (textBytes - 1)
+is_whole n = eqb n text_bytes || eqb n (text_bytes - 1)
 
 -- the text of which n bytes came, with its last newline
 unfoldable pub ended : List ℕ → ℕ → List ℕ
-ended text n = cond (eqb n (textBytes - 1)) (set text (textBytes - 1) newline) text
+ended text n = cond (eqb n (text_bytes - 1)) (set text (text_bytes - 1) newline) text

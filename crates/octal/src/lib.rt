@@ -1,8 +1,8 @@
 // The text of a block, as programs read and write it: 256 lines of 12 octal digits.
 ghost use Rattle.std.specs.Prelude.{◌≡◌, ◌+◌, ◌≤◌, ◌<◌, length};
 ghost use Rattle.word.specs.Lists.{splice};
-ghost use Rattle.octal.specs.Lines.{line_at, isGood, word_of, isBlock, block_of, is_whole, ended, textBytes, lineCount};
-ghost use Rattle.octal.specs.Text.{octalDigit, line_of, text_of};
+ghost use Rattle.octal.specs.Lines.{line_at, is_good, word_of, is_block, block_of, is_whole, ended, text_bytes, line_count};
+ghost use Rattle.octal.specs.Text.{octal_digit, line_of, text_of};
 
 // The digits of a line, its bytes with the newline, the lines of a block, and the bytes of a block's text.
 const DIGITS: usize = 12;
@@ -55,7 +55,7 @@ pub fn read_line(text: &[u8], a: usize) -> Line
 
 // Whether the n bytes that came are a block's text. The last newline is put where it is missing.
 pub fn end_text(text: &mut [u8], n: usize) -> bool
-    requires { length text.old ≡ textBytes }
+    requires { length text.old ≡ text_bytes }
     ensures { (result ≡ is_whole n) × (text.new ≡ ended text.old n) }
 {
     if n == TEXT {
@@ -70,8 +70,8 @@ pub fn end_text(text: &mut [u8], n: usize) -> bool
 
 // The block that the text spells, and whether all its lines are good.
 pub fn read_lines(text: &[u8], block: &mut [u64]) -> bool
-    requires { (length text.now ≡ textBytes) × (length block.old ≡ lineCount) }
-    ensures { (result ≡ isBlock text.now) × (block.new ≡ block_of text.now) }
+    requires { (length text.now ≡ text_bytes) × (length block.old ≡ line_count) }
+    ensures { (result ≡ is_block text.now) × (block.new ≡ block_of text.now) }
 {
     let mut good = true;
     let mut i: usize = 0;
@@ -86,7 +86,7 @@ pub fn read_lines(text: &[u8], block: &mut [u64]) -> bool
 
 // The text of the block, into a text of its length.
 pub fn write_lines(block: &[u64], text: &mut [u8])
-    requires { (length block.now ≡ lineCount) × (length text.old ≡ textBytes) }
+    requires { (length block.now ≡ line_count) × (length text.old ≡ text_bytes) }
     ensures { text.new ≡ text_of block.now }
 {
     let mut i: usize = 0;
@@ -112,13 +112,13 @@ fn write_line(text: &mut [u8], a: usize, w: u64)
 // The digit of w that has i digits before it: three bits of it, in ASCII.
 fn digit_at(w: u64, i: usize) -> u8
     requires { i < 12 }
-    ensures { result ≡ octalDigit w i }
+    ensures { result ≡ octal_digit w i }
 {
     DIGIT_0 + ((w >> (33 - 3 * i)) % 8) as u8
 }
 
 fn is_good(l: Line) -> bool
-    ensures { result ≡ isGood l }
+    ensures { result ≡ is_good l }
 {
     match l {
         Line::Word(_) => true,

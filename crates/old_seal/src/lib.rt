@@ -1,6 +1,6 @@
 // The checksum rule before #104, and a block of it resealed: its checksum word written anew by the rule in force.
 ghost use Rattle.std.specs.Prelude.{◌≡◌};
-ghost use Rattle.old_seal.specs.Reseal.{sealPlace, Reseals};
+ghost use Rattle.old_seal.specs.Reseal.{seal_place, Reseals};
 
 use block::{Record, Summed, Verdict};
 use word::WORD_LIMIT;
@@ -8,7 +8,7 @@ use word::faults::{FAULT_11, FAULT_12};
 
 // The word that holds the checksum of the block with this index in its file; 0 is the label.
 fn seal_place(index: u64) -> usize
-    ensures { result ≡ sealPlace index }
+    ensures { result ≡ seal_place index }
 {
     if index == 0 {
         block::checksum_place(Record::Label)

@@ -17,57 +17,57 @@ use Rattle.program.specs.declared.SegmentRead.TheVariants.{Good as segment-read}
 use Rattle.program.specs.declared.TableSection.{TableSection}
 use Rattle.program.specs.declared.TableSectionRead.TheVariants.{Good as section-read, Bad as no-section}
 use Rattle.program.specs.declared.Group.{Group}
-use Rattle.program.specs.declared.GroupRead.TheVariants.{Good as group-read, Bad as no-group}
-use Rattle.program.specs.Sections.{bankOf, withIbank, segmentOf, tableSectionOf}
+use Rattle.program.specs.declared.GroupRead.TheVariants.{Good as group_read_lem, Bad as no-group}
+use Rattle.program.specs.Sections.{bank_of, with_ibank, segment_of, table_section_of}
 use Rattle.program.specs.Groups.{group_of}
-use Rattle.program.specs.Pieces.{headAt}
+use Rattle.program.specs.Pieces.{head_at}
 use Rattle.program.specs.Pieces.Head.{SegmentHead, TableHead, GroupHead}
 
 -- ---- bits 35-34 tell a head: 00 the segment's, 01 a table section's, 10 a group's
 module _ (w : ℕ) where
-  no-group-here : (part 34 2 w ≡ 2 → ⊥) → group_of w ≡ no-group (fault 18)
+  no_group_here : (part 34 2 w ≡ 2 → ⊥) → group_of w ≡ no-group (fault 18)
   unfolding group_of
-  no-group-here h = rw (ne_eqb (part 34 2 w) 2 h)
+  no_group_here h = rw (ne_eqb (part 34 2 w) 2 h)
 
-  no-section-here : (part 34 2 w ≡ 1 → ⊥) → tableSectionOf w ≡ no-section (fault 17)
-  unfolding tableSectionOf
-  no-section-here h = rw (ne_eqb (part 34 2 w) 1 h)
+  no_section_here : (part 34 2 w ≡ 1 → ⊥) → table_section_of w ≡ no-section (fault 17)
+  unfolding table_section_of
+  no_section_here h = rw (ne_eqb (part 34 2 w) 1 h)
 
-  section-bits : (t : TableSection) → tableSectionOf w ≡ section-read t → part 34 2 w ≡ 1
-  unfolding tableSectionOf
-  section-bits t e =
+  section_bits : (t : TableSection) → table_section_of w ≡ section-read t → part 34 2 w ≡ 1
+  unfolding table_section_of
+  section_bits t e =
       by-test (eqb (part 34 2 w) 1) (λ q. eqb-true (part 34 2 w) 1 q)
       (λ q. let f : no-section (fault 17) ≡ section-read t = rw q at e in let z : ◌≡◌ {A = ℕ} 0 1 = cc in absurd (omega arith))
 
-  bank-bits : (b : Bank) → bankOf w ≡ bank-read b → part 34 2 w ≡ 0
-  unfolding bankOf
-  bank-bits b e =
+  bank_bits : (b : Bank) → bank_of w ≡ bank-read b → part 34 2 w ≡ 0
+  unfolding bank_of
+  bank_bits b e =
       by-test (eqb (part 34 2 w) 0) (λ q. eqb-true (part 34 2 w) 0 q)
       (λ q. let f : no-bank (fault 17) ≡ bank-read b = rw q at e in let z : ◌≡◌ {A = ℕ} 0 1 = cc in absurd (omega arith))
 
-  segment-by : (second : ℕ) (g : Segment) (r : BankRead) → bankOf w ≡ r → withIbank r (bankOf second) ≡ segment-read g
+  segment_by : (second : ℕ) (g : Segment) (r : BankRead) → bank_of w ≡ r → with_ibank r (bank_of second) ≡ segment-read g
       → part 34 2 w ≡ 0
-  segment-by second g (bank-read b) q e = bank-bits b q
-  segment-by second g (no-bank f) q e = let z : ◌≡◌ {A = ℕ} 0 1 = cc in absurd (omega arith)
+  segment_by second g (bank-read b) q e = bank_bits b q
+  segment_by second g (no-bank f) q e = let z : ◌≡◌ {A = ℕ} 0 1 = cc in absurd (omega arith)
 
-  segment-bits : (second : ℕ) (g : Segment) → segmentOf w second ≡ segment-read g → part 34 2 w ≡ 0
-  unfolding segmentOf
-  segment-bits second g e = segment-by second g (bankOf w) refl e
+  segment-bits : (second : ℕ) (g : Segment) → segment_of w second ≡ segment-read g → part 34 2 w ≡ 0
+  unfolding segment_of
+  segment-bits second g e = segment_by second g (bank_of w) refl e
 
 module _ (block : List ℕ) (i : ℕ) where
   abbrev here : ℕ
   here = get_or block i 0
 
-  pub head-group : (g : Group) → group_of here ≡ group-read g → headAt block i ≡ GroupHead g
-  unfolding headAt
-  head-group g e = rw e
+  pub head_group : (g : Group) → group_of here ≡ group_read_lem g → head_at block i ≡ GroupHead g
+  unfolding head_at
+  head_group g e = rw e
 
-  pub head-table : (t : TableSection) → tableSectionOf here ≡ section-read t → headAt block i ≡ TableHead t
-  unfolding headAt
-  head-table t e = let b = section-bits here t e in rw (no-group-here here (omega arith), e)
+  pub head_table : (t : TableSection) → table_section_of here ≡ section-read t → head_at block i ≡ TableHead t
+  unfolding head_at
+  head_table t e = let b = section_bits here t e in rw (no_group_here here (omega arith), e)
 
-  pub head-segment : (g : Segment) → segmentOf here (get_or block (i + 1) 0) ≡ segment-read g → headAt block i ≡ SegmentHead g
-  unfolding headAt
-  head-segment g e =
+  pub head_segment : (g : Segment) → segment_of here (get_or block (i + 1) 0) ≡ segment-read g → head_at block i ≡ SegmentHead g
+  unfolding head_at
+  head_segment g e =
       let b = segment-bits here (get_or block (i + 1) 0) g e in
-      rw (no-group-here here (omega arith), no-section-here here (omega arith), e)
+      rw (no_group_here here (omega arith), no_section_here here (omega arith), e)

@@ -8,8 +8,8 @@ use Rattle.program.specs.declared.Group.{Group}
 use Rattle.program.specs.declared.GroupRead.{GroupRead}
 use Rattle.program.specs.declared.GroupRead.TheVariants.{Good, Bad}
 
-abbrev pub groupIn : ℕ → Group
-groupIn w = record {
+abbrev pub group_in : ℕ → Group
+group_in w = record {
   words = bits 33 26 w;
   program = bits 25 18 w;
   last = is_set 17 w;
@@ -20,5 +20,5 @@ groupIn w = record {
 unfoldable pub group_of : ℕ → GroupRead
 group_of w =
     cond (eqb (bits 35 34 w) 2)
-    (cond (eqb (bits 25 18 w) 0) (Bad (fault 18)) (Good (groupIn w)))
+    (cond (eqb (bits 25 18 w) 0) (Bad (fault 18)) (Good (group_in w)))
     (Bad (fault 18))

@@ -9,13 +9,13 @@ use Rattle.program.specs.declared.TableSectionRead.{TableSectionRead}
 use Rattle.program.specs.declared.TableSectionRead.TheVariants.{Good as section-read, Bad as no-section}
 use Rattle.program.specs.declared.Group.{Group}
 use Rattle.program.specs.declared.GroupRead.{GroupRead}
-use Rattle.program.specs.declared.GroupRead.TheVariants.{Good as group-read, Bad as no-group}
-use Rattle.program.specs.Sections.{segmentOf, tableSectionOf, lastWord}
+use Rattle.program.specs.declared.GroupRead.TheVariants.{Good as group_read_lem, Bad as no-group}
+use Rattle.program.specs.Sections.{segment_of, table_section_of, last_word}
 use Rattle.program.specs.Groups.{group_of}
 
 -- "where an identifier's first word is due, a zero word or the end at word 254 closes the block"
 unfoldable pub closes : List ℕ → ℕ → Bool
-closes block i = leb (lastWord + 1) i || eqb (get_or block i 0) 0
+closes block i = leb (last_word + 1) i || eqb (get_or block i 0) 0
 
 -- a word says by its bits 35-34 what it heads: 10 a group, 01 a table section, zeros the segment section, of four words
 pub data Head : Type 0 where
@@ -24,23 +24,23 @@ pub data Head : Type 0 where
   GroupHead : Group → Head
   NoHead : Head
 
-abbrev pub byGroup : GroupRead → Head → Head
-byGroup (group-read g) else = GroupHead g
-byGroup (no-group f) else = else
+abbrev pub by_group : GroupRead → Head → Head
+by_group (group_read_lem g) else = GroupHead g
+by_group (no-group f) else = else
 
-abbrev pub bySection : TableSectionRead → Head → Head
-bySection (section-read t) else = TableHead t
-bySection (no-section f) else = else
+abbrev pub by_section : TableSectionRead → Head → Head
+by_section (section-read t) else = TableHead t
+by_section (no-section f) else = else
 
-abbrev pub bySegment : SegmentRead → Head
-bySegment (segment-read g) = SegmentHead g
-bySegment (no-segment f) = NoHead
+abbrev pub by_segment : SegmentRead → Head
+by_segment (segment-read g) = SegmentHead g
+by_segment (no-segment f) = NoHead
 
-unfoldable pub headAt : List ℕ → ℕ → Head
-headAt block i =
-    byGroup (group_of (get_or block i 0))
-    (bySection (tableSectionOf (get_or block i 0))
-    (bySegment (segmentOf (get_or block i 0) (get_or block (i + 1) 0))))
+unfoldable pub head_at : List ℕ → ℕ → Head
+head_at block i =
+    by_group (group_of (get_or block i 0))
+    (by_section (table_section_of (get_or block i 0))
+    (by_segment (segment_of (get_or block i 0) (get_or block (i + 1) 0))))
 
 -- the head that stands at a place of a block
 pub record Piece : Type 0 where
@@ -55,23 +55,23 @@ after i (TableHead t) = i + 1
 after i (GroupHead g) = i + 1 + g.words
 after i NoHead = i
 
-abbrev pub pieceThen : List ℕ → ℕ → Head → List Piece → List Piece
-pieceThen block i (SegmentHead g) rest = record { block = block; at = i; head = SegmentHead g } ∷ rest
-pieceThen block i (TableHead t) rest = record { block = block; at = i; head = TableHead t } ∷ rest
-pieceThen block i (GroupHead g) rest = record { block = block; at = i; head = GroupHead g } ∷ rest
-pieceThen block i NoHead rest = []
+abbrev pub piece_then : List ℕ → ℕ → Head → List Piece → List Piece
+piece_then block i (SegmentHead g) rest = record { block = block; at = i; head = SegmentHead g } ∷ rest
+piece_then block i (TableHead t) rest = record { block = block; at = i; head = TableHead t } ∷ rest
+piece_then block i (GroupHead g) rest = record { block = block; at = i; head = GroupHead g } ∷ rest
+piece_then block i NoHead rest = []
 
 -- n pieces at most, from place i on
-unfoldable pub piecesFrom : ℕ → List ℕ → ℕ → List Piece
-piecesFrom zero block i = []
-piecesFrom (suc n) block i =
+unfoldable pub pieces_from : ℕ → List ℕ → ℕ → List Piece
+pieces_from zero block i = []
+pieces_from (suc n) block i =
     cond (closes block i)
     []
-    (pieceThen block i (headAt block i) (piecesFrom n block (after i (headAt block i))))
+    (piece_then block i (head_at block i) (pieces_from n block (after i (head_at block i))))
 
 -- from word 1 on; each piece takes a word or more, so 254 are all there can be
 abbrev pub pieces_of : List ℕ → List Piece
-pieces_of block = piecesFrom lastWord block 1
+pieces_of block = pieces_from last_word block 1
 
 -- ---- one of the pieces
 unfoldable pub OneOf : Piece → List Piece → Type 0

@@ -11,12 +11,12 @@ use Rattle.program.specs.declared.TableSectionRead.{TableSectionRead}
 use Rattle.program.specs.declared.TableSectionRead.TheVariants.{Good as table-section, Bad as no-table-section}
 
 -- "the end at word 254 closes the block": the last word that sections and groups may use
-abbrev pub lastWord : ℕ
-lastWord = 254
+abbrev pub last_word : ℕ
+last_word = 254
 
 -- "In a bank word bits 35, 34, 17, 16 are zero, bits 33-18 the word count, bits 15-0 the relative address."
-unfoldable pub bankOf : ℕ → BankRead
-bankOf w =
+unfoldable pub bank_of : ℕ → BankRead
+bank_of w =
     cond (eqb (bits 35 34 w) 0)
     (cond (eqb (bits 17 16 w) 0)
     (bank (record { at = record { 0 = bits 15 0 w }; count = bits 33 18 w }))
@@ -24,20 +24,20 @@ bankOf w =
     (no-bank (fault 17))
 
 -- "Segment section, four words: IBANK, DBANK, two disregarded. IBANK count at least 1; DBANK may be 0."
-abbrev pub withDbank : Bank → BankRead → SegmentRead
-withDbank i (bank d) = segment (record { ibank = i; dbank = d })
-withDbank i (no-bank f) = no-segment f
+abbrev pub with_dbank : Bank → BankRead → SegmentRead
+with_dbank i (bank d) = segment (record { ibank = i; dbank = d })
+with_dbank i (no-bank f) = no-segment f
 
-abbrev pub withIbank : BankRead → BankRead → SegmentRead
-withIbank (bank i) d = cond (eqb i.count 0) (no-segment (fault 17)) (withDbank i d)
-withIbank (no-bank f) d = no-segment f
+abbrev pub with_ibank : BankRead → BankRead → SegmentRead
+with_ibank (bank i) d = cond (eqb i.count 0) (no-segment (fault 17)) (with_dbank i d)
+with_ibank (no-bank f) d = no-segment f
 
-unfoldable pub segmentOf : ℕ → ℕ → SegmentRead
-segmentOf first second = withIbank (bankOf first) (bankOf second)
+unfoldable pub segment_of : ℕ → ℕ → SegmentRead
+segment_of first second = with_ibank (bank_of first) (bank_of second)
 
 -- "Table section, one word: bits 35-34 are 01, bits 33-18 a count from 1 .., bits 17-8 zero, bits 7-0 the table's number"
-unfoldable pub tableSectionOf : ℕ → TableSectionRead
-tableSectionOf w =
+unfoldable pub table_section_of : ℕ → TableSectionRead
+table_section_of w =
     cond (eqb (bits 35 34 w) 1)
     (cond (eqb (bits 17 8 w) 0)
     (cond (eqb (bits 33 18 w) 0)

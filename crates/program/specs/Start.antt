@@ -8,5 +8,5 @@ abbrev pub start_of : List ℕ → Relative
 start_of block = record { 0 = bits 15 0 (get_or block 1 0) }
 
 -- the address r is that of a word of the bank
-unfoldable pub inBank : Bank → Relative → Bool
-inBank b r = cond (ltb r.0 b.at.0) false (ltb r.0 (b.at.0 + b.count))
+unfoldable pub in_bank : Bank → Relative → Bool
+in_bank b r = cond (ltb r.0 b.at.0) false (ltb r.0 (b.at.0 + b.count))

@@ -1,9 +1,9 @@
 // The words that head what a program block holds: segment section, table section, group; and the termination block's start.
 // Each is read from the word alone. What it says is compared with the area, the lists and the label elsewhere.
 ghost use Rattle.std.specs.Prelude.{◌≡◌};
-ghost use Rattle.program.specs.Sections.{bankOf, segmentOf, tableSectionOf};
+ghost use Rattle.program.specs.Sections.{bank_of, segment_of, table_section_of};
 ghost use Rattle.program.specs.Groups.{group_of};
-ghost use Rattle.program.specs.Start.{start_of, inBank};
+ghost use Rattle.program.specs.Start.{start_of, in_bank};
 
 use word::faults::{FAULT_17, FAULT_18};
 use word::{Fault, Reference, Relative};
@@ -68,7 +68,7 @@ pub enum GroupRead {
 
 // A bank word: 17 where one of the bits 35, 34, 17 and 16 is set.
 pub fn read_bank(w: u64) -> BankRead
-    ensures { result ≡ bankOf w }
+    ensures { result ≡ bank_of w }
 {
     if word::bits(w, 35, 34) != 0 {
         return BankRead::Bad(FAULT_17);
@@ -84,7 +84,7 @@ pub fn read_bank(w: u64) -> BankRead
 
 // The two bank words of a segment section; 17 also where the IBANK has no word.
 pub fn read_segment(first: u64, second: u64) -> SegmentRead
-    ensures { result ≡ segmentOf first second }
+    ensures { result ≡ segment_of first second }
 {
     match read_bank(first) {
         BankRead::Good(ibank) => {
@@ -102,7 +102,7 @@ pub fn read_segment(first: u64, second: u64) -> SegmentRead
 
 // A table section's word: 17 where bits 35-34 are not 01, bits 17-8 not zero, or the count is 0.
 pub fn read_table_section(w: u64) -> TableSectionRead
-    ensures { result ≡ tableSectionOf w }
+    ensures { result ≡ table_section_of w }
 {
     if word::bits(w, 35, 34) != 1 {
         return TableSectionRead::Bad(FAULT_17);
@@ -149,7 +149,7 @@ pub fn read_start(block: &[u64]) -> Relative
 
 // Whether an address lies in a bank: a start that does not lie in the IBANK is 22.
 pub fn in_bank(bank: Bank, r: Relative) -> bool
-    ensures { result ≡ inBank bank r }
+    ensures { result ≡ in_bank bank r }
 {
     if r.0 < bank.at.0 {
         return false;

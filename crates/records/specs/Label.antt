@@ -5,9 +5,9 @@ use Rattle.word.specs.Fault.{fault, further}
 use Rattle.label.specs.declared.Label.{Label}
 use Rattle.label.specs.declared.LabelRead.{LabelRead}
 use Rattle.label.specs.declared.LabelRead.TheVariants.{Good, Bad}
-use Rattle.label.specs.Label.{label_of, channelCount}
-use Rattle.modification.specs.Assignments.{assignmentsFit}
-use Rattle.modification.specs.Entries.{entryBlocks}
+use Rattle.label.specs.Label.{label_of, channel_count}
+use Rattle.modification.specs.Assignments.{assignments_fit}
+use Rattle.modification.specs.Entries.{entry_blocks}
 use Rattle.stage.specs.declared.LabelCounts.{LabelCounts}
 use Rattle.stage.specs.declared.Due.TheVariants.{Segment}
 use Rattle.stage.specs.declared.Stage.{Stage}
@@ -16,19 +16,19 @@ use Rattle.stage.specs.declared.Step.{Step}
 use Rattle.stage.specs.declared.Step.TheVariants.{More, Refused}
 
 -- what of the label is still needed
-abbrev pub labelCountsOf : Label → LabelCounts
-labelCountsOf l = record { channels = channelCount l; sections = l.sections }
+abbrev pub label_counts_of : Label → LabelCounts
+label_counts_of l = record { channels = channel_count l; sections = l.sections }
 
 -- "With no entries there is no modification block."
-unfoldable pub afterLabel : ℕ → ℕ → Label → Stage
-afterLabel io tables l =
-    cond (eqb (entryBlocks io tables) 0) (Program (labelCountsOf l) Segment) (Entry (labelCountsOf l) l.exact 0)
+unfoldable pub after_label : ℕ → ℕ → Label → Stage
+after_label io tables l =
+    cond (eqb (entry_blocks io tables) 0) (Program (label_counts_of l) Segment) (Entry (label_counts_of l) l.exact 0)
 
-unfoldable pub withLabel : List ℕ → ℕ → LabelRead → Step
-withLabel ios tables (Good l) =
-    cond (assignmentsFit l ios tables) (More (afterLabel (length ios) tables l)) (Refused (further 3 (fault 16)))
-withLabel ios tables (Bad f) = Refused f
+unfoldable pub with_label : List ℕ → ℕ → LabelRead → Step
+with_label ios tables (Good l) =
+    cond (assignments_fit l ios tables) (More (after_label (length ios) tables l)) (Refused (further 3 (fault 16)))
+with_label ios tables (Bad f) = Refused f
 
 -- ios the numbers of the I/O references, tables how many core tables there are
-unfoldable pub labelStep : List ℕ → ℕ → List ℕ → Step
-labelStep ios tables block = withLabel ios tables (label_of block)
+unfoldable pub label_step : List ℕ → ℕ → List ℕ → Step
+label_step ios tables block = with_label ios tables (label_of block)

@@ -2,13 +2,13 @@
 -- word; else the answer is *done* with the absolute start.
 use Rattle.std.specs.Prelude.{ℕ, cond, List}
 use Rattle.word.specs.Fault.{fault, further}
-use Rattle.word.specs.Sorts.{absoluteOf}
+use Rattle.word.specs.Sorts.{absolute_of}
 use Rattle.word.specs.declared.Area.{Area}
 use Rattle.program.specs.declared.Bank.{Bank}
-use Rattle.program.specs.Start.{start_of, inBank}
+use Rattle.program.specs.Start.{start_of, in_bank}
 use Rattle.stage.specs.declared.Step.{Step}
 use Rattle.stage.specs.declared.Step.TheVariants.{Done, Refused}
 
-unfoldable pub terminationStep : Area → Bank → List ℕ → Step
-terminationStep area ibank block =
-    cond (inBank ibank (start_of block)) (Done (absoluteOf area (start_of block))) (Refused (further 1 (fault 22)))
+unfoldable pub termination_step : Area → Bank → List ℕ → Step
+termination_step area ibank block =
+    cond (in_bank ibank (start_of block)) (Done (absolute_of area (start_of block))) (Refused (further 1 (fault 22)))

@@ -1,14 +1,14 @@
 // The blocks that are read whole: the label, the modification blocks and the termination block. Each leads to what is due next, to
 // the start, or to the first fault in reading order.
 ghost use Rattle.std.specs.Prelude.{◌≡◌, ◌≤◌, length};
-ghost use Rattle.word.specs.Limits.{coreMost, wordsInBlock};
+ghost use Rattle.word.specs.Limits.{core_most, words_in_block};
 ghost use Rattle.label.specs.declared.LabelRead.TheVariants.{Good};
 ghost use Rattle.label.specs.Label.{Carried};
-ghost use Rattle.lists.specs.Load.{ioNumbers, coreTables, Readable};
-ghost use Rattle.records.specs.Label.{withLabel, labelStep};
-ghost use Rattle.records.specs.Entries.{entryStep, EntryReady, SpotReady};
-ghost use Rattle.records.specs.HowEntries.{entryRead, entriesRead};
-ghost use Rattle.records.specs.Termination.{terminationStep};
+ghost use Rattle.lists.specs.Load.{io_numbers, core_tables, Readable};
+ghost use Rattle.records.specs.Label.{with_label, label_step};
+ghost use Rattle.records.specs.Entries.{entry_step, EntryReady, SpotReady};
+ghost use Rattle.records.specs.HowEntries.{entry_read, entries_read};
+ghost use Rattle.records.specs.Termination.{termination_step};
 
 use label::{Label, LabelRead};
 use lists::Given;
@@ -31,8 +31,8 @@ pub enum EntriesRead {
 
 // The label, compared with the lists that the load was given.
 pub fn label_step(g: Given, lists: &[u64], block: &[u64]) -> Step
-    requires { (Readable g lists.now) × (length block.now ≡ wordsInBlock) }
-    ensures { result ≡ labelStep (ioNumbers g lists.now) g.tables block.now }
+    requires { (Readable g lists.now) × (length block.now ≡ words_in_block) }
+    ensures { result ≡ label_step (io_numbers g lists.now) g.tables block.now }
 {
     match label::read_label(block) {
         LabelRead::Good(l) => take_label(g, lists, l),
@@ -43,7 +43,7 @@ pub fn label_step(g: Given, lists: &[u64], block: &[u64]) -> Step
 // A label that is one: the assignments must fit it, and entries are due if there are any.
 fn take_label(g: Given, lists: &[u64], l: Label) -> Step
     requires { (Readable g lists.now) × (Carried l) }
-    ensures { result ≡ withLabel (ioNumbers g lists.now) g.tables (Good l) }
+    ensures { result ≡ with_label (io_numbers g lists.now) g.tables (Good l) }
 {
     if !modification::assignments_fit(l, g, lists) {
         return Step::Refused(word::further(COUNTS_WORD, FAULT_16));
@@ -68,7 +68,7 @@ pub fn entry_step(
     block: &[u64],
 ) -> Step
     requires { EntryReady g lists.now b block.now }
-    ensures { result ≡ entryStep g.io (coreTables g lists.now) c exact b block.now }
+    ensures { result ≡ entry_step g.io (core_tables g lists.now) c exact b block.now }
 {
     match read_entries(g, lists, exact, b, block) {
         EntriesRead::Good => {
@@ -84,8 +84,8 @@ pub fn entry_step(
 
 // Each table's entry, as far as its third word stands in block b: the first that does not fit ends it.
 fn read_entries(g: Given, lists: &[u64], exact: bool, b: u64, block: &[u64]) -> EntriesRead
-    requires { (Readable g lists.now) × (length block.now ≡ wordsInBlock) }
-    ensures { result ≡ entriesRead g.io (coreTables g lists.now) exact b block.now }
+    requires { (Readable g lists.now) × (length block.now ≡ words_in_block) }
+    ensures { result ≡ entries_read g.io (core_tables g lists.now) exact b block.now }
 {
     let tables = g.tables;
     let mut t: u64 = 0;
@@ -103,7 +103,7 @@ fn read_entries(g: Given, lists: &[u64], exact: bool, b: u64, block: &[u64]) -> 
 // The entry of table t: nothing is asked of one whose third word stands in another block.
 fn read_entry(g: Given, lists: &[u64], exact: bool, b: u64, block: &[u64], t: u64) -> EntriesRead
     requires { SpotReady g lists.now t block.now }
-    ensures { result ≡ entryRead g.io (coreTables g lists.now) exact b block.now t }
+    ensures { result ≡ entry_read g.io (core_tables g lists.now) exact b block.now t }
 {
     let s = modification::length_spot(g.io, Reference(t));
     if s.block != b {
@@ -119,8 +119,8 @@ fn read_entry(g: Given, lists: &[u64], exact: bool, b: u64, block: &[u64], t: u6
 
 // The termination block: the start must lie in the IBANK.
 pub fn termination_step(area: Area, ibank: Bank, block: &[u64]) -> Step
-    requires { area.at.0 ≤ coreMost }
-    ensures { result ≡ terminationStep area ibank block.now }
+    requires { area.at.0 ≤ core_most }
+    ensures { result ≡ termination_step area ibank block.now }
 {
     let start = program::read_start(block);
     if !program::in_bank(ibank, start) {

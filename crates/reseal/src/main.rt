@@ -1,7 +1,7 @@
 // The reseal program (#104): reads a program file of the old checksum rule, 256 lines of 12 octal digits a block, and prints it
 // with each block sealed by the rule in force, once the old rule has passed.
 ghost use Rattle.std.specs.Prelude.{◌≡◌, length};
-ghost use Rattle.word.specs.Limits.{wordsInBlock};
+ghost use Rattle.word.specs.Limits.{words_in_block};
 
 use block::Verdict;
 use console::Input;
@@ -9,7 +9,7 @@ use console::Input;
 // Prints the block with this index sealed anew; or, in its place, that it is refused. Answers whether to go on: a file with such a
 // line in it is no file of octal lines, and so no loader takes what was printed.
 fn reseal_block(words: &mut [u64], index: u64) -> bool
-    requires { length words.old ≡ wordsInBlock }
+    requires { length words.old ≡ words_in_block }
 {
     match old_seal::reseal(words, index) {
         Verdict::Pass => {

@@ -10,7 +10,7 @@ use borrow.Author.Tests.{eq-eqb, ne_eqb}
 use Rattle.word.specs.Lists.{range, splice}
 use Rattle.word.proofs.Cases.{by-eq, by-lt}
 use Rattle.word.proofs.Lists.{range-splice-same}
-use Rattle.rooms.specs.Rooms.{heldPlaces}
+use Rattle.rooms.specs.Rooms.{held_places}
 
 -- ---- what is left of a list, when it is known
 pub drop-first : (ps : List ℕ) (n x : ℕ) (xs : List ℕ) → drop n ps ≡ x ∷ xs → (n < length ps)
@@ -24,17 +24,17 @@ drop-none ps n q = by-lt n (length ps) (λ h. absurd (omega (arith, ap length q,
 
 -- ---- place p is free, or held, or there is none
 module _ (l : List ℕ) (p : ℕ) where
-  pub held-skip : p < length l → get_or l p 0 ≡ 0 → heldPlaces p (drop p l) ≡ heldPlaces (p + 1) (drop (p + 1) l)
-  unfolding heldPlaces
-  held-skip h z = rw (drop-cons l p 0 h, eq-eqb (get_or l p 0) 0 z, add-one p)
+  pub held_skip : p < length l → get_or l p 0 ≡ 0 → held_places p (drop p l) ≡ held_places (p + 1) (drop (p + 1) l)
+  unfolding held_places
+  held_skip h z = rw (drop-cons l p 0 h, eq-eqb (get_or l p 0) 0 z, add-one p)
 
-  pub held-here : p < length l → (get_or l p 0 ≡ 0 → ⊥) → heldPlaces p (drop p l) ≡ p ∷ heldPlaces (p + 1) (drop (p + 1) l)
-  unfolding heldPlaces
+  pub held-here : p < length l → (get_or l p 0 ≡ 0 → ⊥) → held_places p (drop p l) ≡ p ∷ held_places (p + 1) (drop (p + 1) l)
+  unfolding held_places
   held-here h z = rw (drop-cons l p 0 h, ne_eqb (get_or l p 0) 0 z, add-one p)
 
-  pub held-past : length l ≤ p → heldPlaces p (drop p l) ≡ []
-  unfolding heldPlaces
-  held-past h = rw (drop_of_length-le l h)
+  pub held_past : length l ≤ p → held_places p (drop p l) ≡ []
+  unfolding held_places
+  held_past h = rw (drop_of_length-le l h)
 
 -- ---- the next held place from p on is k
 pub record Next (l : List ℕ) (p k : ℕ) (ks : List ℕ) : Type 0 where
@@ -42,13 +42,13 @@ pub record Next (l : List ℕ) (p k : ℕ) (ks : List ℕ) : Type 0 where
   pub inside : k < length l
   pub held : get_or l k 0 ≡ 0 → ⊥
   pub free : (q : ℕ) → p ≤ q → q < k → get_or l q 0 ≡ 0
-  pub rest : ks ≡ heldPlaces (k + 1) (drop (k + 1) l)
+  pub rest : ks ≡ held_places (k + 1) (drop (k + 1) l)
 
-next-by : (l : List ℕ) (k : ℕ) (ks : List ℕ) (n p : ℕ) → length l ≤ p + n → k ∷ ks ≡ heldPlaces p (drop p l) → Next l p k ks
-next-by l k ks zero p h q = absurd (omega (arith, ap length (q ∙ held-past l p (omega arith))))
-next-by l k ks (suc n) p h q = by-lt p (length l)
+next_by : (l : List ℕ) (k : ℕ) (ks : List ℕ) (n p : ℕ) → length l ≤ p + n → k ∷ ks ≡ held_places p (drop p l) → Next l p k ks
+next_by l k ks zero p h q = absurd (omega (arith, ap length (q ∙ held_past l p (omega arith))))
+next_by l k ks (suc n) p h q = by-lt p (length l)
     (λ i. by-eq (get_or l p 0) 0
-    (λ z. let r = next-by l k ks n (p + 1) (omega arith) (q ∙ held-skip l p i z) in record {
+    (λ z. let r = next_by l k ks n (p + 1) (omega arith) (q ∙ held_skip l p i z) in record {
       low = omega (arith, r.low);
       inside = r.inside;
       held = r.held;
@@ -62,33 +62,33 @@ next-by l k ks (suc n) p h q = by-lt p (length l)
       free = λ o a b. absurd (omega arith);
       rest = rw s (ap (λ (m : List ℕ). drop 1 m) e);
     }))
-    (λ i. absurd (omega (arith, ap length (q ∙ held-past l p i))))
+    (λ i. absurd (omega (arith, ap length (q ∙ held_past l p i))))
 
-pub held_next : (l : List ℕ) (p k : ℕ) (ks : List ℕ) → k ∷ ks ≡ heldPlaces p (drop p l) → Next l p k ks
-held_next l p k ks q = next-by l k ks (length l) p (omega arith) q
+pub held_next : (l : List ℕ) (p k : ℕ) (ks : List ℕ) → k ∷ ks ≡ held_places p (drop p l) → Next l p k ks
+held_next l p k ks q = next_by l k ks (length l) p (omega arith) q
 
 -- or none is, and all from p on are free
-none-by : (l : List ℕ) (n p : ℕ) → length l ≤ p + n → [] ≡ heldPlaces p (drop p l) → (q : ℕ) → p ≤ q → q < length l → get_or l q 0 ≡ 0
-none-by l zero p h e q a b = absurd (omega arith)
-none-by l (suc n) p h e q a b = by-eq (get_or l p 0) 0
-    (λ z. by-eq q p (λ y. rw y z) (λ y. none-by l n (p + 1) (omega arith) (e ∙ held-skip l p (omega arith) z) q (omega arith) b))
+none_by : (l : List ℕ) (n p : ℕ) → length l ≤ p + n → [] ≡ held_places p (drop p l) → (q : ℕ) → p ≤ q → q < length l → get_or l q 0 ≡ 0
+none_by l zero p h e q a b = absurd (omega arith)
+none_by l (suc n) p h e q a b = by-eq (get_or l p 0) 0
+    (λ z. by-eq q p (λ y. rw y z) (λ y. none_by l n (p + 1) (omega arith) (e ∙ held_skip l p (omega arith) z) q (omega arith) b))
     (λ z. absurd (omega (arith, ap length (e ∙ held-here l p (omega arith) z))))
 
-pub held_none : (l : List ℕ) (p : ℕ) → [] ≡ heldPlaces p (drop p l) → (q : ℕ) → p ≤ q → q < length l → get_or l q 0 ≡ 0
-held_none l p e = none-by l (length l) p (omega arith) e
+pub held_none : (l : List ℕ) (p : ℕ) → [] ≡ held_places p (drop p l) → (q : ℕ) → p ≤ q → q < length l → get_or l q 0 ≡ 0
+held_none l p e = none_by l (length l) p (omega arith) e
 
 -- ---- no more are held than there are, and at the start of a list they are read back
-held-most : (p : ℕ) (l : List ℕ) → length (heldPlaces p l) ≤ length l
-unfolding heldPlaces
-held-most p [] = omega arith
-held-most p (a ∷ l) = by-eq a 0
-    (λ z. rw (eq-eqb a 0 z) (omega (arith, held-most (p + 1) l)))
-    (λ z. rw (ne_eqb a 0 z) (omega (arith, held-most (p + 1) l)))
+held_most : (p : ℕ) (l : List ℕ) → length (held_places p l) ≤ length l
+unfolding held_places
+held_most p [] = omega arith
+held_most p (a ∷ l) = by-eq a 0
+    (λ z. rw (eq-eqb a 0 z) (omega (arith, held_most (p + 1) l)))
+    (λ z. rw (ne_eqb a 0 z) (omega (arith, held_most (p + 1) l)))
 
-module _ (l out : List ℕ) (n : ℕ) (e : n ≡ length (heldPlaces 0 l)) (h : length l ≤ length out) where
-  pub held-few : n ≤ length l
-  held-few = omega (arith, held-most 0 l)
+module _ (l out : List ℕ) (n : ℕ) (e : n ≡ length (held_places 0 l)) (h : length l ≤ length out) where
+  pub held_few : n ≤ length l
+  held_few = omega (arith, held_most 0 l)
 
-  pub held-lent : take n (splice out 0 (heldPlaces 0 l)) ≡ heldPlaces 0 l
+  pub held-lent : take n (splice out 0 (held_places 0 l)) ≡ held_places 0 l
   unfolding range
-  held-lent = rw e (range-splice-same out 0 (heldPlaces 0 l) (omega (arith, held-most 0 l)))
+  held-lent = rw e (range-splice-same out 0 (held_places 0 l) (omega (arith, held_most 0 l)))

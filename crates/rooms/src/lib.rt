@@ -2,9 +2,9 @@
 // numbers, one for each place: 0 where it is free, r + 1 where room r holds it.
 ghost use Rattle.std.specs.Prelude.{◌≡◌, ◌≤◌, ◌<◌, length};
 ghost use Rattle.word.specs.Lists.{splice};
-ghost use Rattle.word.specs.Limits.{roomCount};
+ghost use Rattle.word.specs.Limits.{room_count};
 ghost use Rattle.rooms.specs.HowTally.{slot_of, tallied};
-ghost use Rattle.rooms.specs.Rooms.{hit, count, free, held, idle, fair, heldPlaces, lowestFree, placeRefusal};
+ghost use Rattle.rooms.specs.Rooms.{hit, count, free, held, idle, fair, held_places, lowest_free, place_refusal};
 
 use word::limits::ROOMS;
 
@@ -25,7 +25,7 @@ pub fn free_places(holders: &[u64]) -> u64
 
 // How many places the room holds.
 pub fn held_by(holders: &[u64], room: u64) -> u64
-    requires { room < roomCount }
+    requires { room < room_count }
     ensures { result ≡ held room holders.now }
 {
     how_many(holders, room + 1)
@@ -69,8 +69,8 @@ pub fn fair(holders: &[u64]) -> bool
 // The places that are held, lowest first, at the start of out. Says how many they are.
 pub fn held_places(holders: &[u64], out: &mut [usize]) -> usize
     requires { length holders.now ≤ length out.old }
-    ensures { (result ≡ length (heldPlaces 0 holders.now))
-        × (out.new ≡ splice out.old 0 (heldPlaces 0 holders.now)) }
+    ensures { (result ≡ length (held_places 0 holders.now))
+        × (out.new ≡ splice out.old 0 (held_places 0 holders.now)) }
 {
     let mut n: usize = 0;
     let mut i: usize = 0;
@@ -87,7 +87,7 @@ pub fn held_places(holders: &[u64], out: &mut [usize]) -> usize
 
 // The lowest free place, or the length where none is free.
 pub fn lowest_free(holders: &[u64]) -> usize
-    ensures { result ≡ lowestFree holders.now }
+    ensures { result ≡ lowest_free holders.now }
 {
     let mut p: usize = 0;
     while p < holders.len() {
@@ -101,8 +101,8 @@ pub fn lowest_free(holders: &[u64]) -> usize
 
 // Why the room is denied one more place, 5 or 6, or 0 where it is given one.
 pub fn place_refusal(holders: &[u64], room: u64) -> u64
-    requires { room < roomCount }
-    ensures { result ≡ placeRefusal room holders.now }
+    requires { room < room_count }
+    ensures { result ≡ place_refusal room holders.now }
 {
     let n = held_by(holders, room);
     if MOST_HELD <= n {

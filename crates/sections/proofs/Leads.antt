@@ -13,7 +13,7 @@ use Rattle.word.specs.declared.Reference.{Reference}
 use Rattle.word.specs.Fault.{fault}
 use Rattle.word.specs.Word.{part}
 use Rattle.word.proofs.Cases.{both, when, and_left, and_right}
-use Rattle.word.proofs.Says.{says-and, says-le}
+use Rattle.word.proofs.Says.{says_and, says_le}
 use Rattle.program.specs.declared.Bank.{Bank}
 use Rattle.program.specs.declared.BankRead.{BankRead}
 use Rattle.program.specs.declared.BankRead.TheVariants.{Good as bank-read, Bad as no-bank}
@@ -22,35 +22,35 @@ use Rattle.program.specs.declared.SegmentRead.{SegmentRead}
 use Rattle.program.specs.declared.SegmentRead.TheVariants.{Good as segment-read, Bad as no-segment}
 use Rattle.program.specs.declared.TableSectionRead.{TableSectionRead}
 use Rattle.program.specs.declared.TableSectionRead.TheVariants.{Good as section-read, Bad as no-section}
-use Rattle.program.specs.Sections.{lastWord, bankOf, withDbank, withIbank, segmentOf, tableSectionOf}
+use Rattle.program.specs.Sections.{last_word, bank_of, with_dbank, with_ibank, segment_of, table_section_of}
 use Rattle.program.specs.Pieces.{closes}
 use Rattle.program.specs.Pieces.Head.{SegmentHead, TableHead, GroupHead}
-use Rattle.program.proofs.Heads.{head-segment, head-table, head-group}
-use Rattle.program.proofs.Pieces.{pieces-on, Onward}
+use Rattle.program.proofs.Heads.{head_segment, head_table, head_group}
+use Rattle.program.proofs.Pieces.{pieces_on, Onward}
 use Rattle.group.specs.declared.GroupStep.{GroupStep}
-use Rattle.group.specs.declared.GroupStep.TheVariants.{Done as group-done, Refused as group-refused}
+use Rattle.group.specs.declared.GroupStep.TheVariants.{Done as group_done, Refused as group_refused}
 use Rattle.group.specs.declared.Section.{Section}
 use Rattle.group.specs.declared.Section.TheVariants.{Segment as in-segment}
-use Rattle.group.specs.Group.{groupStep}
+use Rattle.group.specs.Group.{group_step}
 use Rattle.group.specs.Places.{Placed}
 use Rattle.group.proofs.FieldFaults.{Among}
-use Rattle.group.proofs.Faults.{OfItem, of-first, ofGroup, group-faults}
+use Rattle.group.proofs.Faults.{OfItem, of_first, IsOfGroup, group_faults}
 use Rattle.group.proofs.Group as groups
 use Rattle.stage.specs.declared.LabelCounts.{LabelCounts}
 use Rattle.stage.specs.declared.Due.{Due}
 use Rattle.stage.specs.declared.Due.TheVariants.{Segment as segment-due, SegmentGroup, Section as section-due, SectionGroup}
 use Rattle.stage.specs.declared.Stage.{Stage}
 use Rattle.stage.specs.declared.Stage.TheVariants.{Program, Termination}
-use Rattle.stage.specs.Ranges.{labelCountsFit, bankFits, sectionFits, stageFits}
+use Rattle.stage.specs.Ranges.{label_counts_fit, bank_fits, section_fits, stage_fits}
 use Rattle.stage.specs.declared.Step.{Step}
 use Rattle.stage.specs.declared.Step.TheVariants.{More, Done, Refused as step-refused}
 use Rattle.sections.specs.declared.Item.{Item}
 use Rattle.sections.specs.declared.Item.TheVariants.{Go, Last, Refused}
 use Rattle.lists.specs.Load.{Load}
 use Rattle.sections.specs.Waits.{assignments}
-use Rattle.sections.specs.Heads.{banksFit, withSegment, segmentStep, withSection, sectionStep}
-use Rattle.sections.specs.Program.{inSection, afterLast, afterGroup, itemStep}
-use Rattle.sections.proofs.Ranges.{StageFits, LabelCountsFit, BankFits, says_first, says-segment, says-section, says-table}
+use Rattle.sections.specs.Heads.{banks_fit, with_segment, segment_step, with_section, section_step}
+use Rattle.sections.specs.Program.{in_section, after_last, after_group, item_step}
+use Rattle.sections.proofs.Ranges.{StageFits, LabelCountsFit, BankFits, says_first, says_segment, says_section, says_table}
 
 -- a fault of a program block
 abbrev pub OfProgram : List ℕ → Fault → Type 0
@@ -73,168 +73,168 @@ ItemLeads x block s i (Last ibank) = StageFits x s → StageFits x (Termination 
 ItemLeads x block s i (Refused f) = OfItem 17 block i f
 
 -- ---- heads
-module _ (block : List ℕ) (i : ℕ) (top : i ≤ lastWord) where
+module _ (block : List ℕ) (i : ℕ) (top : i ≤ last_word) where
   abbrev OfHead : Fault → Type 0
   OfHead f = OfItem 17 block i f
 
-  is-17 : OfHead (fault 17)
-  is-17 = of-first 17 17 block i top (omega arith) (omega arith)
+  is_17 : OfHead (fault 17)
+  is_17 = of_first 17 17 block i top (omega arith) (omega arith)
 
-  abbrev ofBank : BankRead → Type 0
-  ofBank (bank-read b) = Unit {0}
-  ofBank (no-bank f) = OfHead f
+  abbrev IsOfBank : BankRead → Type 0
+  IsOfBank (bank-read b) = Unit {0}
+  IsOfBank (no-bank f) = OfHead f
 
-  abbrev ofSegment : SegmentRead → Type 0
-  ofSegment (segment-read g) = Unit {0}
-  ofSegment (no-segment f) = OfHead f
+  abbrev IsOfSegment : SegmentRead → Type 0
+  IsOfSegment (segment-read g) = Unit {0}
+  IsOfSegment (no-segment f) = OfHead f
 
-  abbrev ofSection : TableSectionRead → Type 0
-  ofSection (section-read t) = Unit {0}
-  ofSection (no-section f) = OfHead f
+  abbrev IsOfSection : TableSectionRead → Type 0
+  IsOfSection (section-read t) = Unit {0}
+  IsOfSection (no-section f) = OfHead f
 
-  bank-fault : (w : ℕ) → ofBank (bankOf w)
-  unfolding bankOf
-  bank-fault w = both ofBank (eqb (part 34 2 w) 0) (both ofBank (eqb (part 16 2 w) 0) tt is-17) is-17
+  bank_fault : (w : ℕ) → IsOfBank (bank_of w)
+  unfolding bank_of
+  bank_fault w = both IsOfBank (eqb (part 34 2 w) 0) (both IsOfBank (eqb (part 16 2 w) 0) tt is_17) is_17
 
-  dbank-fault : (b : Bank) (d : BankRead) → ofBank d → ofSegment (withDbank b d)
-  dbank-fault b (bank-read d) h = tt
-  dbank-fault b (no-bank f) h = h
+  dbank_fault : (b : Bank) (d : BankRead) → IsOfBank d → IsOfSegment (with_dbank b d)
+  dbank_fault b (bank-read d) h = tt
+  dbank_fault b (no-bank f) h = h
 
-  ibank-fault : (b d : BankRead) → ofBank b → ofBank d → ofSegment (withIbank b d)
-  ibank-fault (bank-read b) d h k = both ofSegment (eqb b.count 0) is-17 (dbank-fault b d k)
-  ibank-fault (no-bank f) d h k = h
+  ibank_fault : (b d : BankRead) → IsOfBank b → IsOfBank d → IsOfSegment (with_ibank b d)
+  ibank_fault (bank-read b) d h k = both IsOfSegment (eqb b.count 0) is_17 (dbank_fault b d k)
+  ibank_fault (no-bank f) d h k = h
 
-  segment-fault : (v w : ℕ) → ofSegment (segmentOf v w)
-  unfolding segmentOf
-  segment-fault v w = ibank-fault (bankOf v) (bankOf w) (bank-fault v) (bank-fault w)
+  segment-fault : (v w : ℕ) → IsOfSegment (segment_of v w)
+  unfolding segment_of
+  segment-fault v w = ibank_fault (bank_of v) (bank_of w) (bank_fault v) (bank_fault w)
 
-  section-fault : (w : ℕ) → ofSection (tableSectionOf w)
-  unfolding tableSectionOf
-  section-fault w =
-      both ofSection (eqb (part 34 2 w) 1)
-      (both ofSection (eqb (part 8 10 w) 0) (both ofSection (eqb (part 18 16 w) 0) is-17 tt) is-17) is-17
+  section_fault : (w : ℕ) → IsOfSection (table_section_of w)
+  unfolding table_section_of
+  section_fault w =
+      both IsOfSection (eqb (part 34 2 w) 1)
+      (both IsOfSection (eqb (part 8 10 w) 0) (both IsOfSection (eqb (part 18 16 w) 0) is_17 tt) is_17) is_17
 
 module _ (x : Load) (block : List ℕ) where
-  banks-both : (g : Segment) → banksFit x.area x.tables g ≡ true → BankFits x g.ibank × BankFits x g.dbank
-  unfolding banksFit
-  banks-both g q =
-      let i = bankFits x.area g.ibank in
-      let d = bankFits x.area g.dbank in
+  banks_both : (g : Segment) → banks_fit x.area x.tables g ≡ true → BankFits x g.ibank × BankFits x g.dbank
+  unfolding banks_fit
+  banks_both g q =
+      let i = bank_fits x.area g.ibank in
+      let d = bank_fits x.area g.dbank in
       (and_left i _ q, and_left d _ (and_right i _ q))
 
-  with-segment : (c : LabelCounts) (i : ℕ) (top : i ≤ lastWord) → i + 3 ≤ lastWord → (r : SegmentRead) → ofSegment block i top r
-      → segmentOf (get_or block i 0) (get_or block (i + 1) 0) ≡ r
-      → ItemLeads x block (Program c segment-due) i (withSegment x.area x.tables c (i + 4) r)
-  unfolding withSegment
-  with-segment c i top h (segment-read g) k e =
-      when (ItemLeads x block (Program c segment-due) i) (banksFit x.area x.tables g)
+  with_segment_lem : (c : LabelCounts) (i : ℕ) (top : i ≤ last_word) → i + 3 ≤ last_word → (r : SegmentRead) → IsOfSegment block i top r
+      → segment_of (get_or block i 0) (get_or block (i + 1) 0) ≡ r
+      → ItemLeads x block (Program c segment-due) i (with_segment x.area x.tables c (i + 4) r)
+  unfolding with_segment
+  with_segment_lem c i top h (segment-read g) k e =
+      when (ItemLeads x block (Program c segment-due) i) (banks_fit x.area x.tables g)
       (λ q. (
         omega arith,
         omega arith,
-        λ f. (says-segment x c g).test (((says_first x c).fact f).0, banks-both g q),
-        λ n o. record { first = _; same = pieces-on block i n o (SegmentHead g) (head-segment block i g e) },
+        λ f. (says_segment x c g).test (((says_first x c).fact f).0, banks_both g q),
+        λ n o. record { first = _; same = pieces_on block i n o (SegmentHead g) (head_segment block i g e) },
       ))
-      (λ q. is-17 block i top)
-  with-segment c i top h (no-segment f) k e = k
+      (λ q. is_17 block i top)
+  with_segment_lem c i top h (no-segment f) k e = k
 
-  segment-leads : (c : LabelCounts) (i : ℕ) → i ≤ lastWord
-      → ItemLeads x block (Program c segment-due) i (segmentStep x.area x.tables c block i)
-  unfolding segmentStep
-  segment-leads c i top =
-      when (ItemLeads x block (Program c segment-due) i) (leb (i + 3) lastWord)
-      (λ q. with-segment c i top (leb-true (i + 3) lastWord q) (segmentOf (get_or block i 0) (get_or block (i + 1) 0))
+  segment_leads : (c : LabelCounts) (i : ℕ) → i ≤ last_word
+      → ItemLeads x block (Program c segment-due) i (segment_step x.area x.tables c block i)
+  unfolding segment_step
+  segment_leads c i top =
+      when (ItemLeads x block (Program c segment-due) i) (leb (i + 3) last_word)
+      (λ q. with_segment_lem c i top (leb-true (i + 3) last_word q) (segment_of (get_or block i 0) (get_or block (i + 1) 0))
       (segment-fault block i top (get_or block i 0) (get_or block (i + 1) 0)) refl)
-      (λ q. is-17 block i top)
+      (λ q. is_17 block i top)
 
   -- one section fewer to come is no more
-  fewer-fits : (io tables : ℕ) (c : LabelCounts) → labelCountsFit io tables c ≡ true
-      → labelCountsFit io tables (record { channels = c.channels; sections = c.sections - 1 }) ≡ true
-  unfolding labelCountsFit
-  fewer-fits io tables c q =
-      let s = (says-and (says-le c.channels io) (says-le c.sections tables)).fact q in
-      (says-and (says-le c.channels io) (says-le (c.sections - 1) tables)).test (s.0, omega arith)
+  fewer_fits : (io tables : ℕ) (c : LabelCounts) → label_counts_fit io tables c ≡ true
+      → label_counts_fit io tables (record { channels = c.channels; sections = c.sections - 1 }) ≡ true
+  unfolding label_counts_fit
+  fewer_fits io tables c q =
+      let s = (says_and (says_le c.channels io) (says_le c.sections tables)).fact q in
+      (says_and (says_le c.channels io) (says_le (c.sections - 1) tables)).test (s.0, omega arith)
 
-  with-section : (c : LabelCounts) (least : Reference) (ibank : Bank) (i : ℕ) (top : i ≤ lastWord) → (r : TableSectionRead)
-      → ofSection block i top r → tableSectionOf (get_or block i 0) ≡ r
-      → ItemLeads x block (Program c (section-due least ibank)) i (withSection x.tables c least.0 ibank (i + 1) r)
-  unfolding withSection
-  with-section c least ibank i top (section-read t) k e =
+  with_section_lem : (c : LabelCounts) (least : Reference) (ibank : Bank) (i : ℕ) (top : i ≤ last_word) → (r : TableSectionRead)
+      → IsOfSection block i top r → table_section_of (get_or block i 0) ≡ r
+      → ItemLeads x block (Program c (section-due least ibank)) i (with_section x.tables c least.0 ibank (i + 1) r)
+  unfolding with_section
+  with_section_lem c least ibank i top (section-read t) k e =
       both (ItemLeads x block (Program c (section-due least ibank)) i) (leb least.0 t.number.0)
-      (when (ItemLeads x block (Program c (section-due least ibank)) i) (sectionFits x.tables t)
+      (when (ItemLeads x block (Program c (section-due least ibank)) i) (section_fits x.tables t)
       (λ q. (
         omega arith,
         omega arith,
-        λ f. let d = (says-section x c least ibank).fact f in (says-table x
-            (record { channels = c.channels; sections = c.sections - 1 }) t ibank).test (fewer-fits _ _ c d.0, (q, d.1)),
-        λ n o. record { first = _; same = pieces-on block i n o (TableHead t) (head-table block i t e) },
+        λ f. let d = (says_section x c least ibank).fact f in (says_table x
+            (record { channels = c.channels; sections = c.sections - 1 }) t ibank).test (fewer_fits _ _ c d.0, (q, d.1)),
+        λ n o. record { first = _; same = pieces_on block i n o (TableHead t) (head_table block i t e) },
       ))
-      (λ q. is-17 block i top))
-      (is-17 block i top)
-  with-section c least ibank i top (no-section f) k e = k
+      (λ q. is_17 block i top))
+      (is_17 block i top)
+  with_section_lem c least ibank i top (no-section f) k e = k
 
-  section-leads : (c : LabelCounts) (least : Reference) (ibank : Bank) (i : ℕ) → i ≤ lastWord
-      → ItemLeads x block (Program c (section-due least ibank)) i (sectionStep x.tables c least.0 ibank block i)
-  unfolding sectionStep
-  section-leads c least ibank i top = with-section c least ibank i top (tableSectionOf (get_or block i 0))
-      (section-fault block i top (get_or block i 0)) refl
+  section_leads : (c : LabelCounts) (least : Reference) (ibank : Bank) (i : ℕ) → i ≤ last_word
+      → ItemLeads x block (Program c (section-due least ibank)) i (section_step x.tables c least.0 ibank block i)
+  unfolding section_step
+  section_leads c least ibank i top = with_section_lem c least ibank i top (table_section_of (get_or block i 0))
+      (section_fault block i top (get_or block i 0)) refl
 
   -- ---- groups: their section's stage fits, so what the section leaves fits
   module _ (c : LabelCounts) (same : Due) (least i : ℕ) (ibank : Bank)
       (fits : StageFits x (Program c same) → LabelCountsFit x c × BankFits x ibank) where
-    last-leads : (p : ℕ) → i < p → p ≤ 255 → GoesOn block i p → ItemLeads x block (Program c same) i (afterLast c least ibank p)
-    unfolding afterLast stageFits
-    last-leads p h k o =
+    last_leads : (p : ℕ) → i < p → p ≤ 255 → GoesOn block i p → ItemLeads x block (Program c same) i (after_last c least ibank p)
+    unfolding after_last stage_fits
+    last_leads p h k o =
         both (ItemLeads x block (Program c same) i) (eqb c.sections 0) (λ f. (fits f).1)
-        (h, k, λ f. (says-section x c (record { 0 = least }) ibank).test (fits f), o)
+        (h, k, λ f. (says_section x c (record { 0 = least }) ibank).test (fits f), o)
 
-    answer-leads : (r : GroupStep) → ofGroup block i r
-        → ((p : ℕ) (last : Bool) → r ≡ group-done p last → (i < p) × (p ≤ 255) × GoesOn block i p)
-        → ItemLeads x block (Program c same) i (afterGroup c same least ibank r)
-    unfolding afterGroup
-    answer-leads (group-done p last) h k =
+    answer_leads : (r : GroupStep) → IsOfGroup block i r
+        → ((p : ℕ) (last : Bool) → r ≡ group_done p last → (i < p) × (p ≤ 255) × GoesOn block i p)
+        → ItemLeads x block (Program c same) i (after_group c same least ibank r)
+    unfolding after_group
+    answer_leads (group_done p last) h k =
         let l = k p last refl in
-        both (ItemLeads x block (Program c same) i) last (last-leads p l.0 l.1 l.2) (l.0, l.1, λ f. f, l.2)
-    answer-leads (group-refused f) h k =
+        both (ItemLeads x block (Program c same) i) last (last_leads p l.0 l.1 l.2) (l.0, l.1, λ f. f, l.2)
+    answer_leads (group_refused f) h k =
         record { number = (omega (arith, h.number.0), h.number.1); inside = h.inside; place = h.place }
 
     -- behind a group that is read stands the next piece
-    group-on : (p : ℕ) (last : Bool) → groups.GroupEnded block i p last → GoesOn block i p
-    group-on p last e n o = record {
+    group_on : (p : ℕ) (last : Bool) → groups.GroupEnded block i p last → GoesOn block i p
+    group_on p last e n o = record {
       first = record { block = block; at = i; head = GroupHead e.group };
-      same = rw e.place (pieces-on block i n o (GroupHead e.group) (head-group block i e.group e.read));
+      same = rw e.place (pieces_on block i n o (GroupHead e.group) (head_group block i e.group e.read));
     }
 
-    group-leads : (section : Section) (core : List ℕ) → i ≤ lastWord
-        → ItemLeads x block (Program c same) i (afterGroup c same least ibank (groupStep (assignments x c) section block i core).answer)
-    group-leads section core top =
-        answer-leads (groupStep (assignments x c) section block i core).answer
-        (group-faults (assignments x c) section block i top core)
-        (λ p last q. let e = groups.group-done (assignments x c) section block i core p last q in
-        (e.after, e.most, group-on p last e))
+    group_leads : (section : Section) (core : List ℕ) → i ≤ last_word
+        → ItemLeads x block (Program c same) i (after_group c same least ibank (group_step (assignments x c) section block i core).answer)
+    group_leads section core top =
+        answer_leads (group_step (assignments x c) section block i core).answer
+        (group_faults (assignments x c) section block i top core)
+        (λ p last q. let e = groups.group_done (assignments x c) section block i core p last q in
+        (e.after, e.most, group_on p last e))
 
-  pub item-leads : (c : LabelCounts) (due : Due) (i : ℕ) (core : List ℕ) → i ≤ lastWord
-      → ItemLeads x block (Program c due) i (itemStep x c due block i core).item
-  unfolding itemStep
-  item-leads c segment-due i core h = segment-leads c i h
-  item-leads c (SegmentGroup g) i core h =
-      group-leads c (SegmentGroup g) 0 i g.ibank
-      (λ f. let d = (says-segment x c g).fact f in (d.0, d.1.0))
+  pub item_leads : (c : LabelCounts) (due : Due) (i : ℕ) (core : List ℕ) → i ≤ last_word
+      → ItemLeads x block (Program c due) i (item_step x c due block i core).item
+  unfolding item_step
+  item_leads c segment-due i core h = segment_leads c i h
+  item_leads c (SegmentGroup g) i core h =
+      group_leads c (SegmentGroup g) 0 i g.ibank
+      (λ f. let d = (says_segment x c g).fact f in (d.0, d.1.0))
       (in-segment g) core h
-  item-leads c (section-due t ibank) i core h = section-leads c t ibank i h
-  item-leads c (SectionGroup t ibank) i core h =
-      group-leads c (SectionGroup t ibank) (t.number.0 + 1) i ibank
-      (λ f. let d = (says-table x c t ibank).fact f in (d.0, d.1.1))
-      (inSection x t) core h
+  item_leads c (section-due t ibank) i core h = section_leads c t ibank i h
+  item_leads c (SectionGroup t ibank) i core h =
+      group_leads c (SectionGroup t ibank) (t.number.0 + 1) i ibank
+      (λ f. let d = (says_table x c t ibank).fact f in (d.0, d.1.1))
+      (in_section x t) core h
 
   -- an item that goes on goes to a later place, at most 255, and keeps the stage's numbers in their ranges
   module _ (c : LabelCounts) (due : Due) (i : ℕ) (core : List ℕ) (d : LabelCounts) (t : Due) (p : ℕ)
-      (e : (itemStep x c due block i core).item ≡ Go d t p)
-      (h : i ≤ lastWord) where
+      (e : (item_step x c due block i core).item ≡ Go d t p)
+      (h : i ≤ last_word) where
     leads : ItemLeads x block (Program c due) i (Go d t p)
-    leads = rw e at (item-leads c due i core h)
+    leads = rw e at (item_leads c due i core h)
 
-    pub item-onward : (i < p) × (p ≤ 255)
-    item-onward = (leads.0, leads.1)
+    pub item_onward : (i < p) × (p ≤ 255)
+    item_onward = (leads.0, leads.1)
 
-    pub item-fits : StageFits x (Program c due) → StageFits x (Program d t)
-    item-fits = leads.2
+    pub item_fits : StageFits x (Program c due) → StageFits x (Program d t)
+    item_fits = leads.2

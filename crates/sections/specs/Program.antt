@@ -2,16 +2,16 @@
 -- A section runs on through as many blocks as it needs."
 use Rattle.std.specs.Prelude.{ℕ, zero, suc, ◌+◌, ◌≡◌, cond, List, get_or, eqb}
 use Rattle.word.specs.Fault.{further}
-use Rattle.program.specs.Sections.{lastWord}
+use Rattle.program.specs.Sections.{last_word}
 use Rattle.program.specs.Pieces.{closes}
 use Rattle.program.specs.declared.Bank.{Bank}
 use Rattle.program.specs.declared.TableSection.{TableSection}
-use Rattle.lists.specs.Obey.{noTable}
+use Rattle.lists.specs.Obey.{no_table}
 use Rattle.group.specs.declared.Section.{Section as GroupSection}
 use Rattle.group.specs.declared.Section.TheVariants.{Segment as in-segment, Table as in_table}
 use Rattle.group.specs.declared.GroupStep.{GroupStep}
-use Rattle.group.specs.declared.GroupStep.TheVariants.{Done as group-done, Refused as group-refused}
-use Rattle.group.specs.Group.{GroupOutcome, groupStep}
+use Rattle.group.specs.declared.GroupStep.TheVariants.{Done as group_done, Refused as group_refused}
+use Rattle.group.specs.Group.{GroupOutcome, group_step}
 use Rattle.stage.specs.declared.LabelCounts.{LabelCounts}
 use Rattle.stage.specs.declared.Due.{Due}
 use Rattle.stage.specs.declared.Due.TheVariants.{Segment, SegmentGroup, Section, SectionGroup}
@@ -22,7 +22,7 @@ use Rattle.sections.specs.declared.Item.{Item}
 use Rattle.sections.specs.declared.Item.TheVariants.{Go, Last, Refused as Item-refused}
 use Rattle.lists.specs.Load.{Load}
 use Rattle.sections.specs.Waits.{assignments}
-use Rattle.sections.specs.Heads.{segmentStep, sectionStep}
+use Rattle.sections.specs.Heads.{segment_step, section_step}
 
 -- what an item leads to, and the core as its stores left it
 pub record ItemOutcome : Type 0 where
@@ -37,14 +37,14 @@ pub record ItemMeets (o : ItemOutcome) (item : Item) (core : List ℕ) : Type 0 
 
 -- of the section's last one: "After the last section's last group the rest of the block is disregarded and the termination block is
 -- due." Else the word of a table section is due, its number at least `least`.
-unfoldable pub afterLast : LabelCounts → ℕ → Bank → ℕ → Item
-afterLast c least ibank p =
+unfoldable pub after_last : LabelCounts → ℕ → Bank → ℕ → Item
+after_last c least ibank p =
     cond (eqb c.sections 0) (Last ibank) (Go c (Section (record { 0 = least }) ibank) p)
 
 -- of any other: the identifier of a group of the same section is due
-unfoldable pub afterGroup : LabelCounts → Due → ℕ → Bank → GroupStep → Item
-afterGroup c same least ibank (group-done p last) = cond last (afterLast c least ibank p) (Go c same p)
-afterGroup c same least ibank (group-refused f) = Item-refused f
+unfoldable pub after_group : LabelCounts → Due → ℕ → Bank → GroupStep → Item
+after_group c same least ibank (group_done p last) = cond last (after_last c least ibank p) (Go c same p)
+after_group c same least ibank (group_refused f) = Item-refused f
 
 -- ---- what stands at place i
 
@@ -53,24 +53,24 @@ abbrev pub headed : Item → List ℕ → ItemOutcome
 headed it core = record { item = it; core = core }
 
 abbrev pub grouped : LabelCounts → Due → ℕ → Bank → GroupOutcome → ItemOutcome
-grouped c same least ibank o = record { item = afterGroup c same least ibank o.answer; core = o.core }
+grouped c same least ibank o = record { item = after_group c same least ibank o.answer; core = o.core }
 
 -- the words that a group of a table section may store into: those of the table with its number, as many as it counts
-abbrev pub inSection : Load → TableSection → GroupSection
-inSection x t = in_table (get_or x.tables t.number.0 noTable) t.count
+abbrev pub in_section : Load → TableSection → GroupSection
+in_section x t = in_table (get_or x.tables t.number.0 no_table) t.count
 
 -- what is due there says how the word is read
-unfoldable pub itemStep : Load → LabelCounts → Due → List ℕ → ℕ → List ℕ → ItemOutcome
+unfoldable pub item_step : Load → LabelCounts → Due → List ℕ → ℕ → List ℕ → ItemOutcome
 -- "Segment section, first and once, four words"
-itemStep x c Segment block i core = headed (segmentStep x.area x.tables c block i) core
+item_step x c Segment block i core = headed (segment_step x.area x.tables c block i) core
 -- "Group addresses count from the Program Name": a group of the segment section; the table section after its last has any number
-itemStep x c (SegmentGroup g) block i core =
-    grouped c (SegmentGroup g) 0 g.ibank (groupStep (assignments x c) (in-segment g) block i core)
+item_step x c (SegmentGroup g) block i core =
+    grouped c (SegmentGroup g) 0 g.ibank (group_step (assignments x c) (in-segment g) block i core)
 -- "Table section, one word"
-itemStep x c (Section least ibank) block i core = headed (sectionStep x.tables c least.0 ibank block i) core
+item_step x c (Section least ibank) block i core = headed (section_step x.tables c least.0 ibank block i) core
 -- "or from the table's first word": a group of a table section; the next one's number is higher, "rising from section to section"
-itemStep x c (SectionGroup t ibank) block i core =
-    grouped c (SectionGroup t ibank) (t.number.0 + 1) ibank (groupStep (assignments x c) (inSection x t) block i core)
+item_step x c (SectionGroup t ibank) block i core =
+    grouped c (SectionGroup t ibank) (t.number.0 + 1) ibank (group_step (assignments x c) (in_section x t) block i core)
 
 -- ---- item after item
 pub record StepOutcome : Type 0 where
@@ -89,14 +89,14 @@ followed i (Last ibank) core next = record { step = More (Termination ibank); co
 followed i (Item-refused f) core next = record { step = Refused (further i f); core = core }
 
 -- n items at most, from place i on, `due` being due there
-unfoldable pub programFrom : ℕ → Load → LabelCounts → Due → List ℕ → ℕ → List ℕ → StepOutcome
-programFrom zero x c due block i core = record { step = More (Program c due); core = core }
-programFrom (suc n) x c due block i core =
+unfoldable pub program_from : ℕ → Load → LabelCounts → Due → List ℕ → ℕ → List ℕ → StepOutcome
+program_from zero x c due block i core = record { step = More (Program c due); core = core }
+program_from (suc n) x c due block i core =
     cond (closes block i)
     (record { step = More (Program c due); core = core })
-    (followed i (itemStep x c due block i core).item (itemStep x c due block i core).core
-    (λ d next p after. programFrom n x d next block p after))
+    (followed i (item_step x c due block i core).item (item_step x c due block i core).core
+    (λ d next p after. program_from n x d next block p after))
 
 -- each item takes a word or more, so 254 are all there can be
-unfoldable pub programStep : Load → LabelCounts → Due → List ℕ → List ℕ → StepOutcome
-programStep x c due block core = programFrom lastWord x c due block 1 core
+unfoldable pub program_step : Load → LabelCounts → Due → List ℕ → List ℕ → StepOutcome
+program_step x c due block core = program_from last_word x c due block 1 core

@@ -1,9 +1,9 @@
 // The words that head a section: the segment's four, and a table section's one.
 ghost use Rattle.std.specs.Prelude.{◌≡◌, ◌-◌, ◌≤◌};
 ghost use Rattle.word.specs.Lists.{every};
-ghost use Rattle.lists.specs.Load.{coreTables, Readable};
+ghost use Rattle.lists.specs.Load.{core_tables, Readable};
 ghost use Rattle.sections.specs.Waits.{HeadReady};
-ghost use Rattle.sections.specs.Heads.{besideTable, banksFit, segmentStep, sectionStep};
+ghost use Rattle.sections.specs.Heads.{beside_table, banks_fit, segment_step, section_step};
 
 use crate::{Item, Onward};
 use lists::Given;
@@ -15,7 +15,7 @@ use word::faults::FAULT_17;
 // The segment section's four words at place i: 17 where they do not stay in the block, are none, or the banks do not fit.
 pub fn segment_head(g: Given, lists: &[u64], c: LabelCounts, block: &[u64], i: usize) -> Item
     requires { HeadReady g lists.now block.now i }
-    ensures { result ≡ segmentStep g.area (coreTables g lists.now) c block.now i }
+    ensures { result ≡ segment_step g.area (core_tables g lists.now) c block.now i }
 {
     if LAST_WORD < i + 3 {
         return Item::Refused(FAULT_17);
@@ -42,7 +42,7 @@ pub fn section_head(
     i: usize,
 ) -> Item
     requires { HeadReady g lists.now block.now i }
-    ensures { result ≡ sectionStep (coreTables g lists.now) c o.least.0 o.ibank block.now i }
+    ensures { result ≡ section_step (core_tables g lists.now) c o.least.0 o.ibank block.now i }
 {
     match program::read_table_section(block[i]) {
         TableSectionRead::Good(t) => {
@@ -76,7 +76,7 @@ fn one_fewer(c: LabelCounts) -> LabelCounts
 // Whether the banks lie in the area and share no word with each other or a table.
 fn banks_fit(g: Given, lists: &[u64], segment: Segment) -> bool
     requires { Readable g lists.now }
-    ensures { result ≡ banksFit g.area (coreTables g lists.now) segment }
+    ensures { result ≡ banks_fit g.area (core_tables g lists.now) segment }
 {
     let area = g.area;
     let i = segment.ibank;
@@ -99,7 +99,7 @@ fn banks_fit(g: Given, lists: &[u64], segment: Segment) -> bool
 // Whether a bank in the area shares no word with a table.
 fn bank_beside_tables(g: Given, lists: &[u64], bank: Bank) -> bool
     requires { (Readable g lists.now) × (bank.at.0 ≤ g.area.size) }
-    ensures { result ≡ every (besideTable g.area bank) (coreTables g lists.now) }
+    ensures { result ≡ every (beside_table g.area bank) (core_tables g lists.now) }
 {
     let area = g.area;
     let tables = g.tables;

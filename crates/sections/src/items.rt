@@ -1,10 +1,10 @@
 // A program block, item after item: what is due at a place says how the word there is read.
 ghost use Rattle.std.specs.Prelude.{◌≡◌, ◌≤◌};
-ghost use Rattle.program.specs.Sections.{lastWord};
+ghost use Rattle.program.specs.Sections.{last_word};
 ghost use Rattle.lists.specs.Load.{load_of};
 ghost use Rattle.sections.specs.Waits.{KeptWaits};
-ghost use Rattle.sections.specs.Program.{afterLast, itemStep, programStep, ItemMeets, StepMeets};
-ghost use Rattle.sections.specs.HowTurns.{item_of, turn_of, turnAfter};
+ghost use Rattle.sections.specs.Program.{after_last, item_step, program_step, ItemMeets, StepMeets};
+ghost use Rattle.sections.specs.HowTurns.{item_of, turn_of, turn_after};
 
 use crate::{Awaited, Item, Onward, Turn, heads};
 use field::Assigned;
@@ -27,7 +27,7 @@ pub fn program_step(
     core: &mut [u64],
 ) -> Step
     requires { KeptWaits g lists.now (Stage.Program c due) block.now core.old }
-    ensures { StepMeets (programStep (load_of g lists.now) c due block.now core.old)
+    ensures { StepMeets (program_step (load_of g lists.now) c due block.now core.old)
         result core.new }
 {
     let mut counts = c;
@@ -62,8 +62,8 @@ pub fn program_step(
 // the two calls the group step: with two callers the compiler makes it a function of its own, whose loop then has the registers to
 // itself.
 fn item_step(g: Given, lists: &[u64], w: Awaited, block: &[u64], i: usize, core: &mut [u64]) -> Turn
-    requires { (KeptWaits g lists.now (Stage.Program w.counts w.due) block.now core.old) × (i ≤ lastWord) }
-    ensures { ItemMeets (itemStep (load_of g lists.now) w.counts w.due block.now i
+    requires { (KeptWaits g lists.now (Stage.Program w.counts w.due) block.now core.old) × (i ≤ last_word) }
+    ensures { ItemMeets (item_step (load_of g lists.now) w.counts w.due block.now i
         core.old) (item_of w.counts w.due result) core.new }
 {
     let c = w.counts;
@@ -107,7 +107,7 @@ fn turn_of(it: Item) -> Turn
 
 // What is due after a group: a group of the same section, or what follows the section's last one.
 fn after_group(c: LabelCounts, o: Onward, r: GroupStep) -> Turn
-    ensures { result ≡ turnAfter c o.least.0 o.ibank r }
+    ensures { result ≡ turn_after c o.least.0 o.ibank r }
 {
     match r {
         GroupStep::Done(p, last) => {
@@ -122,7 +122,7 @@ fn after_group(c: LabelCounts, o: Onward, r: GroupStep) -> Turn
 
 // What is due after a section: a table section, or after the last one the termination block.
 fn after_last(c: LabelCounts, o: Onward, p: usize) -> Turn
-    ensures { result ≡ turn_of (afterLast c o.least.0 o.ibank p) }
+    ensures { result ≡ turn_of (after_last c o.least.0 o.ibank p) }
 {
     let least = o.least;
     let ibank = o.ibank;

@@ -8,22 +8,22 @@ use borrow.Author.Tests.{eq-eqb}
 use Rattle.word.specs.Word.{part, bits, is_set, lowest}
 use Rattle.word.specs.declared.Half.{Half}
 use Rattle.word.proofs.Cases.{both}
-use Rattle.word.proofs.Word.{flag-below, part-below}
+use Rattle.word.proofs.Word.{flag_below, part_below}
 use Rattle.label.specs.declared.Counts.{Counts}
 use Rattle.source.specs.declared.Change.{Change}
 use Rattle.word.specs.Word.{flag}
-use Rattle.source.specs.Change.{changeNumber, changeIn, hasForm, clearFor}
-use Rattle.source.specs.Fits.{standsIn, changeFits}
+use Rattle.source.specs.Change.{change_number, change_in, has_form, clear_for}
+use Rattle.source.specs.Fits.{stands_in, change_fits}
 
 abbrev Short : Change → Type 0
-Short c = changeNumber c < 2 ^ 64
+Short c = change_number c < 2 ^ 64
 
 -- the numbers in it are of 8 and 16 bits
-pub number_short : (n : ℕ) → changeNumber (changeIn n) < 2 ^ 64
-unfolding changeNumber changeIn
+pub number_short : (n : ℕ) → change_number (change_in n) < 2 ^ 64
+unfolding change_number change_in
 number_short n =
-    let m = flag-below (is_set 4 n) in
-    let s = flag-below (is_set 5 n) in
+    let m = flag_below (is_set 4 n) in
+    let s = flag_below (is_set 5 n) in
     both Short (eqb (bits 3 0 n) 8) (omega arith)
     (both Short (eqb (bits 3 0 n) 9) (omega arith)
     (both Short (eqb (bits 3 0 n) 10) (omega arith)
@@ -32,8 +32,8 @@ number_short n =
 
 -- of no bits, none is set
 pub none-set : (k w : ℕ) → true ≡ eqb (part k 0 w) 0
-none-set k w = sym (eq-eqb (part k 0 w) 0 (omega (arith, part-below k 0 w)))
+none-set k w = sym (eq-eqb (part k 0 w) 0 (omega (arith, part_below k 0 w)))
 
-pub none-fits : (n : Counts) (h : Half) (w : ℕ) → true ≡ changeFits n h w 0
-unfolding changeFits hasForm changeNumber changeIn standsIn clearFor
+pub none-fits : (n : Counts) (h : Half) (w : ℕ) → true ≡ change_fits n h w 0
+unfolding change_fits has_form change_number change_in stands_in clear_for
 none-fits n h w = none-set (lowest h) w

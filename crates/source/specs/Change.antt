@@ -9,55 +9,55 @@ use Rattle.source.specs.declared.Change.{Change}
 use Rattle.source.specs.declared.Change.TheVariants.{Same, Move, Pair, Constant, ToChannel, ToUnit}
 
 -- the number that a change goes in as
-unfoldable pub changeNumber : Change → ℕ
-changeNumber Same = 0
-changeNumber Move = 8
-changeNumber (Pair minus address length) = 9 + 2 ^ 4 * flag minus + 2 ^ 8 * address.0 + 2 ^ 16 * length.0
-changeNumber (Constant minus sized table amount) =
+unfoldable pub change_number : Change → ℕ
+change_number Same = 0
+change_number Move = 8
+change_number (Pair minus address length) = 9 + 2 ^ 4 * flag minus + 2 ^ 8 * address.0 + 2 ^ 16 * length.0
+change_number (Constant minus sized table amount) =
     10 + 2 ^ 4 * flag minus + 2 ^ 5 * flag sized + 2 ^ 8 * table.0 + 2 ^ 16 * amount
-changeNumber (ToChannel k) = 12 + 2 ^ 8 * k.0
-changeNumber (ToUnit k) = 15 + 2 ^ 8 * k.0
+change_number (ToChannel k) = 12 + 2 ^ 8 * k.0
+change_number (ToUnit k) = 15 + 2 ^ 8 * k.0
 
 -- the number in bits 8-15 of a change's number, and the one in bits 16-31
-abbrev pub firstIn : ℕ → Reference
-firstIn n = record { 0 = bits 15 8 n }
+abbrev pub first_in : ℕ → Reference
+first_in n = record { 0 = bits 15 8 n }
 
-abbrev pub secondIn : ℕ → ℕ
-secondIn n = bits 31 16 n
+abbrev pub second_in : ℕ → ℕ
+second_in n = bits 31 16 n
 
 -- the change that a number means, by its low four bits
-unfoldable pub changeIn : ℕ → Change
-changeIn n =
+unfoldable pub change_in : ℕ → Change
+change_in n =
     cond (eqb (bits 3 0 n) 8) Move
-    (cond (eqb (bits 3 0 n) 9) (Pair (is_set 4 n) (firstIn n) (record { 0 = secondIn n }))
-    (cond (eqb (bits 3 0 n) 10) (Constant (is_set 4 n) (is_set 5 n) (firstIn n) (secondIn n))
-    (cond (eqb (bits 3 0 n) 12) (ToChannel (firstIn n))
-    (cond (eqb (bits 3 0 n) 15) (ToUnit (firstIn n))
+    (cond (eqb (bits 3 0 n) 9) (Pair (is_set 4 n) (first_in n) (record { 0 = second_in n }))
+    (cond (eqb (bits 3 0 n) 10) (Constant (is_set 4 n) (is_set 5 n) (first_in n) (second_in n))
+    (cond (eqb (bits 3 0 n) 12) (ToChannel (first_in n))
+    (cond (eqb (bits 3 0 n) 15) (ToUnit (first_in n))
     Same))))
 
 -- "All other bits, and those that the type has no use for, are zero": a number is that of a change just where it is the number of
 -- the change that it means
-unfoldable pub hasForm : ℕ → Bool
-hasForm n = eqb (changeNumber (changeIn n)) n
+unfoldable pub has_form : ℕ → Bool
+has_form n = eqb (change_number (change_in n)) n
 
 -- the bits of the word that a change fills: "the field for 001, 010 and 111, bits 25-22 for 100"; none for 000, which "moves the field
 -- that is there"
-abbrev pub filledLowest : Half → Change → ℕ
-filledLowest h Same = lowest h
-filledLowest h Move = lowest h
-filledLowest h (Pair minus address length) = lowest h
-filledLowest h (Constant minus sized table amount) = lowest h
-filledLowest h (ToChannel k) = 22
-filledLowest h (ToUnit k) = lowest h
+abbrev pub filled_lowest : Half → Change → ℕ
+filled_lowest h Same = lowest h
+filled_lowest h Move = lowest h
+filled_lowest h (Pair minus address length) = lowest h
+filled_lowest h (Constant minus sized table amount) = lowest h
+filled_lowest h (ToChannel k) = 22
+filled_lowest h (ToUnit k) = lowest h
 
-abbrev pub filledWidth : Change → ℕ
-filledWidth Same = 0
-filledWidth Move = 0
-filledWidth (Pair minus address length) = 16
-filledWidth (Constant minus sized table amount) = 16
-filledWidth (ToChannel k) = 4
-filledWidth (ToUnit k) = 16
+abbrev pub filled_width : Change → ℕ
+filled_width Same = 0
+filled_width Move = 0
+filled_width (Pair minus address length) = 16
+filled_width (Constant minus sized table amount) = 16
+filled_width (ToChannel k) = 4
+filled_width (ToUnit k) = 16
 
 -- "The bits of the word that a change fills .. are zero"
-unfoldable pub clearFor : Half → Change → ℕ → Bool
-clearFor h c w = eqb (part (filledLowest h c) (filledWidth c) w) 0
+unfoldable pub clear_for : Half → Change → ℕ → Bool
+clear_for h c w = eqb (part (filled_lowest h c) (filled_width c) w) 0

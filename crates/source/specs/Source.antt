@@ -2,7 +2,7 @@
 use Rattle.std.specs.Prelude.{ℕ, ◌+◌, ◌*◌, ◌/◌, List, [], ◌∷◌, map, length, get_or}
 use Rattle.word.specs.declared.Relative.{Relative}
 use Rattle.label.specs.declared.Counts.{Counts}
-use Rattle.label.specs.Tables.{TableWord, countsOf}
+use Rattle.label.specs.Tables.{TableWord, counts_of}
 use Rattle.program.specs.declared.Bank.{Bank}
 use Rattle.program.specs.declared.TableSection.{TableSection}
 use Rattle.source.specs.declared.Entry.{Entry}
@@ -17,61 +17,61 @@ pub record Source : Type 0 where
 
 -- ---- "`head`, 8 numbers: the name's two words; 1 where longer tables are forbidden, else 0; IBANK's relative address, IBANK's
 -- count, DBANK's relative address, DBANK's count; the start, relative to the Program Name"
-abbrev pub headNumbers : ℕ
-headNumbers = 8
+abbrev pub head_numbers : ℕ
+head_numbers = 8
 
-abbrev pub ibankIn : List ℕ → Bank
-ibankIn head = record { at = record { 0 = get_or head 3 0 }; count = get_or head 4 0 }
+abbrev pub ibank_in : List ℕ → Bank
+ibank_in head = record { at = record { 0 = get_or head 3 0 }; count = get_or head 4 0 }
 
-abbrev pub dbankIn : List ℕ → Bank
-dbankIn head = record { at = record { 0 = get_or head 5 0 }; count = get_or head 6 0 }
+abbrev pub dbank_in : List ℕ → Bank
+dbank_in head = record { at = record { 0 = get_or head 5 0 }; count = get_or head 6 0 }
 
 abbrev pub start_in : List ℕ → Relative
 start_in head = record { 0 = get_or head 7 0 }
 
 -- ---- "`entries`, 4 numbers each, in the file's order (types rising): type 0, 2, 3 or 12; first word (tag); second word ..; least
 -- length"
-abbrev pub entryAt : List ℕ → ℕ → Entry
-entryAt entries i = record {
+abbrev pub entry_at : List ℕ → ℕ → Entry
+entry_at entries i = record {
   kind = get_or entries (4 * i) 0;
   first = get_or entries (4 * i + 1) 0;
   second = get_or entries (4 * i + 2) 0;
   least = get_or entries (4 * i + 3) 0;
 }
 
-unfoldable pub entriesIn : List ℕ → List Entry
-entriesIn entries = listed (entryAt entries) 0 (length entries / 4)
+unfoldable pub entries_in : List ℕ → List Entry
+entries_in entries = listed (entry_at entries) 0 (length entries / 4)
 
 -- how many entries there are of each type: each counts as a table of one entry does in a label
 abbrev pub as_table : Entry → TableWord
 as_table e = record { type = e.kind; entries = 1 }
 
-unfoldable pub countsIn : List ℕ → Counts
-countsIn entries = countsOf (map as_table (entriesIn entries))
+unfoldable pub counts_in : List ℕ → Counts
+counts_in entries = counts_of (map as_table (entries_in entries))
 
 -- ---- "`sections`, 2 numbers each: table number, count"
-abbrev pub sectionAt : List ℕ → ℕ → TableSection
-sectionAt sections i = record { number = record { 0 = get_or sections (2 * i) 0 }; count = get_or sections (2 * i + 1) 0 }
+abbrev pub section_at : List ℕ → ℕ → TableSection
+section_at sections i = record { number = record { 0 = get_or sections (2 * i) 0 }; count = get_or sections (2 * i + 1) 0 }
 
-abbrev pub sectionCount : List ℕ → ℕ
-sectionCount sections = length sections / 2
+abbrev pub section_count : List ℕ → ℕ
+section_count sections = length sections / 2
 
-unfoldable pub sectionsIn : List ℕ → List TableSection
-sectionsIn sections = listed (sectionAt sections) 0 (sectionCount sections)
+unfoldable pub sections_in : List ℕ → List TableSection
+sections_in sections = listed (section_at sections) 0 (section_count sections)
 
 -- the words of all of them
-unfoldable pub countedBy : List TableSection → ℕ
-countedBy [] = 0
-countedBy (t ∷ ts) = t.count + countedBy ts
+unfoldable pub counted_by : List TableSection → ℕ
+counted_by [] = 0
+counted_by (t ∷ ts) = t.count + counted_by ts
 
 -- ---- "`words`, 3 numbers each: word, left change, right change; first IBANK's, then DBANK's, then each section's, as many as the
 -- counts say"
-abbrev pub wantedAt : List ℕ → ℕ → Wanted
-wantedAt words k = record { word = get_or words (3 * k) 0; left = get_or words (3 * k + 1) 0; right = get_or words (3 * k + 2) 0 }
+abbrev pub wanted_at : List ℕ → ℕ → Wanted
+wanted_at words k = record { word = get_or words (3 * k) 0; left = get_or words (3 * k + 1) 0; right = get_or words (3 * k + 2) 0 }
 
 -- n of them, from number k on
-abbrev pub wantedFrom : List ℕ → ℕ → ℕ → List Wanted
-wantedFrom words k n = listed (wantedAt words) k n
+abbrev pub wanted_from : List ℕ → ℕ → ℕ → List Wanted
+wanted_from words k n = listed (wanted_at words) k n
 
-unfoldable pub wordCount : List ℕ → List ℕ → ℕ
-wordCount head sections = (ibankIn head).count + (dbankIn head).count + countedBy (sectionsIn sections)
+unfoldable pub word_count : List ℕ → List ℕ → ℕ
+word_count head sections = (ibank_in head).count + (dbank_in head).count + counted_by (sections_in sections)

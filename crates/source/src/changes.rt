@@ -2,8 +2,8 @@
 ghost use Rattle.std.specs.Prelude.{◌≡◌, ◌+◌, ◌<◌, ◌^◌, ◌&&◌, not, eqb, ltb, leb};
 ghost use Rattle.label.specs.HowTables.{FewEntries};
 ghost use Rattle.word.specs.Word.{flag};
-ghost use Rattle.source.specs.Change.{changeNumber, changeIn, hasForm, clearFor};
-ghost use Rattle.source.specs.Fits.{constantMost, standsIn, changeFits};
+ghost use Rattle.source.specs.Change.{change_number, change_in, has_form, clear_for};
+ghost use Rattle.source.specs.Fits.{constant_most, stands_in, change_fits};
 ghost use Rattle.source.specs.declared.Change.TheVariants.{ToChannel};
 
 use crate::Change;
@@ -26,7 +26,7 @@ pub const CONSTANT_MOST: u64 = 16383;
 
 // The change that a number means, by its low four bits.
 pub fn change_of(n: u64) -> Change
-    ensures { result ≡ changeIn n }
+    ensures { result ≡ change_in n }
 {
     let low = word::bits(n, 3, 0);
     let first = Reference(word::bits(n, 15, 8));
@@ -67,8 +67,8 @@ pub fn flag_of(b: bool) -> u64
 
 // The number that a change goes in as.
 pub fn change_number(c: Change) -> u64
-    requires { changeNumber c < 2 ^ 64 }
-    ensures { result ≡ changeNumber c }
+    requires { change_number c < 2 ^ 64 }
+    ensures { result ≡ change_number c }
 {
     match c {
         Change::Same => 0,
@@ -93,7 +93,7 @@ pub fn change_number(c: Change) -> u64
 
 // Whether a number is that of a change: no bit is set that its type has no use for.
 fn has_form(n: u64) -> bool
-    ensures { result ≡ hasForm n }
+    ensures { result ≡ has_form n }
 {
     change_number(change_of(n)) == n
 }
@@ -101,7 +101,7 @@ fn has_form(n: u64) -> bool
 // Whether the entries are there that a change names, and its constant is one.
 fn stands_in(n: Counts, h: Half, c: Change) -> bool
     requires { FewEntries n }
-    ensures { result ≡ standsIn n h c }
+    ensures { result ≡ stands_in n h c }
 {
     match c {
         Change::Same => true,
@@ -133,7 +133,7 @@ fn both_below(tables: u64, address: Reference, length: Reference) -> bool
 
 // "whose constant is over 16,383, or 010 with minus 0"
 fn constant_stands(tables: u64, minus: bool, table: Reference, amount: u64) -> bool
-    ensures { result ≡ (ltb table.0 tables && (leb amount constantMost && not (minus && eqb amount 0))) }
+    ensures { result ≡ (ltb table.0 tables && (leb amount constant_most && not (minus && eqb amount 0))) }
 {
     if tables <= table.0 {
         return false;
@@ -150,7 +150,7 @@ fn constant_stands(tables: u64, minus: bool, table: Reference, amount: u64) -> b
 // "left only"
 fn channel_stands(n: Counts, h: Half, k: Reference) -> bool
     requires { FewEntries n }
-    ensures { result ≡ standsIn n h (ToChannel k) }
+    ensures { result ≡ stands_in n h (ToChannel k) }
 {
     match h {
         Half::Left => k.0 < n.switches + n.channels,
@@ -170,7 +170,7 @@ fn unit_stands(n: Counts, k: Reference) -> bool
 
 // Whether the bits that a change fills are zero.
 pub fn clear_for(h: Half, c: Change, w: u64) -> bool
-    ensures { result ≡ clearFor h c w }
+    ensures { result ≡ clear_for h c w }
 {
     match c {
         Change::Same => true,
@@ -194,7 +194,7 @@ pub fn clear_for(h: Half, c: Change, w: u64) -> bool
 // Whether a file with so many entries can carry the change of this number, in a half of this word. Most halves have none.
 pub fn change_fits(n: Counts, h: Half, w: u64, number: u64) -> bool
     requires { FewEntries n }
-    ensures { result ≡ changeFits n h w number }
+    ensures { result ≡ change_fits n h w number }
 {
     if number == 0 {
         return true;

@@ -1,9 +1,9 @@
 // The entries of a file's modification record: whether a file can carry them, and how many there are of each type.
 ghost use Rattle.std.specs.Prelude.{◌≡◌, ◌&&◌, map, ◌+◌, ◌*◌, ◌≤◌, ◌<◌, ◌/◌, length};
 ghost use Rattle.word.specs.Lists.{every};
-ghost use Rattle.label.specs.Tables.{entriesOf};
-ghost use Rattle.source.specs.Source.{entryAt, entriesIn, as_table, countsIn};
-ghost use Rattle.source.specs.Fits.{rises, entryFits, type_of, entriesFit};
+ghost use Rattle.label.specs.Tables.{entries_of};
+ghost use Rattle.source.specs.Source.{entry_at, entries_in, as_table, counts_in};
+ghost use Rattle.source.specs.Fits.{rises, entry_fits, type_of, entries_fit};
 
 use crate::{Entry, MOST_16};
 use label::Counts;
@@ -18,7 +18,7 @@ const ENTRIES_MOST: usize = 256;
 // Entry number i.
 pub fn entry_at(entries: &[u64], i: usize) -> Entry
     requires { 4 * i + 3 < length entries.now }
-    ensures { result ≡ entryAt entries.now i }
+    ensures { result ≡ entry_at entries.now i }
 {
     Entry {
         kind: entries[4 * i],
@@ -30,7 +30,7 @@ pub fn entry_at(entries: &[u64], i: usize) -> Entry
 
 // Whether a file can carry these entries.
 pub fn all_fit(entries: &[u64]) -> bool
-    ensures { result ≡ entriesFit entries.now }
+    ensures { result ≡ entries_fit entries.now }
 {
     if entries.len() % ENTRY != 0 {
         return false;
@@ -46,8 +46,8 @@ pub fn all_fit(entries: &[u64]) -> bool
 
 // Whether each of them can be carried, and no type stands behind a greater one.
 fn each_fits(entries: &[u64]) -> bool
-    ensures { result ≡ (every entryFits (entriesIn entries.now)
-        && rises 0 0 (map type_of (entriesIn entries.now))) }
+    ensures { result ≡ (every entry_fits (entries_in entries.now)
+        && rises 0 0 (map type_of (entries_in entries.now))) }
 {
     let n = entries.len() / ENTRY;
     let mut least: u64 = 0;
@@ -67,7 +67,7 @@ fn each_fits(entries: &[u64]) -> bool
 }
 
 fn entry_fits(e: Entry) -> bool
-    ensures { result ≡ entryFits e }
+    ensures { result ≡ entry_fits e }
 {
     if !label::is_carried(e.kind) {
         return false;
@@ -89,7 +89,7 @@ fn entry_fits(e: Entry) -> bool
 
 // How many entries there are of each type.
 pub fn count(entries: &[u64]) -> Counts
-    ensures { result ≡ countsIn entries.now }
+    ensures { result ≡ counts_in entries.now }
 {
     Counts {
         switches: count_type(entries, label::JUMP_SWITCH),
@@ -100,7 +100,7 @@ pub fn count(entries: &[u64]) -> Counts
 }
 
 fn count_type(entries: &[u64], t: u64) -> u64
-    ensures { result ≡ entriesOf t (map as_table (entriesIn entries.now)) }
+    ensures { result ≡ entries_of t (map as_table (entries_in entries.now)) }
 {
     let n = entries.len() / ENTRY;
     let mut found: u64 = 0;

@@ -7,9 +7,9 @@ ghost use Rattle.std.specs.Prelude.{◌≡◌, ◌++◌, ◌+◌, ◌*◌, ◌/�
 ghost use Rattle.word.specs.Lists.{every};
 ghost use Rattle.block.specs.Fieldata.{characters};
 ghost use Rattle.label.specs.HowTables.{FewEntries};
-ghost use Rattle.label.specs.Name.{isName};
-ghost use Rattle.source.specs.Source.{Source, headNumbers, ibankIn, dbankIn, start_in, wantedAt, wantedFrom};
-ghost use Rattle.source.specs.Fits.{isBank, areBanks, headFits, wordFits, fits};
+ghost use Rattle.label.specs.Name.{is_name};
+ghost use Rattle.source.specs.Source.{Source, head_numbers, ibank_in, dbank_in, start_in, wanted_at, wanted_from};
+ghost use Rattle.source.specs.Fits.{is_bank, are_banks, head_fits, word_fits, fits};
 
 use label::{Counts, NameRead};
 use program::Bank;
@@ -90,7 +90,7 @@ pub fn can_carry(head: &[u64], entries: &[u64], sections: &[u64], words: &[u64])
 
 // The head: two words that spell a name, a flag, two banks, and a start in the IBANK.
 fn head_fits(head: &[u64]) -> bool
-    ensures { result ≡ headFits head.now }
+    ensures { result ≡ head_fits head.now }
 {
     if head.len() != HEAD {
         return false;
@@ -115,8 +115,8 @@ fn head_fits(head: &[u64]) -> bool
 
 // The banks and the start that a head gives.
 pub fn ibank(head: &[u64]) -> Bank
-    requires { length head.now ≡ headNumbers }
-    ensures { result ≡ ibankIn head.now }
+    requires { length head.now ≡ head_numbers }
+    ensures { result ≡ ibank_in head.now }
 {
     Bank {
         at: Relative(head[3]),
@@ -125,8 +125,8 @@ pub fn ibank(head: &[u64]) -> Bank
 }
 
 pub fn dbank(head: &[u64]) -> Bank
-    requires { length head.now ≡ headNumbers }
-    ensures { result ≡ dbankIn head.now }
+    requires { length head.now ≡ head_numbers }
+    ensures { result ≡ dbank_in head.now }
 {
     Bank {
         at: Relative(head[5]),
@@ -135,14 +135,14 @@ pub fn dbank(head: &[u64]) -> Bank
 }
 
 pub fn start(head: &[u64]) -> Relative
-    requires { length head.now ≡ headNumbers }
+    requires { length head.now ≡ head_numbers }
     ensures { result ≡ start_in head.now }
 {
     Relative(head[7])
 }
 
 fn is_bank(b: Bank) -> bool
-    ensures { result ≡ isBank b }
+    ensures { result ≡ is_bank b }
 {
     if MOST_16 < b.at.0 {
         return false;
@@ -154,7 +154,7 @@ fn is_bank(b: Bank) -> bool
 }
 
 fn are_banks(i: Bank, d: Bank) -> bool
-    ensures { result ≡ areBanks i d }
+    ensures { result ≡ are_banks i d }
 {
     if !is_bank(i) {
         return false;
@@ -171,7 +171,7 @@ fn are_banks(i: Bank, d: Bank) -> bool
 // Word number k, with its changes.
 pub fn wanted_at(words: &[u64], k: usize) -> Wanted
     requires { 3 * k + 2 < length words.now }
-    ensures { result ≡ wantedAt words.now k }
+    ensures { result ≡ wanted_at words.now k }
 {
     Wanted {
         word: words[3 * k],
@@ -183,7 +183,7 @@ pub fn wanted_at(words: &[u64], k: usize) -> Wanted
 // Whether each word and its changes can be carried, by a file with so many entries.
 fn words_fit(c: Counts, words: &[u64]) -> bool
     requires { FewEntries c }
-    ensures { result ≡ every (wordFits c) (wantedFrom words.now 0 (length words.now / 3)) }
+    ensures { result ≡ every (word_fits c) (wanted_from words.now 0 (length words.now / 3)) }
 {
     let n = words.len() / WANTED;
     let mut i: usize = 0;
@@ -198,7 +198,7 @@ fn words_fit(c: Counts, words: &[u64]) -> bool
 
 fn word_fits(c: Counts, x: Wanted) -> bool
     requires { FewEntries c }
-    ensures { result ≡ wordFits c x }
+    ensures { result ≡ word_fits c x }
 {
     if WORD_LIMIT <= x.word {
         return false;
@@ -210,7 +210,7 @@ fn word_fits(c: Counts, x: Wanted) -> bool
 }
 
 fn is_name(first: u64, second: u64) -> bool
-    ensures { result ≡ isName (characters 6 first ++ characters 6 second) }
+    ensures { result ≡ is_name (characters 6 first ++ characters 6 second) }
 {
     match label::name::read_name(first, second) {
         NameRead::Good => true,

@@ -1,8 +1,8 @@
 // The table sections of a file: whether a file can carry them, and how many words they have.
 ghost use Rattle.std.specs.Prelude.{◌≡◌, ◌&&◌, map, ◌+◌, ◌*◌, ◌<◌, length};
 ghost use Rattle.word.specs.Lists.{every};
-ghost use Rattle.source.specs.Source.{sectionAt, sectionsIn, countedBy};
-ghost use Rattle.source.specs.Fits.{rises, sectionFits, number_of, sectionsFit, SectionsReady};
+ghost use Rattle.source.specs.Source.{section_at, sections_in, counted_by};
+ghost use Rattle.source.specs.Fits.{rises, section_fits, number_of, sections_fit, SectionsReady};
 
 use crate::MOST_16;
 use program::TableSection;
@@ -14,7 +14,7 @@ const SECTION: usize = 2;
 // Section number i.
 pub fn section_at(sections: &[u64], i: usize) -> TableSection
     requires { 2 * i + 1 < length sections.now }
-    ensures { result ≡ sectionAt sections.now i }
+    ensures { result ≡ section_at sections.now i }
 {
     TableSection {
         number: Reference(sections[2 * i]),
@@ -24,7 +24,7 @@ pub fn section_at(sections: &[u64], i: usize) -> TableSection
 
 // Whether a file with so many core tables can carry these sections.
 pub fn all_fit(tables: u64, sections: &[u64]) -> bool
-    ensures { result ≡ sectionsFit tables sections.now }
+    ensures { result ≡ sections_fit tables sections.now }
 {
     if sections.len() % SECTION != 0 {
         return false;
@@ -37,8 +37,8 @@ pub fn all_fit(tables: u64, sections: &[u64]) -> bool
 
 // Whether each of them can be carried, and its number is greater than the one before it.
 fn each_fits(tables: u64, sections: &[u64]) -> bool
-    ensures { result ≡ (every (sectionFits tables) (sectionsIn sections.now)
-        && rises 1 0 (map number_of (sectionsIn sections.now))) }
+    ensures { result ≡ (every (section_fits tables) (sections_in sections.now)
+        && rises 1 0 (map number_of (sections_in sections.now))) }
 {
     let n = sections.len() / SECTION;
     let mut least: u64 = 0;
@@ -58,7 +58,7 @@ fn each_fits(tables: u64, sections: &[u64]) -> bool
 }
 
 fn section_fits(tables: u64, t: TableSection) -> bool
-    ensures { result ≡ sectionFits tables t }
+    ensures { result ≡ section_fits tables t }
 {
     if tables <= t.number.0 {
         return false;
@@ -72,7 +72,7 @@ fn section_fits(tables: u64, t: TableSection) -> bool
 // How many words the sections have.
 pub fn count_words(sections: &[u64]) -> u64
     requires { SectionsReady sections.now }
-    ensures { result ≡ countedBy (sectionsIn sections.now) }
+    ensures { result ≡ counted_by (sections_in sections.now) }
 {
     let n = sections.len() / SECTION;
     let mut sum: u64 = 0;

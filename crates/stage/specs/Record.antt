@@ -7,13 +7,13 @@ use Rattle.block.specs.declared.Record.TheVariants.{Program as program-record, T
 use Rattle.stage.specs.declared.Stage.{Stage}
 use Rattle.stage.specs.declared.Stage.TheVariants.{Label, Entry, Program, Termination, Complete, Broken}
 
-unfoldable pub recordDue : Stage → Record
-recordDue Label = label-record
-recordDue (Entry c exact b) = Modification
-recordDue (Program c due) = program-record
-recordDue (Termination i) = termination-record
-recordDue Complete = termination-record
-recordDue Broken = termination-record
+unfoldable pub record_due : Stage → Record
+record_due Label = label-record
+record_due (Entry c exact b) = Modification
+record_due (Program c due) = program-record
+record_due (Termination i) = termination-record
+record_due Complete = termination-record
+record_due Broken = termination-record
 
 -- refusal 10: "feed: the load is complete or broken"
 unfoldable pub is_over : Stage → Bool

@@ -1,10 +1,10 @@
 // What a load waits for: its stage, what a block leads to, how the desk keeps a stage in nine numbers, and the ranges that its
 // numbers have.
 ghost use Rattle.std.specs.Prelude.{◌≡◌, ◌&&◌, ◌+◌, ◌≤◌, ◌<◌, length};
-ghost use Rattle.lists.specs.Load.{coreTables, Readable};
-ghost use Rattle.stage.specs.Stage.{numbersOf, stageOf};
-ghost use Rattle.stage.specs.Ranges.{labelCountsFit, bankFits, sectionFits, dueFits, stageFits};
-ghost use Rattle.stage.specs.Record.{recordDue, is_over};
+ghost use Rattle.lists.specs.Load.{core_tables, Readable};
+ghost use Rattle.stage.specs.Stage.{numbers_of, stage_of};
+ghost use Rattle.stage.specs.Ranges.{label_counts_fit, bank_fits, section_fits, due_fits, stage_fits};
+ghost use Rattle.stage.specs.Record.{record_due, is_over};
 
 use block::Record;
 use lists::Given;
@@ -49,7 +49,7 @@ pub enum Step {
 
 // The record that a block must be of.
 pub fn record_due(s: Stage) -> Record
-    ensures { result ≡ recordDue s }
+    ensures { result ≡ record_due s }
 {
     match s {
         Stage::Label => Record::Label,
@@ -77,7 +77,7 @@ pub fn is_over(s: Stage) -> bool
 
 // A stage as nine numbers.
 pub fn stage_numbers(s: Stage) -> [u64; 9]
-    ensures { result ≡ numbersOf s }
+    ensures { result ≡ numbers_of s }
 {
     match s {
         Stage::Label => [0, 0, 0, 0, 0, 0, 0, 0, 0],
@@ -90,7 +90,7 @@ pub fn stage_numbers(s: Stage) -> [u64; 9]
 }
 
 fn entry_numbers(c: LabelCounts, exact: bool, b: u64) -> [u64; 9]
-    ensures { result ≡ numbersOf (Stage.Entry c exact b) }
+    ensures { result ≡ numbers_of (Stage.Entry c exact b) }
 {
     if exact {
         return [1, c.channels, c.sections, b, 1, 0, 0, 0, 0];
@@ -99,7 +99,7 @@ fn entry_numbers(c: LabelCounts, exact: bool, b: u64) -> [u64; 9]
 }
 
 fn due_numbers(c: LabelCounts, due: Due) -> [u64; 9]
-    ensures { result ≡ numbersOf (Stage.Program c due) }
+    ensures { result ≡ numbers_of (Stage.Program c due) }
 {
     match due {
         Due::Segment => [2, c.channels, c.sections, 0, 0, 0, 0, 0, 0],
@@ -110,7 +110,7 @@ fn due_numbers(c: LabelCounts, due: Due) -> [u64; 9]
 }
 
 fn segment_numbers(c: LabelCounts, g: Segment) -> [u64; 9]
-    ensures { result ≡ numbersOf (Stage.Program c (Due.SegmentGroup g)) }
+    ensures { result ≡ numbers_of (Stage.Program c (Due.SegmentGroup g)) }
 {
     let i = g.ibank;
     let d = g.dbank;
@@ -120,7 +120,7 @@ fn segment_numbers(c: LabelCounts, g: Segment) -> [u64; 9]
 }
 
 fn section_numbers(c: LabelCounts, t: TableSection, i: Bank) -> [u64; 9]
-    ensures { result ≡ numbersOf (Stage.Program c (Due.SectionGroup t i)) }
+    ensures { result ≡ numbers_of (Stage.Program c (Due.SectionGroup t i)) }
 {
     [
         5, c.channels, c.sections, t.number.0, t.count, i.at.0, i.count, 0, 0,
@@ -130,7 +130,7 @@ fn section_numbers(c: LabelCounts, t: TableSection, i: Bank) -> [u64; 9]
 // The stage that nine numbers of the desk tell.
 pub fn read_stage(n: &[u64]) -> Stage
     requires { length n.now ≡ 9 }
-    ensures { result ≡ stageOf n.now }
+    ensures { result ≡ stage_of n.now }
 {
     let tag = n[0];
     let c = LabelCounts {
@@ -179,7 +179,7 @@ fn section_of(number: u64, count: u64) -> TableSection
 // counts, so that the compiled code tells the variants apart once.
 pub fn stage_fits(g: Given, lists: &[u64], s: Stage) -> bool
     requires { Readable g lists.now }
-    ensures { result ≡ stageFits g.area (coreTables g lists.now) g.io s }
+    ensures { result ≡ stage_fits g.area (core_tables g lists.now) g.io s }
 {
     let area = g.area;
     let io = g.io;
@@ -205,7 +205,7 @@ pub fn stage_fits(g: Given, lists: &[u64], s: Stage) -> bool
 }
 
 fn label_counts_fit(io: u64, tables: u64, c: LabelCounts) -> bool
-    ensures { result ≡ labelCountsFit io tables c }
+    ensures { result ≡ label_counts_fit io tables c }
 {
     if io < c.channels {
         return false;
@@ -215,14 +215,14 @@ fn label_counts_fit(io: u64, tables: u64, c: LabelCounts) -> bool
 
 // Whether a bank lies in the area.
 pub fn bank_fits(area: Area, b: Bank) -> bool
-    ensures { result ≡ bankFits area b }
+    ensures { result ≡ bank_fits area b }
 {
     word::run_within(b.at.0, b.count, 0, area.size)
 }
 
 fn due_fits(g: Given, lists: &[u64], due: Due) -> bool
     requires { Readable g lists.now }
-    ensures { result ≡ dueFits g.area (coreTables g lists.now) due }
+    ensures { result ≡ due_fits g.area (core_tables g lists.now) due }
 {
     let area = g.area;
     match due {
@@ -248,7 +248,7 @@ fn due_fits(g: Given, lists: &[u64], due: Due) -> bool
 // Whether a table section is of a table that there is, and of no more words than the table has.
 pub fn section_fits(g: Given, lists: &[u64], t: TableSection) -> bool
     requires { Readable g lists.now }
-    ensures { result ≡ sectionFits (coreTables g lists.now) t }
+    ensures { result ≡ section_fits (core_tables g lists.now) t }
 {
     let number = t.number;
     if g.tables <= number.0 {

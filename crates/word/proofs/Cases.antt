@@ -41,9 +41,9 @@ pub and_assoc : (a b c : Bool) → ((a && b) && c) ≡ (a && (b && c))
 and_assoc true b c = refl
 and_assoc false b c = refl
 
-pub and-true : (b : Bool) → (b && true) ≡ b
-and-true true = refl
-and-true false = refl
+pub and_true : (b : Bool) → (b && true) ≡ b
+and_true true = refl
+and_true false = refl
 
 pub or-not : (a b : Bool) → (not a || b) ≡ true → a ≡ true → b ≡ true
 or-not true b q h = q
@@ -55,12 +55,12 @@ same_test true b f g = sym (f refl)
 same_test false true f g = g refl
 same_test false false f g = refl
 
-pub leb-iff : (a b c d : ℕ) → ((a ≤ b) ↔ (c ≤ d)) → leb a b ≡ leb c d
-leb-iff a b c d e = by-test (leb a b)
+pub leb_iff : (a b c d : ℕ) → ((a ≤ b) ↔ (c ≤ d)) → leb a b ≡ leb c d
+leb_iff a b c d e = by-test (leb a b)
     (λ q. q ∙ sym (le-leb c d (e.0 (leb-true a b q))))
     (λ q. q ∙ sym (by-test (leb c d)
     (λ r. let h = e.1 (leb-true c d r) in let k = leb-false a b q in absurd (omega arith))
     (λ r. r)))
 
 pub ltb_iff : (a b c d : ℕ) → ((a < b) ↔ (c < d)) → ltb a b ≡ ltb c d
-ltb_iff a b c d e = leb-iff (suc a) b (suc c) d e
+ltb_iff a b c d e = leb_iff (suc a) b (suc c) d e

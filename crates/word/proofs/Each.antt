@@ -6,9 +6,9 @@ use mathlib.Core.Bool.{Bool}
 use mathlib.Core.List.{List, [], ◌∷◌}
 use native.Mathlib.Omega.{arith}
 use lib.ListN.{length, get_or}
-use Rattle.word.specs.Lists.{every, everyTwo}
+use Rattle.word.specs.Lists.{every, every_two}
 use Rattle.word.specs.Runs.{Says}
-use Rattle.word.proofs.Says.{says-and, says-as}
+use Rattle.word.proofs.Says.{says_and, says_as}
 
 module _ {A : Type 0} (d : A) where
   -- what holds of the first element and of each place behind it holds of each place
@@ -17,26 +17,26 @@ module _ {A : Type 0} (d : A) where
   first-and-each P x xs p zero h = p.0
   first-and-each P x xs p (suc i) h = p.1 i (omega arith)
 
-  pub says-each : (f : A → Bool) (P : A → Type 0) → ((x : A) → Says (f x) (P x))
+  pub says_each : (f : A → Bool) (P : A → Type 0) → ((x : A) → Says (f x) (P x))
       → (l : List A) → Says (every f l) ((i : ℕ) → i < length l → P (get_or l i d))
   unfolding every
-  says-each f P s [] = record { fact = λ q i h. absurd (omega arith); test = λ g. refl }
-  says-each f P s (x ∷ xs) =
-      says-as (says-and (s x) (says-each f P s xs)) (first-and-each P x xs)
+  says_each f P s [] = record { fact = λ q i h. absurd (omega arith); test = λ g. refl }
+  says_each f P s (x ∷ xs) =
+      says_as (says_and (s x) (says_each f P s xs)) (first-and-each P x xs)
       (λ g. (g 0 (omega arith), λ i h. g (suc i) (omega arith)))
 
   -- the same of each two places, the earlier one first
-  first-and-two : (P : A → A → Type 0) (x : A) (xs : List A)
+  first-and_two : (P : A → A → Type 0) (x : A) (xs : List A)
       → ((j : ℕ) → j < length xs → P x (get_or xs j d)) × ((i j : ℕ) → i < j → j < length xs → P (get_or xs i d) (get_or xs j d))
       → (i j : ℕ) → i < j → j < length (x ∷ xs) → P (get_or (x ∷ xs) i d) (get_or (x ∷ xs) j d)
-  first-and-two P x xs p i zero h k = absurd (omega arith)
-  first-and-two P x xs p zero (suc j) h k = p.0 j (omega arith)
-  first-and-two P x xs p (suc i) (suc j) h k = p.1 i j (omega arith) (omega arith)
+  first-and_two P x xs p i zero h k = absurd (omega arith)
+  first-and_two P x xs p zero (suc j) h k = p.0 j (omega arith)
+  first-and_two P x xs p (suc i) (suc j) h k = p.1 i j (omega arith) (omega arith)
 
   pub says_two : (f : A → A → Bool) (P : A → A → Type 0) → ((x y : A) → Says (f x y) (P x y))
-      → (l : List A) → Says (everyTwo f l) ((i j : ℕ) → i < j → j < length l → P (get_or l i d) (get_or l j d))
-  unfolding everyTwo
+      → (l : List A) → Says (every_two f l) ((i j : ℕ) → i < j → j < length l → P (get_or l i d) (get_or l j d))
+  unfolding every_two
   says_two f P s [] = record { fact = λ q i j h k. absurd (omega arith); test = λ g. refl }
   says_two f P s (x ∷ xs) =
-      says-as (says-and (says-each (f x) (P x) (s x) xs) (says_two f P s xs)) (first-and-two P x xs)
+      says_as (says_and (says_each (f x) (P x) (s x) xs) (says_two f P s xs)) (first-and_two P x xs)
       (λ g. (λ j h. g 0 (suc j) (omega arith) (omega arith), λ i j h k. g (suc i) (suc j) (omega arith) (omega arith)))

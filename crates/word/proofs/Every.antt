@@ -5,7 +5,7 @@ use mathlib.Core.Bool.{Bool, true}
 use mathlib.Core.List.{List, [], ◌∷◌}
 use native.Mathlib.Omega.{arith}
 use lib.ListN.{length, get_or}
-use Rattle.word.specs.Lists.{every, everyTwo}
+use Rattle.word.specs.Lists.{every, every_two}
 use Rattle.word.proofs.Cases.{and_both, and_left, and_right}
 
 module _ {A : Type 0} (d : A) where
@@ -16,19 +16,19 @@ module _ {A : Type 0} (d : A) where
     every-place (x ∷ xs) zero h q = and_left (f x) (every f xs) q
     every-place (x ∷ xs) (suc i) h q = every-place xs i (omega arith) (and_right (f x) (every f xs) q)
 
-    pub every-by : (l : List A) → ((i : ℕ) → i < length l → f (get_or l i d) ≡ true) → every f l ≡ true
+    pub every_by : (l : List A) → ((i : ℕ) → i < length l → f (get_or l i d) ≡ true) → every f l ≡ true
     unfolding every
-    every-by [] h = refl
-    every-by (x ∷ xs) h = and_both (f x) (every f xs) (h 0 (omega arith)) (every-by xs (λ i k. h (suc i) (omega arith)))
+    every_by [] h = refl
+    every_by (x ∷ xs) h = and_both (f x) (every f xs) (h 0 (omega arith)) (every_by xs (λ i k. h (suc i) (omega arith)))
 
-  pub two-by : (f : A → A → Bool) (l : List A) → ((i j : ℕ) → i < j → j < length l → f (get_or l i d) (get_or l j d) ≡ true)
-      → everyTwo f l ≡ true
-  unfolding everyTwo
-  two-by f [] h = refl
-  two-by f (x ∷ xs) h =
-      and_both (every (f x) xs) (everyTwo f xs)
-      (every-by (f x) xs (λ j k. h 0 (suc j) (omega arith) (omega arith)))
-      (two-by f xs (λ i j l k. h (suc i) (suc j) (omega arith) (omega arith)))
+  pub two_by : (f : A → A → Bool) (l : List A) → ((i j : ℕ) → i < j → j < length l → f (get_or l i d) (get_or l j d) ≡ true)
+      → every_two f l ≡ true
+  unfolding every_two
+  two_by f [] h = refl
+  two_by f (x ∷ xs) h =
+      and_both (every (f x) xs) (every_two f xs)
+      (every_by (f x) xs (λ j k. h 0 (suc j) (omega arith) (omega arith)))
+      (two_by f xs (λ i j l k. h (suc i) (suc j) (omega arith) (omega arith)))
 
 -- what follows for each element follows for all
 pub every-then : {A : Type 0} (f g : A → Bool) → ((x : A) → f x ≡ true → g x ≡ true) → (l : List A) → every f l ≡ true

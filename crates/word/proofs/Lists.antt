@@ -13,7 +13,7 @@ use lib.Seq.{take-add, take-paste, take-append-le, drop-append-le, length-take-l
 use lib.Seq.{take_all, ext_get_or}
 use lib.Seq.{set_split, append_snoc}
 use Rattle.word.proofs.Cases.{by-lt}
-use Rattle.word.specs.Lists.{every, everyTwo, tab, range, splice}
+use Rattle.word.specs.Lists.{every, every_two, tab, range, splice}
 
 -- ---- a loop that answers false early: "the rest decides", b ≡ every f (drop i l)
 module _ {A : Type 0} where
@@ -22,26 +22,26 @@ module _ {A : Type 0} where
     unfolding every
     every_more h t q = q ∙ rw (drop-cons l i d h, t, add-one)
 
-    pub every-fails : i < length l → f (get_or l i d) ≡ false → b ≡ every f (drop i l) → false ≡ b
+    pub every_fails : i < length l → f (get_or l i d) ≡ false → b ≡ every f (drop i l) → false ≡ b
     unfolding every
-    every-fails h t q = sym (q ∙ rw (drop-cons l i d h, t))
+    every_fails h t q = sym (q ∙ rw (drop-cons l i d h, t))
 
     pub every-ends : length l ≤ i → b ≡ every f (drop i l) → true ≡ b
     unfolding every
     every-ends h q = sym (q ∙ rw (drop_of_length-le l h))
 
   module _ (f : A → A → Bool) (d : A) (l : List A) (i : ℕ) (b : Bool) where
-    pub two-more : i < length l → every (f (get_or l i d)) (drop (i + 1) l) ≡ true → b ≡ everyTwo f (drop i l)
-        → b ≡ everyTwo f (drop (i + 1) l)
-    unfolding everyTwo
-    two-more h t q = let u = rw add-one at t in q ∙ rw (drop-cons l i d h, u, add-one)
+    pub two_more : i < length l → every (f (get_or l i d)) (drop (i + 1) l) ≡ true → b ≡ every_two f (drop i l)
+        → b ≡ every_two f (drop (i + 1) l)
+    unfolding every_two
+    two_more h t q = let u = rw add-one at t in q ∙ rw (drop-cons l i d h, u, add-one)
 
-    pub two-fails : i < length l → every (f (get_or l i d)) (drop (i + 1) l) ≡ false → b ≡ everyTwo f (drop i l) → false ≡ b
-    unfolding everyTwo
-    two-fails h t q = let u = rw add-one at t in sym (q ∙ rw (drop-cons l i d h, u))
+    pub two_fails : i < length l → every (f (get_or l i d)) (drop (i + 1) l) ≡ false → b ≡ every_two f (drop i l) → false ≡ b
+    unfolding every_two
+    two_fails h t q = let u = rw add-one at t in sym (q ∙ rw (drop-cons l i d h, u))
 
-    pub two_ends : length l ≤ i → b ≡ everyTwo f (drop i l) → true ≡ b
-    unfolding everyTwo
+    pub two_ends : length l ≤ i → b ≡ every_two f (drop i l) → true ≡ b
+    unfolding every_two
     two_ends h q = sym (q ∙ rw (drop_of_length-le l h))
 
 -- ---- a list by what stands at each place
@@ -51,13 +51,13 @@ module _ {A : Type 0} (f : ℕ → A) where
   length-tab zero = refl
   length-tab (suc n) = length-append (tab f n) (f n ∷ []) ∙ ap (λ (k : ℕ). k + 1) (length-tab n) ∙ add-one n
 
-  pub getD-tab : (n k : ℕ) (d : A) → k < n → get_or (tab f n) k d ≡ f k
+  pub get_d_tab : (n k : ℕ) (d : A) → k < n → get_or (tab f n) k d ≡ f k
   unfolding tab
-  getD-tab zero k d h = absurd (omega arith)
-  getD-tab (suc n) k d h =
+  get_d_tab zero k d h = absurd (omega arith)
+  get_d_tab (suc n) k d h =
       let e = length-tab n in
       by-lt k n
-      (λ l. get_or-append (tab f n) (f n ∷ []) d k (omega arith) ∙ getD-tab n k d l)
+      (λ l. get_or-append (tab f n) (f n ∷ []) d k (omega arith) ∙ get_d_tab n k d l)
       (λ g. let s : k ≡ n = omega arith in rw s (get_or_at (tab f n) (f n) [] d n e))
 
   pub take-tab : (m n : ℕ) → m ≤ n → take m (tab f n) ≡ tab f m
@@ -78,25 +78,25 @@ pub length-range-min : (l : List ℕ) (a n : ℕ) → length (range l a n) ≡ m
 unfolding range
 length-range-min l a n = simp (length-take, length-drop)
 
-pub getD-range : (l : List ℕ) (a n i : ℕ) → i < n → get_or (range l a n) i 0 ≡ get_or l (a + i) 0
+pub get_d_range : (l : List ℕ) (a n i : ℕ) → i < n → get_or (range l a n) i 0 ≡ get_or l (a + i) 0
 unfolding range
-getD-range l a n i h = rw (get_or-take, get_or-drop)
+get_d_range l a n i h = rw (get_or-take, get_or-drop)
 
-pub length-range-most : (l : List ℕ) (a n : ℕ) → length (range l a n) ≤ n
-length-range-most l a n = omega (arith, length-range-min l a n)
+pub length-range_most : (l : List ℕ) (a n : ℕ) → length (range l a n) ≤ n
+length-range_most l a n = omega (arith, length-range-min l a n)
 
 -- a loop from place i up to place last: what is left is `range l i (last - i)`; a turn takes its first number, at the end none is
 -- left
 module _ (l : List ℕ) (i last : ℕ) where
-  pub range-turn : i < last → last ≤ length l → range l i (last - i) ≡ get_or l i 0 ∷ range l (i + 1) (last - (i + 1))
+  pub range_turn : i < last → last ≤ length l → range l i (last - i) ≡ get_or l i 0 ∷ range l (i + 1) (last - (i + 1))
   unfolding range
-  range-turn h k =
+  range_turn h k =
       let e : last - i ≡ suc (last - (i + 1)) = omega arith in
       rw (e, drop-cons l i 0 (omega arith), add-one i)
 
-  pub range-end : last ≤ i → range l i (last - i) ≡ []
+  pub range_end : last ≤ i → range l i (last - i) ≡ []
   unfolding range
-  range-end h =
+  range_end h =
       let e : last - i ≡ 0 = omega arith in
       rw e
 
@@ -152,19 +152,19 @@ range-splice-after l a vs to n h k =
     ∙ ap (λ (j : ℕ). drop j l) (add-sub_of_le h))
 
 -- number by number
-pub getD-splice-in : (l : List ℕ) (a : ℕ) (vs : List ℕ) (i : ℕ) → i < length vs → a + length vs ≤ length l
+pub get_d_splice_in : (l : List ℕ) (a : ℕ) (vs : List ℕ) (i : ℕ) → i < length vs → a + length vs ≤ length l
     → get_or (splice l a vs) (a + i) 0 ≡ get_or vs i 0
-getD-splice-in l a vs i h k =
-    sym (getD-range (splice l a vs) a (length vs) i h) ∙ ap (λ (m : List ℕ). get_or m i 0) (range-splice-same l a vs k)
+get_d_splice_in l a vs i h k =
+    sym (get_d_range (splice l a vs) a (length vs) i h) ∙ ap (λ (m : List ℕ). get_or m i 0) (range-splice-same l a vs k)
 
 -- a number read alone
-range-one : (l : List ℕ) (j : ℕ) → get_or (range l j 1) 0 0 ≡ get_or l j 0
-range-one l j = getD-range l j 1 0 (omega arith) ∙ ap (λ (k : ℕ). get_or l k 0) (omega arith)
+range_one : (l : List ℕ) (j : ℕ) → get_or (range l j 1) 0 0 ≡ get_or l j 0
+range_one l j = get_d_range l j 1 0 (omega arith) ∙ ap (λ (k : ℕ). get_or l k 0) (omega arith)
 
-pub getD-splice-out : (l : List ℕ) (a : ℕ) (vs : List ℕ) (j : ℕ) → a + length vs ≤ length l → (a ≤ j → j < a + length vs → ⊥)
+pub get_d_splice_out : (l : List ℕ) (a : ℕ) (vs : List ℕ) (j : ℕ) → a + length vs ≤ length l → (a ≤ j → j < a + length vs → ⊥)
     → get_or (splice l a vs) j 0 ≡ get_or l j 0
-getD-splice-out l a vs j k h =
-    sym (range-one (splice l a vs) j) ∙ ap (λ (m : List ℕ). get_or m 0 0) same ∙ range-one l j
+get_d_splice_out l a vs j k h =
+    sym (range_one (splice l a vs) j) ∙ ap (λ (m : List ℕ). get_or m 0 0) same ∙ range_one l j
   where
     same : range (splice l a vs) j 1 ≡ range l j 1
     same = by-lt j a
@@ -172,24 +172,24 @@ getD-splice-out l a vs j k h =
         (λ p. by-lt j (a + length vs) (λ q. absurd (h p q)) (λ q. range-splice-after l a vs j 1 q k))
 
 -- written inside a stretch: the stretch is written so
-pub range-splice-inner : (l : List ℕ) (a n o : ℕ) (vs : List ℕ) → a + n ≤ length l → o + length vs ≤ n
+pub range-splice_inner : (l : List ℕ) (a n o : ℕ) (vs : List ℕ) → a + n ≤ length l → o + length vs ≤ n
     → range (splice l (a + o) vs) a n ≡ splice (range l a n) o vs
-range-splice-inner l a n o vs h k =
+range-splice_inner l a n o vs h k =
     let r : length (range l a n) ≡ n = length-range l a n h in
     let w : length (splice l (a + o) vs) ≡ length l = length-splice l (a + o) vs (omega arith) in
     let s : length (range (splice l (a + o) vs) a n) ≡ n = length-range (splice l (a + o) vs) a n (omega arith) in
     let t : length (splice (range l a n) o vs) ≡ n = length-splice (range l a n) o vs (omega arith) ∙ r in
     ext_get_or 0 _ _ (s ∙ sym t)
     (λ i g. let m : i < n = omega arith in
-    getD-range (splice l (a + o) vs) a n i m ∙ by-lt i o
-    (λ p. getD-splice-out l (a + o) vs (a + i) (omega arith) (λ x y. omega arith)
-    ∙ sym (getD-splice-out (range l a n) o vs i (omega arith) (λ x y. omega arith) ∙ getD-range l a n i m))
+    get_d_range (splice l (a + o) vs) a n i m ∙ by-lt i o
+    (λ p. get_d_splice_out l (a + o) vs (a + i) (omega arith) (λ x y. omega arith)
+    ∙ sym (get_d_splice_out (range l a n) o vs i (omega arith) (λ x y. omega arith) ∙ get_d_range l a n i m))
     (λ p. by-lt i (o + length vs)
     (λ q. let e : a + o + (i - o) ≡ a + i = omega arith in let f : o + (i - o) ≡ i = omega arith in
-    rw e at (getD-splice-in l (a + o) vs (i - o) (omega arith) (omega arith))
-    ∙ sym (rw f at (getD-splice-in (range l a n) o vs (i - o) (omega arith) (omega arith))))
-    (λ q. getD-splice-out l (a + o) vs (a + i) (omega arith) (λ x y. omega arith)
-    ∙ sym (getD-splice-out (range l a n) o vs i (omega arith) (λ x y. omega arith) ∙ getD-range l a n i m))))
+    rw e at (get_d_splice_in l (a + o) vs (i - o) (omega arith) (omega arith))
+    ∙ sym (rw f at (get_d_splice_in (range l a n) o vs (i - o) (omega arith) (omega arith))))
+    (λ q. get_d_splice_out l (a + o) vs (a + i) (omega arith) (λ x y. omega arith)
+    ∙ sym (get_d_splice_out (range l a n) o vs i (omega arith) (λ x y. omega arith) ∙ get_d_range l a n i m))))
 
 -- one number written
 pub set-splice : (l : List ℕ) (i v : ℕ) → i < length l → set l i v ≡ splice l i (v ∷ [])
@@ -257,15 +257,15 @@ module _ (l s : List ℕ) (a n : ℕ) (into : a + n ≤ length l) (from : a + n 
       → set e (a + k) (get_or s (a + k) 0) ≡ copied l a (range s a n) (k + 1)
   copied_at k e h q =
       let r = length-range s a n from in
-      copied_more l a (range s a n) k e _ (omega arith) (omega arith) (sym (getD-range s a n k h)) q
+      copied_more l a (range s a n) k e _ (omega arith) (omega arith) (sym (get_d_range s a n k h)) q
 
   pub copied-first : 0 < n → set l a (get_or s a 0) ≡ copied l a (range s a n) 1
   copied-first h = rw (add-zero a) at (copied_at 0 l h (copied_none l a (range s a n)))
 
   -- what was alike up to the stretch is alike past it
-  pub alike-more : take a l ≡ take a s → take (a + n) (splice l a (range s a n)) ≡ take (a + n) s
+  pub alike_more : take a l ≡ take a s → take (a + n) (splice l a (range s a n)) ≡ take (a + n) s
   unfolding splice range
-  alike-more q =
+  alike_more q =
       let r : length (range s a n) ≡ n = length-range s a n from in
       rw r
       (take-paste l a (range s a n) n (omega arith) (omega arith) ∙ rw (take-add a n s, q, take_all n (range s a n) (omega arith)))
@@ -277,5 +277,5 @@ alike_all l s a h e q =
     let r : length (range s a n) ≡ n = length-range s a n (omega arith) in
     let w : length (splice l a (range s a n)) ≡ length l = length-splice l a (range s a n) (omega arith) in
     sym (take_all (a + n) (splice l a (range s a n)) (omega arith))
-    ∙ alike-more l s a n (omega arith) (omega arith) q
+    ∙ alike_more l s a n (omega arith) (omega arith) q
     ∙ take_all (a + n) s (omega arith)

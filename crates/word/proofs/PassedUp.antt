@@ -10,8 +10,8 @@ counted : (f : Fault) {m n : ℕ} → m ≡ n → ◌≡◌ {A = Fault} (record 
     (record { number = f.number; word = n; half = f.half; bit = f.bit })
 counted f e = ap (λ (n : ℕ). record { number = f.number; word = n; half = f.half; bit = f.bit }) e
 
-pub further-twice : (j k : ℕ) (f : Fault) → further j (further k f) ≡ further (j + k) f
-further-twice j k f = counted f (omega arith)
+pub further_twice : (j k : ℕ) (f : Fault) → further j (further k f) ≡ further (j + k) f
+further_twice j k f = counted f (omega arith)
 
 pub further-none : (f : Fault) → further 0 f ≡ f
 further-none f = counted f (omega arith)

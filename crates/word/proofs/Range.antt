@@ -11,7 +11,7 @@ use lib.Bits.{bit_or, or_lt, or_add_and, or_comm, and_le_r}
 use lib.Dec.{ltb}
 use borrow.Author.Tests.{lt-ltb, le-ltb}
 use Rattle.word.specs.Lists.{every}
-use Rattle.word.proofs.Cases.{by-lt, and_assoc, and-true}
+use Rattle.word.proofs.Cases.{by-lt, and_assoc, and_true}
 
 or_left : (a b : ℕ) → a ≤ bit_or a b
 or_left a b = omega (arith, or_add_and a b, and_le_r a b)
@@ -20,11 +20,11 @@ or_right : (a b : ℕ) → b ≤ bit_or a b
 or_right a b = rw (or_comm a b) (or_left b a)
 
 -- the test of one number
-abbrev pub isBelow : ℕ → ℕ → Bool
-isBelow n w = ltb w (2 ^ n)
+abbrev pub is_below : ℕ → ℕ → Bool
+is_below n w = ltb w (2 ^ n)
 
-pub or-below : (n a b : ℕ) → isBelow n (bit_or a b) ≡ (isBelow n a && isBelow n b)
-or-below n a b =
+pub or_below : (n a b : ℕ) → is_below n (bit_or a b) ≡ (is_below n a && is_below n b)
+or_below n a b =
     by-lt a (2 ^ n)
     (λ p. by-lt b (2 ^ n)
     (λ q. rw (lt-ltb (bit_or a b) (2 ^ n) (or_lt n a b p q), lt-ltb a (2 ^ n) p, lt-ltb b (2 ^ n) q))
@@ -33,14 +33,14 @@ or-below n a b =
 
 -- the loop: what was or'ed so far and the rest decide
 module _ (n : ℕ) (l : List ℕ) (any i : ℕ) where
-  pub any-more : i < length l → every (isBelow n) l ≡ (isBelow n any && every (isBelow n) (drop i l))
-      → every (isBelow n) l ≡ (isBelow n (bit_or any (get_or l i 0)) && every (isBelow n) (drop (i + 1) l))
+  pub any_more : i < length l → every (is_below n) l ≡ (is_below n any && every (is_below n) (drop i l))
+      → every (is_below n) l ≡ (is_below n (bit_or any (get_or l i 0)) && every (is_below n) (drop (i + 1) l))
   unfolding every
-  any-more h q =
-      q ∙ rw (drop-cons l i 0 h, add-one, or-below n any (get_or l i 0))
-      (sym (and_assoc (isBelow n any) (isBelow n (get_or l i 0)) (every (isBelow n) (drop (suc i) l))))
+  any_more h q =
+      q ∙ rw (drop-cons l i 0 h, add-one, or_below n any (get_or l i 0))
+      (sym (and_assoc (is_below n any) (is_below n (get_or l i 0)) (every (is_below n) (drop (suc i) l))))
 
-  pub any-end : length l ≤ i → every (isBelow n) l ≡ (isBelow n any && every (isBelow n) (drop i l))
-      → every (isBelow n) l ≡ isBelow n any
+  pub any_end : length l ≤ i → every (is_below n) l ≡ (is_below n any && every (is_below n) (drop i l))
+      → every (is_below n) l ≡ is_below n any
   unfolding every
-  any-end h q = q ∙ rw (drop_of_length-le l h) (and-true (isBelow n any))
+  any_end h q = q ∙ rw (drop_of_length-le l h) (and_true (is_below n any))

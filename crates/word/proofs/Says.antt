@@ -10,43 +10,43 @@ use borrow.Author.Tests.{ltb-true, leb-true, eqb-true, lt-ltb, le-leb, eq-eqb, n
 use Rattle.word.specs.Lists.{every}
 use Rattle.word.specs.Runs.{within, apart, Apart, Says}
 use Rattle.word.proofs.Cases.{by-eq, by-lt, and_both, and_left, and_right}
-use Rattle.word.proofs.Every.{every-place, every-by}
+use Rattle.word.proofs.Every.{every-place, every_by}
 
 pub says_eq : (m n : ℕ) → Says (eqb m n) (m ≡ n)
 says_eq m n = record { fact = eqb-true m n; test = eq-eqb m n }
 
-pub says-lt : (m n : ℕ) → Says (ltb m n) (m < n)
-says-lt m n = record { fact = ltb-true m n; test = lt-ltb m n }
+pub says_lt : (m n : ℕ) → Says (ltb m n) (m < n)
+says_lt m n = record { fact = ltb-true m n; test = lt-ltb m n }
 
-pub says-le : (m n : ℕ) → Says (leb m n) (m ≤ n)
-says-le m n = record { fact = leb-true m n; test = le-leb m n }
+pub says_le : (m n : ℕ) → Says (leb m n) (m ≤ n)
+says_le m n = record { fact = leb-true m n; test = le-leb m n }
 
-pub says-and : {a b : Bool} {P Q : Type 0} → Says a P → Says b Q → Says (a && b) (P × Q)
-says-and {a} {b} s t = record {
+pub says_and : {a b : Bool} {P Q : Type 0} → Says a P → Says b Q → Says (a && b) (P × Q)
+says_and {a} {b} s t = record {
   fact = λ h. (s.fact (and_left a b h), t.fact (and_right a b h));
   test = λ h. and_both a b (s.test h.0) (t.test h.1);
 }
 
 -- a test that says a fact in another wording
-pub says-as : {b : Bool} {P Q : Type 0} → Says b P → (P → Q) → (Q → P) → Says b Q
-says-as s f g = record { fact = λ h. f (s.fact h); test = λ q. s.test (g q) }
+pub says_as : {b : Bool} {P Q : Type 0} → Says b P → (P → Q) → (Q → P) → Says b Q
+says_as s f g = record { fact = λ h. f (s.fact h); test = λ q. s.test (g q) }
 
 -- a test of every element says the fact of each place
 module _ (f : ℕ → Bool) where
   pub every-at : (l : List ℕ) (i : ℕ) → i < length l → every f l ≡ true → f (get_or l i 0) ≡ true
   every-at = every-place 0 f
 
-  pub says-every : (l : List ℕ) {P : ℕ → Type 0} → ((x : ℕ) → Says (f x) (P x))
+  pub says_every : (l : List ℕ) {P : ℕ → Type 0} → ((x : ℕ) → Says (f x) (P x))
       → Says (every f l) ((i : ℕ) → i < length l → P (get_or l i 0))
-  says-every l s = record {
+  says_every l s = record {
     fact = λ h i k. (s (get_or l i 0)).fact (every-at l i k h);
-    test = λ g. every-by 0 f l (λ i k. (s (get_or l i 0)).test (g i k));
+    test = λ g. every_by 0 f l (λ i k. (s (get_or l i 0)).test (g i k));
   }
 
 -- runs
-pub says-within : (a n b m : ℕ) → Says (within a n b m) ((b ≤ a) × (a + n ≤ b + m))
+pub says_within : (a n b m : ℕ) → Says (within a n b m) ((b ≤ a) × (a + n ≤ b + m))
 unfolding within
-says-within a n b m = says-and (says-le b a) (says-le (a + n) (b + m))
+says_within a n b m = says_and (says_le b a) (says_le (a + n) (b + m))
 
 apart-each : (a n b m : ℕ) → apart a n b m ≡ true → Apart a n b m
 unfolding apart
@@ -67,5 +67,5 @@ each-apart a n b m w =
     (λ d. rw (ne_eqb n 0 z, ne_eqb m 0 y, lt-leb (a + n) b c, le-leb (b + m) a d)))
     (λ c. rw (ne_eqb n 0 z, ne_eqb m 0 y, le-leb (a + n) b c))))
 
-pub says-apart : (a n b m : ℕ) → Says (apart a n b m) (Apart a n b m)
-says-apart a n b m = record { fact = apart-each a n b m; test = each-apart a n b m }
+pub says_apart : (a n b m : ℕ) → Says (apart a n b m) (Apart a n b m)
+says_apart a n b m = record { fact = apart-each a n b m; test = each-apart a n b m }

@@ -12,22 +12,22 @@ abbrev pub fault : ℕ → Fault
 fault n = record { number = n; word = 0; half = Whole; bit = 0 }
 
 -- in the half h, before whose indicator stand b bits of the group's
-abbrev pub inHalf : Half → ℕ → Fault → Fault
-inHalf h b f = record { number = f.number; word = f.word; half = In h; bit = b }
+abbrev pub in_half : Half → ℕ → Fault → Fault
+in_half h b f = record { number = f.number; word = f.word; half = In h; bit = b }
 
 -- "the group, section and block steps pass this up, each adding its word number": what the reader was given starts k words on
 abbrev pub further : ℕ → Fault → Fault
 further k f = record { number = f.number; word = k + f.word; half = f.half; bit = f.bit }
 
 -- "1 for a left half, 2 for a right half, 0 otherwise"
-abbrev pub halfNumber : Side → ℕ
-halfNumber Whole = 0
-halfNumber (In Left) = 1
-halfNumber (In Right) = 2
+abbrev pub half_number : Side → ℕ
+half_number Whole = 0
+half_number (In Left) = 1
+half_number (In Right) = 2
 
 -- "the word number times 4, plus" that: the place as one number, without the bit
-abbrev pub placeValue : Fault → ℕ
-placeValue f = f.word * 4 + halfNumber f.half
+abbrev pub place_value : Fault → ℕ
+place_value f = f.word * 4 + half_number f.half
 
 -- x, unless b holds: then y. So a test and its refusal stand on one line, and the lines in 01's order.
 abbrev pub unless : {A : Type 0} → Bool → A → A → A

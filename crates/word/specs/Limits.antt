@@ -4,26 +4,26 @@
 use Rattle.std.specs.Prelude.{ℕ, ◌*◌}
 
 -- "Eight rooms, 0 to 7; twelve places, 0 to 11."
-abbrev pub roomCount : ℕ
-roomCount = 8
+abbrev pub room_count : ℕ
+room_count = 8
 
-abbrev pub placeCount : ℕ
-placeCount = 12
+abbrev pub place_count : ℕ
+place_count = 12
 
 -- "a map: eight pairs, start and length of each room's stretch"
-abbrev pub mapWords : ℕ
-mapWords = 2 * roomCount
+abbrev pub map_words : ℕ
+map_words = 2 * room_count
 
 -- refusal 2: "core length 0, over 65,536"
-abbrev pub coreMost : ℕ
-coreMost = 65536
+abbrev pub core_most : ℕ
+core_most = 65536
 
-abbrev pub ioMost : ℕ
-ioMost = 128
+abbrev pub io_most : ℕ
+io_most = 128
 
-abbrev pub tablesMost : ℕ
-tablesMost = 128
+abbrev pub tables_most : ℕ
+tables_most = 128
 
 -- "block not 256 words" is refused with 11
-abbrev pub wordsInBlock : ℕ
-wordsInBlock = 256
+abbrev pub words_in_block : ℕ
+words_in_block = 256

@@ -9,9 +9,9 @@ module _ {A : Type 0} where
   every f (x ∷ xs) = f x && every f xs
 
   -- f holds of every two elements, the earlier one first
-  unfoldable pub everyTwo : (A → A → Bool) → List A → Bool
-  everyTwo f [] = true
-  everyTwo f (x ∷ xs) = every (f x) xs && everyTwo f xs
+  unfoldable pub every_two : (A → A → Bool) → List A → Bool
+  every_two f [] = true
+  every_two f (x ∷ xs) = every (f x) xs && every_two f xs
 
   -- f of 0, 1, 2 and so on, n elements in all
   unfoldable pub tab : (ℕ → A) → ℕ → List A
@@ -19,9 +19,9 @@ module _ {A : Type 0} where
   tab f (suc n) = tab f n ++ (f n ∷ [])
 
 -- the first of the numbers 0, 1, 2 up to n that the test f fails; n where it fails none below
-unfoldable pub firstNot : (ℕ → Bool) → ℕ → ℕ
-firstNot f zero = zero
-firstNot f (suc n) = cond (f 0) (suc (firstNot (λ i. f (suc i)) n)) zero
+unfoldable pub first_not : (ℕ → Bool) → ℕ → ℕ
+first_not f zero = zero
+first_not f (suc n) = cond (f 0) (suc (first_not (λ i. f (suc i)) n)) zero
 
 -- the n numbers from place a on
 unfoldable pub range : List ℕ → ℕ → ℕ → List ℕ

@@ -5,15 +5,15 @@ use Rattle.word.specs.declared.Relative.{Relative}
 use Rattle.word.specs.declared.Absolute.{Absolute}
 use Rattle.word.specs.declared.Area.{Area}
 use Rattle.word.specs.declared.Half.TheVariants.{Right}
-use Rattle.word.specs.Word.{field_of, fieldStored}
+use Rattle.word.specs.Word.{field_of, field_stored}
 
-abbrev pub absoluteOf : Area → Relative → Absolute
-absoluteOf area r = record { 0 = area.at.0 + r.0 }
+abbrev pub absolute_of : Area → Relative → Absolute
+absolute_of area r = record { 0 = area.at.0 + r.0 }
 
 -- "Group addresses count from the Program Name, or from the table's first word": the second way, by a table's address
-abbrev pub fromTable : Absolute → Relative → Absolute
-fromTable at r = record { 0 = at.0 + r.0 }
+abbrev pub from_table : Absolute → Relative → Absolute
+from_table at r = record { 0 = at.0 + r.0 }
 
 -- the word w with its right field, which is a relative address, made an absolute one
-abbrev pub rightMoved : Area → ℕ → ℕ
-rightMoved area w = fieldStored Right w (absoluteOf area (record { 0 = field_of Right w })).0
+abbrev pub right_moved : Area → ℕ → ℕ
+right_moved area w = field_stored Right w (absolute_of area (record { 0 = field_of Right w })).0

@@ -6,14 +6,14 @@ use Rattle.word.specs.declared.Half.{Half}
 use Rattle.word.specs.declared.Half.TheVariants.{Left, Right}
 
 -- "A core word is 36 bits"
-abbrev pub wordBits : ℕ
-wordBits = 36
+abbrev pub word_bits : ℕ
+word_bits = 36
 
-abbrev pub wordLimit : ℕ
-wordLimit = 2 ^ wordBits
+abbrev pub word_limit : ℕ
+word_limit = 2 ^ word_bits
 
-abbrev pub isWord : ℕ → Bool
-isWord w = ltb w wordLimit
+abbrev pub is_word : ℕ → Bool
+is_word w = ltb w word_limit
 
 -- the n bits from bit k up, as a number
 abbrev pub part : ℕ → ℕ → ℕ → ℕ
@@ -47,12 +47,12 @@ lowest Right = 0
 abbrev pub field_of : Half → ℕ → ℕ
 field_of h w = part (lowest h) 16 w
 
-abbrev pub fieldStored : Half → ℕ → ℕ → ℕ
-fieldStored h w v = put (lowest h) 16 w v
+abbrev pub field_stored : Half → ℕ → ℕ → ℕ
+field_stored h w v = put (lowest h) 16 w v
 
 -- bits 25-22, which 001 calls the a-field
 abbrev pub a_field : ℕ → ℕ
 a_field w = bits 25 22 w
 
-abbrev pub aStored : ℕ → ℕ → ℕ
-aStored w v = put 22 4 w v
+abbrev pub a_stored : ℕ → ℕ → ℕ
+a_stored w v = put 22 4 w v

@@ -5,10 +5,10 @@ pub mod limits;
 pub mod slices;
 
 ghost use Rattle.std.specs.Prelude.{◌≡◌, ◌+◌, ◌<◌, ◌≤◌, ◌^◌, ◌%◌, get_or};
-ghost use Rattle.word.specs.Word.{bits, is_set, field_of, fieldStored, a_field, aStored};
-ghost use Rattle.word.specs.Fault.{fault, inHalf, further};
+ghost use Rattle.word.specs.Word.{bits, is_set, field_of, field_stored, a_field, a_stored};
+ghost use Rattle.word.specs.Fault.{fault, in_half, further};
 ghost use Rattle.word.specs.Runs.{within, apart};
-ghost use Rattle.word.specs.Sorts.{absoluteOf, fromTable, rightMoved};
+ghost use Rattle.word.specs.Sorts.{absolute_of, from_table, right_moved};
 
 // "A core word is 36 bits": a word is below 2^36.
 pub const WORD_BITS: usize = 36;
@@ -78,7 +78,7 @@ pub fn fault_of(number: u64) -> Fault
 
 // The same in a half, before whose indicator so many bits stand.
 pub fn in_half(f: Fault, h: Half, bit: u64) -> Fault
-    ensures { result ≡ inHalf h bit f }
+    ensures { result ≡ in_half h bit f }
 {
     Fault {
         number: f.number,
@@ -106,7 +106,7 @@ pub fn further(k: u64, f: Fault) -> Fault
 // The only way from an address relative to the Program Name to an absolute one: by an area's address.
 pub fn placed(area: Area, r: Relative) -> Absolute
     requires { area.at.0 + r.0 < 2 ^ 64 }
-    ensures { result ≡ absoluteOf area r }
+    ensures { result ≡ absolute_of area r }
 {
     Absolute(area.at.0 + r.0)
 }
@@ -114,7 +114,7 @@ pub fn placed(area: Area, r: Relative) -> Absolute
 // An address that counts from a table's first word, as those of a table section's groups do.
 pub fn from_table(at: Absolute, r: Relative) -> Absolute
     requires { at.0 + r.0 < 2 ^ 64 }
-    ensures { result ≡ fromTable at r }
+    ensures { result ≡ from_table at r }
 {
     Absolute(at.0 + r.0)
 }
@@ -122,7 +122,7 @@ pub fn from_table(at: Absolute, r: Relative) -> Absolute
 // The word whose right field, a relative address, is made absolute by the area's address: one sum, as the field does not overflow.
 pub fn move_right(area: Area, w: u64) -> u64
     requires { (w < 2 ^ 36) × (area.at.0 + w % 65536 < 65536) }
-    ensures { result ≡ rightMoved area w }
+    ensures { result ≡ right_moved area w }
 {
     w + area.at.0
 }
@@ -193,7 +193,7 @@ pub fn field(w: u64, h: Half) -> u64
 // The word with v for the field of a half: the old field is taken away and v added, fewer instructions than three parts joined.
 pub fn store_field(w: u64, h: Half, v: u64) -> u64
     requires { (w < 2 ^ 36) × (v < 2 ^ 16) }
-    ensures { result ≡ fieldStored h w v }
+    ensures { result ≡ field_stored h w v }
 {
     match h {
         Half::Left => w - bits(w, 33, 18) * BIT_18 + v * BIT_18,
@@ -211,7 +211,7 @@ pub fn a_field(w: u64) -> u64
 // The word with v for bits 25-22.
 pub fn store_a(w: u64, v: u64) -> u64
     requires { (w < 2 ^ 36) × (v < 2 ^ 4) }
-    ensures { result ≡ aStored w v }
+    ensures { result ≡ a_stored w v }
 {
     w - bits(w, 25, 22) * BIT_22 + v * BIT_22
 }

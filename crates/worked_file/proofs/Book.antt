@@ -1,55 +1,55 @@
 -- The worked file assigned by a book, by computing.
 use Prim.Native.Nat.{ℕ}
 use mathlib.Core.Path.{refl}
-use Rattle.word.specs.Lists.{every, everyTwo, firstNot, range, tab}
+use Rattle.word.specs.Lists.{every, every_two, first_not, range, tab}
 use Rattle.block.specs.Fieldata.{characters, spelt}
 use Rattle.block.specs.Records.{modification}
 use Rattle.block.specs.Checksum.{sum_of, checksum}
-use Rattle.block.specs.Block.{wholeBlock, sealVerdict, verdict}
-use Rattle.label.specs.Name.{isName, firstWrong, mayStand, letterOrDigit}
-use Rattle.label.specs.Tables.{tableWordsIn, tableWords, isCarried, tablesStand, firstTable, tableStands, entriesOf, countsOf}
-use Rattle.label.specs.Tables.{withinLimits}
-use Rattle.label.specs.Label.{label_of, finished, programWordFits}
-use Rattle.front.specs.Front.{labelBlock, block_at, modificationAt, modificationsTo, overAt, behindLabel, frontOf, entryWord}
-use Rattle.book.specs.Book.{isKind, recordAt, isRecord, decimal, assignmentOf, assignmentsOf, allRecords, isBook}
-use Rattle.book.specs.Tags.{tag_of, tagsOf}
-use Rattle.book.specs.Assign.{isFor, place_of, inFile, apartFrom, recordFor, isGiven, allGiven, numberFor, ioList, tableList}
-use Rattle.book.specs.Assign.{listsFor, fits, assignBy, assignOf}
+use Rattle.block.specs.Block.{whole_block, seal_verdict, verdict}
+use Rattle.label.specs.Name.{is_name, first_wrong, may_stand, letter_or_digit}
+use Rattle.label.specs.Tables.{table_words_in, table_words, is_carried, tables_stand, first_table, table_stands, entries_of, counts_of}
+use Rattle.label.specs.Tables.{within_limits}
+use Rattle.label.specs.Label.{label_of, finished, program_word_fits}
+use Rattle.front.specs.Front.{label_block, block_at, modification_at, modifications_to, over_at, behind_label, front_of, entry_word}
+use Rattle.book.specs.Book.{is_kind, record_at, is_record, decimal, assignment_of, assignments_of, all_records, is_book}
+use Rattle.book.specs.Tags.{tag_of, tags_of}
+use Rattle.book.specs.Assign.{is_for, place_of, in_file, apart_from, record_for, is_given, all_given, number_for, io_list, table_list}
+use Rattle.book.specs.Assign.{lists_for, fits, assign_by, assign_of}
 use Rattle.hand_deck.specs.Blocks.{with_words, blank}
-use Rattle.worked_file.specs.Blocks.{workedLabel, workedEntries}
-use Rattle.worked_file.specs.Book.{workedBook, workedFront, sharedFront}
+use Rattle.worked_file.specs.Blocks.{worked_label, worked_entries}
+use Rattle.worked_file.specs.Book.{worked_book, worked_front, shared_front}
 use Rattle.worked_file.specs.Worked.{WorkedAssigned, SharedAssigned, WrongBooks, WrongFronts, WrongLists, WorkedNeeds}
 
 -- what computing by a book opens
 unfoldable books : ℕ
-unfolding every everyTwo firstNot range tab characters spelt modification sum_of checksum wholeBlock sealVerdict verdict isName
-    firstWrong mayStand letterOrDigit tableWordsIn tableWords isCarried tablesStand firstTable tableStands entriesOf
-    countsOf withinLimits label_of finished programWordFits labelBlock block_at modificationAt modificationsTo overAt
-    behindLabel frontOf entryWord isKind recordAt isRecord decimal assignmentOf assignmentsOf allRecords isBook tag_of tagsOf
-    isFor place_of inFile apartFrom recordFor isGiven allGiven numberFor ioList tableList listsFor fits assignBy assignOf
-    with_words blank workedLabel workedEntries workedBook workedFront sharedFront
+unfolding every every_two first_not range tab characters spelt modification sum_of checksum whole_block seal_verdict verdict is_name
+    first_wrong may_stand letter_or_digit table_words_in table_words is_carried tables_stand first_table table_stands entries_of
+    counts_of within_limits label_of finished program_word_fits label_block block_at modification_at modifications_to over_at
+    behind_label front_of entry_word is_kind record_at is_record decimal assignment_of assignments_of all_records is_book tag_of tags_of
+    is_for place_of in_file apart_from record_for is_given all_given number_for io_list table_list lists_for fits assign_by assign_of
+    with_words blank worked_label worked_entries worked_book worked_front shared_front
 books = 0
 
-pub worked-assigned : WorkedAssigned
+pub worked_assigned : WorkedAssigned
 unfolding books
-worked-assigned = refl
+worked_assigned = refl
 
-pub shared-assigned : SharedAssigned
+pub shared_assigned : SharedAssigned
 unfolding books
-shared-assigned = refl
+shared_assigned = refl
 
-pub wrong-books : WrongBooks
+pub wrong_books_lem : WrongBooks
 unfolding books
-wrong-books = refl
+wrong_books_lem = refl
 
-pub wrong-fronts : WrongFronts
+pub wrong_fronts_lem : WrongFronts
 unfolding books
-wrong-fronts = refl
+wrong_fronts_lem = refl
 
-pub wrong-lists : WrongLists
+pub wrong_lists : WrongLists
 unfolding books
-wrong-lists = (refl, refl)
+wrong_lists = (refl, refl)
 
-pub worked-needs : WorkedNeeds
+pub worked_needs : WorkedNeeds
 unfolding books
-worked-needs = refl
+worked_needs = refl

@@ -3,14 +3,14 @@ use mathlib.Core.Path.{refl}
 use Rattle.worked_file.specs.Worked.{FaultyAnswers, FaultyCores, EdgeSteps}
 use Rattle.worked_file.proofs.Opens.{opens}
 
-pub faulty-answers : FaultyAnswers
+pub faulty_answers : FaultyAnswers
 unfolding opens
-faulty-answers = refl
+faulty_answers = refl
 
-pub faulty-cores : FaultyCores
+pub faulty_cores : FaultyCores
 unfolding opens
-faulty-cores = refl
+faulty_cores = refl
 
-pub edge-steps : EdgeSteps
+pub edge_steps : EdgeSteps
 unfolding opens
-edge-steps = refl
+edge_steps = refl

@@ -3,14 +3,14 @@ use mathlib.Core.Path.{refl}
 use Rattle.worked_file.specs.Worked.{SplitImage, SplitTaken, SplitAnswers}
 use Rattle.worked_file.proofs.Opens.{opens}
 
-pub split-image : SplitImage
+pub split_image_lem : SplitImage
 unfolding opens
-split-image = refl
+split_image_lem = refl
 
-pub split-taken : SplitTaken
+pub split_taken : SplitTaken
 unfolding opens
-split-taken = (refl, (refl, (refl, (refl, (refl, (refl, refl))))))
+split_taken = (refl, (refl, (refl, (refl, (refl, (refl, refl))))))
 
-pub split-answers : SplitAnswers
+pub split_answers : SplitAnswers
 unfolding opens
-split-answers = refl
+split_answers = refl

@@ -3,22 +3,22 @@ use mathlib.Core.Path.{refl}
 use Rattle.worked_file.specs.Worked.{WorkedImage, WorkedStart, WorkedTaken, WorkedAnswers, WorkedCore}
 use Rattle.worked_file.proofs.Opens.{opens}
 
-pub worked-image : WorkedImage
+pub worked_image_lem : WorkedImage
 unfolding opens
-worked-image = refl
+worked_image_lem = refl
 
-pub worked-start : WorkedStart
+pub worked_start : WorkedStart
 unfolding opens
-worked-start = refl
+worked_start = refl
 
-pub worked-taken : WorkedTaken
+pub worked_taken : WorkedTaken
 unfolding opens
-worked-taken = (refl, (refl, (refl, (refl, (refl, (refl, refl))))))
+worked_taken = (refl, (refl, (refl, (refl, (refl, (refl, refl))))))
 
-pub worked-answers : WorkedAnswers
+pub worked_answers : WorkedAnswers
 unfolding opens
-worked-answers = refl
+worked_answers = refl
 
-pub worked-core : WorkedCore
+pub worked_core : WorkedCore
 unfolding opens
-worked-core = refl
+worked_core = refl

@@ -11,18 +11,18 @@ use Rattle.hand_deck.specs.Blocks.{Named, with_words, blank}
 -- ---- what it is loaded with: 128 words of core at octal 2000
 
 -- the I/O numbers: 5 for the jump switch, 12 (octal 14) for the channel, octal 42 and 65,535 for the two units
-abbrev pub workedIos : List ℕ
-workedIos = 5 ∷ 0o14 ∷ 0o42 ∷ 0o177777 ∷ []
+abbrev pub worked_ios : List ℕ
+worked_ios = 5 ∷ 0o14 ∷ 0o42 ∷ 0o177777 ∷ []
 
 -- the core tables, address and length: 8 words at octal 2040; none, at the area's end; and 80 words (octal 120) at octal 2060
-abbrev pub workedTables : List ℕ
-workedTables = 0o2040 ∷ 0o10 ∷ 0o2200 ∷ 0 ∷ 0o2060 ∷ 0o120 ∷ []
+abbrev pub worked_tables : List ℕ
+worked_tables = 0o2040 ∷ 0o10 ∷ 0o2200 ∷ 0 ∷ 0o2060 ∷ 0o120 ∷ []
 
-abbrev pub workedGiven : Load
-workedGiven = record {
+abbrev pub worked_given : Load
+worked_given = record {
   area = record { at = record { 0 = 0o2000 }; size = 0o200 };
-  tables = tables_of workedTables;
-  ios = workedIos;
+  tables = tables_of worked_tables;
+  ios = worked_ios;
 }
 
 -- ---- its blocks
@@ -32,8 +32,8 @@ abbrev pub named : ℕ → ℕ → Named
 named k w = record { at = k; word = w }
 
 -- ---- the label
-unfoldable pub workedLabel : List ℕ
-workedLabel = with_words (
+unfoldable pub worked_label : List ℕ
+worked_label = with_words (
     -- words 0 and 1: the name WORKED-FILE in Fieldata, and a space
     named 0 0o342427201211
     ∷ named 1 0o411316211205
@@ -55,8 +55,8 @@ workedLabel = with_words (
     ∷ []) blank
 
 -- ---- the modification block
-unfoldable pub workedEntries : List ℕ
-workedEntries = with_words (
+unfoldable pub worked_entries : List ℕ
+worked_entries = with_words (
     -- *MODRC
     named 0 0o502224112710
     -- the entries of the jump switch JUMP, the channel CHAN and the units TAPEA and TAPEB, two words each: the tag, and a
@@ -89,8 +89,8 @@ workedEntries = with_words (
     ∷ []) blank
 
 -- ---- the first program block: the segment section, as far as its group C
-unfoldable pub workedProgram : List ℕ
-workedProgram = with_words (
+unfoldable pub worked_program : List ℕ
+worked_program = with_words (
     -- *PRORC
     named 0 0o502527242710
     -- the segment section. IBANK: 18 (octal 22) words at 0. DBANK: 3 words at 20 (octal 24). Two words that are disregarded
@@ -165,8 +165,8 @@ workedProgram = with_words (
     ∷ []) blank
 
 -- ---- the second program block: the rest of the segment section, and the two table sections
-unfoldable pub workedSections : List ℕ
-workedSections = with_words (
+unfoldable pub worked_sections : List ℕ
+worked_sections = with_words (
     -- *PRORC
     named 0 0o502527242710
     -- group D, still of the segment section: 10 00000011 00000010 0 0, address 15 (octal 17): 3 words, 2 of them program words;
@@ -209,8 +209,8 @@ workedSections = with_words (
     ∷ []) blank
 
 -- ---- the termination block
-unfoldable pub workedTermination : List ℕ
-workedTermination = with_words (
+unfoldable pub worked_termination : List ℕ
+worked_termination = with_words (
     -- *TRMRC
     named 0 0o503127222710
     -- bits 15-0 the start, 17 (octal 21): the IBANK's last word. The other bits are disregarded, and all set
@@ -219,5 +219,5 @@ workedTermination = with_words (
     ∷ named 255 0o000000526061
     ∷ []) blank
 
-abbrev pub workedFile : List (List ℕ)
-workedFile = workedLabel ∷ workedEntries ∷ workedProgram ∷ workedSections ∷ workedTermination ∷ []
+abbrev pub worked_file : List (List ℕ)
+worked_file = worked_label ∷ worked_entries ∷ worked_program ∷ worked_sections ∷ worked_termination ∷ []

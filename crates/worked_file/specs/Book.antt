@@ -6,10 +6,10 @@ use Rattle.word.specs.declared.Fault.{Fault}
 use Rattle.block.specs.Fieldata.{characters}
 use Rattle.block.specs.Checksum.{checksum, others}
 use Rattle.hand_deck.specs.Blocks.{with_words}
-use Rattle.book.specs.Book.{letterOf, newline}
+use Rattle.book.specs.Book.{letter_of, newline}
 use Rattle.book.specs.declared.Kind.{Kind}
 use Rattle.book.specs.declared.Kind.TheVariants.{Address, Length, Peripheral}
-use Rattle.worked_file.specs.Blocks.{named, workedLabel, workedEntries}
+use Rattle.worked_file.specs.Blocks.{named, worked_label, worked_entries}
 
 -- ---- a record: the letter of its kind, the six characters of a tag, six digits, a newline
 abbrev digit : ℕ → ℕ
@@ -19,7 +19,7 @@ abbrev digits : ℕ → List ℕ
 digits n = digit (n / 100000) ∷ digit (n / 10000) ∷ digit (n / 1000) ∷ digit (n / 100) ∷ digit (n / 10) ∷ digit n ∷ []
 
 abbrev pub line : Kind → ℕ → ℕ → List ℕ
-line k tag n = letterOf k ∷ (characters 6 tag ++ (digits n ++ (newline ∷ [])))
+line k tag n = letter_of k ∷ (characters 6 tag ++ (digits n ++ (newline ∷ [])))
 
 -- ---- the worked file's book: the records stand in any order
 abbrev peripherals : List ℕ
@@ -40,15 +40,15 @@ tables =
     ++ line Address 0o252424210505 1072)))
 
 -- LPOOL is 80
-abbrev pub lastLine : List ℕ
-lastLine = line Length 0o212524242105 80
+abbrev pub last_line : List ℕ
+last_line = line Length 0o212524242105 80
 
-unfoldable pub workedBook : List ℕ
-workedBook = peripherals ++ (tables ++ lastLine)
+unfoldable pub worked_book : List ℕ
+worked_book = peripherals ++ (tables ++ last_line)
 
 -- its front: the label and the modification block
-unfoldable pub workedFront : List ℕ
-workedFront = workedLabel ++ workedEntries
+unfoldable pub worked_front : List ℕ
+worked_front = worked_label ++ worked_entries
 
 -- ---- books that are refused
 pub record WrongBook : Type 0 where
@@ -57,13 +57,13 @@ pub record WrongBook : Type 0 where
 
 -- the worked book with byte b in place i
 abbrev byte_at : ℕ → ℕ → List ℕ
-byte_at i b = set workedBook i b
+byte_at i b = set worked_book i b
 
-abbrev pub wrongBooks : List WrongBook
-wrongBooks =
+abbrev pub wrong_books : List WrongBook
+wrong_books =
     -- 24, "part record": the last newline is missing; a byte is over
-    record { number = 24; book = take 139 workedBook }
-    ∷ record { number = 24; book = workedBook ++ (newline ∷ []) }
+    record { number = 24; book = take 139 worked_book }
+    ∷ record { number = 24; book = worked_book ++ (newline ∷ []) }
     -- 24, "bad record": a small letter, a code of 64, the characters before and behind the digits, no newline
     ∷ record { number = 24; book = byte_at 0 112 }
     ∷ record { number = 24; book = byte_at 6 64 }
@@ -71,19 +71,19 @@ wrongBooks =
     ∷ record { number = 24; book = byte_at 138 58 }
     ∷ record { number = 24; book = byte_at 139 32 }
     -- 25, "tag not in the file": LIST with a code of 63 for its last; LLIST among the addresses; CHAN among the lengths
-    ∷ record { number = 25; book = workedBook ++ line Address 0o211630310577 1056 }
-    ∷ record { number = 25; book = workedBook ++ line Address 0o212116303105 8 }
-    ∷ record { number = 25; book = workedBook ++ line Length 0o101506230505 12 }
+    ∷ record { number = 25; book = worked_book ++ line Address 0o211630310577 1056 }
+    ∷ record { number = 25; book = worked_book ++ line Address 0o212116303105 8 }
+    ∷ record { number = 25; book = worked_book ++ line Length 0o101506230505 12 }
     -- 26, "tag given twice in one kind": with another number, and with the same
-    ∷ record { number = 26; book = workedBook ++ line Length 0o212524242105 81 }
-    ∷ record { number = 26; book = workedBook ++ lastLine }
+    ∷ record { number = 26; book = worked_book ++ line Length 0o212524242105 81 }
+    ∷ record { number = 26; book = worked_book ++ last_line }
     -- 27, "tag of the file not given": LPOOL; none at all
-    ∷ record { number = 27; book = take 126 workedBook }
+    ∷ record { number = 27; book = take 126 worked_book }
     ∷ record { number = 27; book = [] }
     -- "in that order": what is due later in the book, and sooner among the numbers
     ∷ record { number = 24; book = line Address 0o212116303105 8 ++ byte_at 139 32 }
-    ∷ record { number = 25; book = lastLine ++ (workedBook ++ line Address 0o212116303105 8) }
-    ∷ record { number = 26; book = take 126 workedBook ++ drop 112 (take 126 workedBook) }
+    ∷ record { number = 25; book = last_line ++ (worked_book ++ line Address 0o212116303105 8) }
+    ∷ record { number = 26; book = take 126 worked_book ++ drop 112 (take 126 worked_book) }
     ∷ []
 
 -- ---- fronts that are refused
@@ -92,38 +92,38 @@ pub record WrongFront : Type 0 where
   pub blocks : List ℕ
 
 -- a block with its checksum at place p
-abbrev sealedAt : ℕ → List ℕ → List ℕ
-sealedAt p block = set block p (checksum (others p block))
+abbrev sealed_at : ℕ → List ℕ → List ℕ
+sealed_at p block = set block p (checksum (others p block))
 
-abbrev pub wrongFronts : List WrongFront
-wrongFronts =
+abbrev pub wrong_fronts : List WrongFront
+wrong_fronts =
     -- 13, no block at all; the modification block is missing, at the word that it would begin with
     record { fault = fault 13; blocks = [] }
-    ∷ record { fault = further 256 (fault 13); blocks = workedLabel }
+    ∷ record { fault = further 256 (fault 13); blocks = worked_label }
     -- 11, a part of a block, where one is due and where none is
-    ∷ record { fault = fault 11; blocks = take 511 workedFront }
-    ∷ record { fault = fault 11; blocks = workedFront ++ (0 ∷ []) }
+    ∷ record { fault = fault 11; blocks = take 511 worked_front }
+    ∷ record { fault = fault 11; blocks = worked_front ++ (0 ∷ []) }
     -- 12, the checksum of the modification block
-    ∷ record { fault = fault 12; blocks = set workedFront 300 1 }
+    ∷ record { fault = fault 12; blocks = set worked_front 300 1 }
     -- 13, a block that is no modification block; one that is over; and 12 of one that is over
-    ∷ record { fault = further 256 (fault 13); blocks = workedLabel ++ sealedAt 255 (with_words (named 0 1 ∷ []) workedEntries) }
-    ∷ record { fault = further 512 (fault 13); blocks = workedFront ++ workedEntries }
-    ∷ record { fault = fault 12; blocks = workedFront ++ workedLabel }
+    ∷ record { fault = further 256 (fault 13); blocks = worked_label ++ sealed_at 255 (with_words (named 0 1 ∷ []) worked_entries) }
+    ∷ record { fault = further 512 (fault 13); blocks = worked_front ++ worked_entries }
+    ∷ record { fault = fault 12; blocks = worked_front ++ worked_label }
     -- 14 and 15, at their words
-    ∷ record { fault = further 2 (fault 14); blocks = sealedAt 254 (with_words (named 2 0 ∷ []) workedLabel) ++ workedEntries }
-    ∷ record { fault = further 3 (fault 15); blocks = sealedAt 254 (with_words (named 3 0o000004000006 ∷ []) workedLabel) }
+    ∷ record { fault = further 2 (fault 14); blocks = sealed_at 254 (with_words (named 2 0 ∷ []) worked_label) ++ worked_entries }
+    ∷ record { fault = further 3 (fault 15); blocks = sealed_at 254 (with_words (named 3 0o000004000006 ∷ []) worked_label) }
     ∷ []
 
 -- ---- "One length tag may serve several tables": LPOOL's place has LLIST's tag once more, and the book no LPOOL
-unfoldable pub sharedFront : List ℕ
-sharedFront = workedLabel ++ sealedAt 255 (with_words (named 16 0o212116303105 ∷ []) workedEntries)
+unfoldable pub shared_front : List ℕ
+shared_front = worked_label ++ sealed_at 255 (with_words (named 16 0o212116303105 ∷ []) worked_entries)
 
-abbrev pub sharedTables : List ℕ
-sharedTables = 0o2040 ∷ 0o10 ∷ 0o2200 ∷ 0 ∷ 0o2060 ∷ 0o10 ∷ []
+abbrev pub shared_tables : List ℕ
+shared_tables = 0o2040 ∷ 0o10 ∷ 0o2200 ∷ 0 ∷ 0o2060 ∷ 0o10 ∷ []
 
 -- ---- the lists as they are lent: any numbers
-abbrev pub lentIos : List ℕ
-lentIos = replicate 4 0o777
+abbrev pub lent_ios : List ℕ
+lent_ios = replicate 4 0o777
 
-abbrev pub lentTables : List ℕ
-lentTables = replicate 6 0o777
+abbrev pub lent_tables : List ℕ
+lent_tables = replicate 6 0o777

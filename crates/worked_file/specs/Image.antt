@@ -6,8 +6,8 @@ use Rattle.std.specs.Prelude.{ℕ, List, [], ◌∷◌, replicate}
 use Rattle.hand_deck.specs.Blocks.{with_words}
 use Rattle.worked_file.specs.Blocks.{named}
 
-unfoldable pub workedImage : List ℕ
-workedImage = with_words (
+unfoldable pub worked_image : List ℕ
+worked_image = with_words (
     -- A0 left: 4 + 2000 = 2004, below bits 35-34. Right as it was
     named 0o0 0o602004777777
     -- A1 left as it was. Right: 175777 + 2000 = 177777, which is 65,535; bits 17-16 as they were

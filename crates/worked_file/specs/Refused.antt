@@ -5,21 +5,21 @@ use Rattle.std.specs.Prelude.{ℕ, ◌+◌, List, [], ◌∷◌, get_or}
 use Rattle.word.specs.declared.Fault.{Fault}
 use Rattle.word.specs.declared.Half.{Half}
 use Rattle.word.specs.declared.Half.TheVariants.{Left, Right}
-use Rattle.word.specs.Fault.{fault, inHalf, further}
+use Rattle.word.specs.Fault.{fault, in_half, further}
 use Rattle.block.specs.declared.Verdict.{Verdict}
 use Rattle.block.specs.declared.Verdict.TheVariants.{Pass, Refused as BlockRefused}
 use Rattle.block.specs.Block.{verdict}
 use Rattle.stage.specs.declared.Stage.TheVariants.{Broken}
 use Rattle.stage.specs.declared.Step.{Step}
 use Rattle.stage.specs.declared.Step.TheVariants.{Refused as StepRefused}
-use Rattle.stage.specs.Record.{recordDue}
-use Rattle.feed.specs.Block.{blockStep}
+use Rattle.stage.specs.Record.{record_due}
+use Rattle.feed.specs.Block.{block_step}
 use Rattle.calls.specs.declared.Answer.{Answer}
 use Rattle.hand_deck.specs.Blocks.{Named, with_words}
-use Rattle.demands.specs.History.{State, answerTo, call}
+use Rattle.demands.specs.History.{State, answer_to, call}
 use Rattle.demands.specs.History.Call.{Feed}
 use Rattle.demands.specs.Examples.{old}
-use Rattle.worked_file.specs.Blocks.{named, workedGiven, workedFile}
+use Rattle.worked_file.specs.Blocks.{named, worked_given, worked_file}
 use Rattle.worked_file.specs.Lives.{Waiting}
 
 -- the refusal and its place, the block that is refused, counted from 0, and the words of it that are not the worked file's
@@ -32,11 +32,11 @@ pub record Faulty : Type 0 where
 abbrev whole : ℕ → ℕ → Fault
 whole n k = further k (fault n)
 
-abbrev inField : ℕ → ℕ → Half → ℕ → Fault
-inField n k h b = further k (inHalf h b (fault n))
+abbrev in_field : ℕ → ℕ → Half → ℕ → Fault
+in_field n k h b = further k (in_half h b (fault n))
 
-abbrev pub faultyBlock : Faulty → List ℕ
-faultyBlock f = with_words f.words (get_or workedFile f.block [])
+abbrev pub faulty_block : Faulty → List ℕ
+faulty_block f = with_words f.words (get_or worked_file f.block [])
 
 -- ---- on a desk, it is fed in the place of the worked file's own to a load that has taken every block before it. ss are the states
 -- that the worked file's life leads through: before make, before open, before its first block, and so on.
@@ -44,25 +44,25 @@ abbrev pub before : List State → Faulty → State
 before ss f = get_or ss (2 + f.block) old
 
 abbrev pub answer_in : List State → Faulty → Answer
-answer_in ss f = answerTo (Feed 0 0 (faultyBlock f)) (before ss f)
+answer_in ss f = answer_to (Feed 0 0 (faulty_block f)) (before ss f)
 
-abbrev pub coreIn : List State → Faulty → List ℕ
-coreIn ss f = (call (Feed 0 0 (faultyBlock f)) (before ss f)).core
+abbrev pub core_in : List State → Faulty → List ℕ
+core_in ss f = (call (Feed 0 0 (faulty_block f)) (before ss f)).core
 
 -- ---- or to a load by itself. ws are what it waits for, block after block; 11 and 12 come first.
-abbrev pub unlessBad : Verdict → Step → Step
-unlessBad Pass s = s
-unlessBad (BlockRefused g) s = StepRefused g
+abbrev pub unless_bad : Verdict → Step → Step
+unless_bad Pass s = s
+unless_bad (BlockRefused g) s = StepRefused g
 
 abbrev pub step_of : Waiting → List ℕ → Step
-step_of w block = unlessBad (verdict (recordDue w.stage) block) (blockStep workedGiven w.stage block w.core).step
+step_of w block = unless_bad (verdict (record_due w.stage) block) (block_step worked_given w.stage block w.core).step
 
-abbrev pub stepIn : List Waiting → Faulty → Step
-stepIn ws f = step_of (get_or ws f.block (record { stage = Broken; core = [] })) (faultyBlock f)
+abbrev pub step_in : List Waiting → Faulty → Step
+step_in ws f = step_of (get_or ws f.block (record { stage = Broken; core = [] })) (faulty_block f)
 
 -- one for each number
-abbrev pub faultyFiles : List Faulty
-faultyFiles =
+abbrev pub faulty_files : List Faulty
+faulty_files =
     -- 13, "block of the wrong record": *MODRC where the first program block is due; all entries have been read
     record { fault = whole 13 0; block = 2; words = named 0 0o502224112710 ∷ named 255 0o000000331150 ∷ [] }
     -- 14, "program type flag not 001": 010, a subroutine
@@ -76,22 +76,22 @@ faultyFiles =
     -- 18, "the words must lie in that bank": group D has two words at 17 (octal 21), where the IBANK has one
     ∷ record { fault = whole 18 1; block = 3; words = named 1 0o401402000021 ∷ named 255 0o000001225563 ∷ [] }
     -- 19, "minus with constant 0, is 19": C0 right is 0 1 0 0000010 000000
-    ∷ record { fault = inField 19 23 Right 13; block = 2; words = named 23 0o100100040200 ∷ named 255 0o000000461452 ∷ [] }
+    ∷ record { fault = in_field 19 23 Right 13; block = 2; words = named 23 0o100100040200 ∷ named 255 0o000000461452 ∷ [] }
     -- 20, "no such reference": B1 right is 0 0 0000010 0000011, the length of table 3
-    ∷ record { fault = inField 20 14 Right 12; block = 2; words = named 14 0o040202000403 ∷ named 255 0o000000461455 ∷ [] }
+    ∷ record { fault = in_field 20 14 Right 12; block = 2; words = named 14 0o040202000403 ∷ named 255 0o000000461455 ∷ [] }
     -- 21, "value outside 0 to 65,535": A1 right is 64,512, which is 65,536 with the area's address
-    ∷ record { fault = inField 21 7 Right 6; block = 2; words = named 7 0o123456776000 ∷ named 255 0o000000461454 ∷ [] }
+    ∷ record { fault = in_field 21 7 Right 6; block = 2; words = named 7 0o123456776000 ∷ named 255 0o000000461454 ∷ [] }
     -- 22, "start not in the IBANK": 18 (octal 22), the first word after it
     ∷ record { fault = whole 22 1; block = 4; words = named 1 0o777777600022 ∷ named 255 0o000000526062 ∷ [] }
     ∷ []
 
 -- which of two faults is given, and the edges of other rules
-abbrev pub edgeFiles : List Faulty
-edgeFiles =
+abbrev pub edge_files : List Faulty
+edge_files =
     -- 18, "tested before any field of the group": group B goes to 13 (octal 15), past its bank, and its B1 is the one of 20
     record { fault = whole 18 12; block = 2; words = named 12 0o404406000015 ∷ named 14 0o040202000403 ∷ named 255 0o000000461465 ∷ [] }
     -- 20, "a left indicator, then a right": B1 left names table 3, and its right, with bit 15 set, would be 19
-    ∷ record { fault = inField 20 14 Left 8; block = 2; words = named 14 0o040203100401 ∷ named 255 0o000000561454 ∷ [] }
+    ∷ record { fault = in_field 20 14 Left 8; block = 2; words = named 14 0o040203100401 ∷ named 255 0o000000561454 ∷ [] }
     -- 14, "Word 2 bits 35-33 are the type flag": 101
     ∷ record { fault = whole 14 2; block = 0; words = named 2 0o500000000000 ∷ named 254 0o000000672253 ∷ [] }
     -- 15, "The first is a letter or digit": a hyphen
@@ -153,29 +153,29 @@ edgeFiles =
     -- 18, "bit 16 .. set for the DBANK or a table section": group F has it zero
     ∷ record { fault = whole 18 10; block = 3; words = named 10 0o401402400002 ∷ named 255 0o000001025561 ∷ [] }
     -- 19, "Others are 19": D0 right has type 011
-    ∷ record { fault = inField 19 2 Right 1; block = 3; words = named 4 0o260000000000 ∷ named 255 0o000001305561 ∷ [] }
+    ∷ record { fault = in_field 19 2 Right 1; block = 3; words = named 4 0o260000000000 ∷ named 255 0o000001305561 ∷ [] }
     -- 19, "left only": D0 right has type 100
-    ∷ record { fault = inField 19 2 Right 1; block = 3; words = named 4 0o300000000000 ∷ named 255 0o000001325561 ∷ [] }
+    ∷ record { fault = in_field 19 2 Right 1; block = 3; words = named 4 0o300000000000 ∷ named 255 0o000001325561 ∷ [] }
     -- 19, "type 001 has bit 15 zero": B1 right has it set
-    ∷ record { fault = inField 19 14 Right 12; block = 2; words = named 14 0o040202100401 ∷ named 255 0o000000561453 ∷ [] }
+    ∷ record { fault = in_field 19 14 Right 12; block = 2; words = named 14 0o040202100401 ∷ named 255 0o000000561453 ∷ [] }
     -- 19, "a constant of 64 or more": B2 right is long with 63
-    ∷ record { fault = inField 19 15 Right 20; block = 2; words = named 15 0o000077100077 ∷ named 255 0o000000417472 ∷ [] }
+    ∷ record { fault = in_field 19 15 Right 20; block = 2; words = named 15 0o000077100077 ∷ named 255 0o000000417472 ∷ [] }
     -- 19, "a zero": C0 left has the second of its nine bits set
-    ∷ record { fault = inField 19 23 Left 0; block = 2; words = named 29 0o510025200252 ∷ named 255 0o000000471453 ∷ [] }
+    ∷ record { fault = in_field 19 23 Left 0; block = 2; words = named 29 0o510025200252 ∷ named 255 0o000000471453 ∷ [] }
     -- 20, B1 right is 0 0 0000011 0000000, the address of table 3
-    ∷ record { fault = inField 20 14 Right 12; block = 2; words = named 14 0o040202000600 ∷ named 255 0o000000461652 ∷ [] }
+    ∷ record { fault = in_field 20 14 Right 12; block = 2; words = named 14 0o040202000600 ∷ named 255 0o000000461652 ∷ [] }
     -- 20, C0 right is 0 1 0 0000011 000001, the address of table 3
-    ∷ record { fault = inField 20 23 Right 13; block = 2; words = named 23 0o100100040301 ∷ named 255 0o000000461553 ∷ [] }
+    ∷ record { fault = in_field 20 23 Right 13; block = 2; words = named 23 0o100100040301 ∷ named 255 0o000000461553 ∷ [] }
     -- 20, "a number below the type 0 and 2 count": A4 left, type 100, has the number 2
-    ∷ record { fault = inField 20 10 Left 23; block = 2; words = named 10 0o000040000000 ∷ named 255 0o000000461473 ∷ [] }
+    ∷ record { fault = in_field 20 10 Left 23; block = 2; words = named 10 0o000040000000 ∷ named 255 0o000000461473 ∷ [] }
     -- 20, "a number of a type 3 entry": G0 right, type 111, is 1, the channel
-    ∷ record { fault = inField 20 16 Right 1; block = 3; words = named 16 0o777777000001 ∷ named 255 0o000001225557 ∷ [] }
+    ∷ record { fault = in_field 20 16 Right 1; block = 3; words = named 16 0o777777000001 ∷ named 255 0o000001225557 ∷ [] }
     -- 20, G0 right is 4, and the last reference is 3
-    ∷ record { fault = inField 20 16 Right 1; block = 3; words = named 16 0o777777000004 ∷ named 255 0o000001225562 ∷ [] }
+    ∷ record { fault = in_field 20 16 Right 1; block = 3; words = named 16 0o777777000004 ∷ named 255 0o000001225562 ∷ [] }
     -- 12, "checksum word differs": the label has the one of the rule before #104, its two carries dropped
     ∷ record { fault = whole 12 0; block = 0; words = named 254 0o000001272250 ∷ [] }
     -- 11, "a word of 2^36 or more": word 18 of the modification block is 2^36
     ∷ record { fault = whole 11 0; block = 1; words = named 18 0o1000000000000 ∷ [] }
     -- 21, C2 right is the length of table 0 minus 9: below 0
-    ∷ record { fault = inField 21 25 Right 47; block = 2; words = named 25 0o100100060011 ∷ named 255 0o000000461454 ∷ [] }
+    ∷ record { fault = in_field 21 25 Right 47; block = 2; words = named 25 0o100100060011 ∷ named 255 0o000000461454 ∷ [] }
     ∷ []

@@ -9,23 +9,23 @@ use Rattle.lists.specs.Load.{Load}
 use Rattle.hand_deck.specs.Blocks.{with_words, blank}
 use Rattle.worked_file.specs.Blocks.{named}
 
-abbrev pub splitCount : ℕ
-splitCount = 85
+abbrev pub split_count : ℕ
+split_count = 85
 
 -- table 84 has two words, each other table has one
-abbrev pub splitLength : ℕ → ℕ
-splitLength t = cond (eqb t 84) 2 1
+abbrev pub split_length : ℕ → ℕ
+split_length t = cond (eqb t 84) 2 1
 
 -- the tables, address and length of each, fill the area after its first two words, which are the IBANK
-abbrev pub splitTables : List ℕ
-splitTables = flat_map (λ t. (0o2002 + t) ∷ splitLength t ∷ []) (tab (λ t. t) splitCount)
+abbrev pub split_tables : List ℕ
+split_tables = flat_map (λ t. (0o2002 + t) ∷ split_length t ∷ []) (tab (λ t. t) split_count)
 
-abbrev pub splitGiven : Load
-splitGiven = record { area = record { at = record { 0 = 0o2000 }; size = 88 }; tables = tables_of splitTables; ios = [] }
+abbrev pub split_given : Load
+split_given = record { area = record { at = record { 0 = 0o2000 }; size = 88 }; tables = tables_of split_tables; ios = [] }
 
 -- the name A-Z0-9; bit 35 of word 3 and one table word; type 12 with 85 (octal 125) entries; two table sections
-unfoldable pub splitLabel : List ℕ
-splitLabel = with_words (
+unfoldable pub split_label : List ℕ
+split_label = with_words (
     named 0 0o064137604171
     ∷ named 1 0o050505050505
     ∷ named 2 0o100000000000
@@ -37,23 +37,23 @@ splitLabel = with_words (
     ∷ []) blank
 
 -- entry word k, counted from 0: of each entry the tags TAG and LTAG, and the minimum length
-abbrev pub splitEntry : ℕ → ℕ
-splitEntry k = cond (eqb (k % 3) 0) 0o310614050505 (cond (eqb (k % 3) 1) 0o213106140505 (splitLength (k / 3)))
+abbrev pub split_entry : ℕ → ℕ
+split_entry k = cond (eqb (k % 3) 0) 0o310614050505 (cond (eqb (k % 3) 1) 0o213106140505 (split_length (k / 3)))
 
 -- *MODRC, 254 entry words, the checksum
-unfoldable pub firstEntries : List ℕ
-firstEntries = 0o502224112710 ∷ tab splitEntry 254 ++ (0o000000775613 ∷ [])
+unfoldable pub first_entries : List ℕ
+first_entries = 0o502224112710 ∷ tab split_entry 254 ++ (0o000000775613 ∷ [])
 
 -- *MODRC, the last entry word, the checksum
-unfoldable pub lastEntries : List ℕ
-lastEntries = with_words (named 0 0o502224112710 ∷ named 1 0o000000000002 ∷ named 255 0o000000615136 ∷ []) blank
+unfoldable pub last_entries : List ℕ
+last_entries = with_words (named 0 0o502224112710 ∷ named 1 0o000000000002 ∷ named 255 0o000000615136 ∷ []) blank
 
 -- the same with a minimum length that is not the last table's
-unfoldable pub otherEntries : List ℕ
-otherEntries = with_words (named 1 0o000000000001 ∷ named 255 0o000000615135 ∷ []) lastEntries
+unfoldable pub other_entries : List ℕ
+other_entries = with_words (named 1 0o000000000001 ∷ named 255 0o000000615135 ∷ []) last_entries
 
-unfoldable pub splitProgram : List ℕ
-splitProgram = with_words (
+unfoldable pub split_program : List ℕ
+split_program = with_words (
     -- *PRORC; IBANK: 2 words at 0; no DBANK
     named 0 0o502527242710
     ∷ named 1 0o000002000000
@@ -77,13 +77,13 @@ splitProgram = with_words (
     ∷ []) blank
 
 -- *TRMRC; the start is word 0
-unfoldable pub splitTermination : List ℕ
-splitTermination = with_words (named 0 0o503127222710 ∷ named 255 0o000000726037 ∷ []) blank
+unfoldable pub split_termination : List ℕ
+split_termination = with_words (named 0 0o503127222710 ∷ named 255 0o000000726037 ∷ []) blank
 
-abbrev pub splitFile : List (List ℕ)
-splitFile = splitLabel ∷ firstEntries ∷ lastEntries ∷ splitProgram ∷ splitTermination ∷ []
+abbrev pub split_file : List (List ℕ)
+split_file = split_label ∷ first_entries ∷ last_entries ∷ split_program ∷ split_termination ∷ []
 
 -- in octal: table 84 is at 2002 + 124 = 2126. The first word has 2126 + 1 and 2, the second 2126 - 2 and 2 + 100; then there is
 -- table 83's word, and at the end table 84's word 1
-unfoldable pub splitImage : List ℕ
-splitImage = 0o002127000002 ∷ 0o002124000102 ∷ replicate 83 0 ++ (0o701234567012 ∷ 0 ∷ 0o123456701234 ∷ [])
+unfoldable pub split_image : List ℕ
+split_image = 0o002127000002 ∷ 0o002124000102 ∷ replicate 83 0 ++ (0o701234567012 ∷ 0 ∷ 0o123456701234 ∷ [])

@@ -6,21 +6,21 @@ use Rattle.std.specs.Prelude.{ℕ, ◌≡◌, Bool, true, false, List, [], ◌�
 use Rattle.word.specs.declared.Reference.{Reference}
 use Rattle.lists.specs.declared.Table.{Table}
 use Rattle.lists.specs.Obey.{tables_of}
-use Rattle.hand_deck.specs.Blocks.{deckFile}
+use Rattle.hand_deck.specs.Blocks.{deck_file}
 use Rattle.demands.specs.Image.{image_of}
 use Rattle.source.specs.declared.Change.{Change}
 use Rattle.source.specs.declared.Change.TheVariants.{Same, Move, Pair, Constant, ToChannel, ToUnit}
-use Rattle.source.specs.Change.{changeNumber}
+use Rattle.source.specs.Change.{change_number}
 use Rattle.source.specs.Source.{Source}
 use Rattle.source.specs.Fits.{fits}
-use Rattle.source.specs.Image.{Lists, imageFor}
-use Rattle.writer.specs.File.{fileOf}
-use Rattle.worked_file.specs.Blocks.{workedIos, workedTables, workedGiven}
-use Rattle.worked_file.specs.Image.{workedImage}
+use Rattle.source.specs.Image.{Lists, image_for}
+use Rattle.writer.specs.File.{file_of}
+use Rattle.worked_file.specs.Blocks.{worked_ios, worked_tables, worked_given}
+use Rattle.worked_file.specs.Image.{worked_image}
 
 -- ---- the hand deck: the name A, an IBANK of one word at 0, the start 0; the word 7, whose right field is moved
-unfoldable pub deckSource : Source
-deckSource = record {
+unfoldable pub deck_source : Source
+deck_source = record {
   head = 0o060505050505 ∷ 0o050505050505 ∷ 0 ∷ 0 ∷ 1 ∷ 0 ∷ 0 ∷ 0 ∷ [];
   entries = [];
   sections = [];
@@ -28,8 +28,8 @@ deckSource = record {
 }
 
 pub record DeckWritten : Type 0 where
-  pub fit : fits deckSource ≡ true
-  pub file : fileOf deckSource ≡ deckFile
+  pub fit : fits deck_source ≡ true
+  pub file : file_of deck_source ≡ deck_file
 
 -- ---- the worked file's program
 abbrev reference : ℕ → Reference
@@ -37,7 +37,7 @@ reference k = record { 0 = k }
 
 -- a word, its left change and its right one
 abbrev given : ℕ → Change → Change → List ℕ
-given w left right = w ∷ changeNumber left ∷ changeNumber right ∷ []
+given w left right = w ∷ change_number left ∷ change_number right ∷ []
 
 abbrev pair : Bool → ℕ → ℕ → Change
 pair minus address length = Pair minus (reference address) (reference length)
@@ -59,8 +59,8 @@ abbrev zeros : ℕ → List ℕ
 zeros n = replicate n 0
 
 -- the IBANK: groups A and B, C but its last word, D, and a word that no group stores
-abbrev ibankWords : List ℕ
-ibankWords =
+abbrev ibank_words : List ℕ
+ibank_words =
     given 0o600004777777 Move Same
     ++ (given 0o123456775777 Same Move
     ++ (given 0o777417000000 (ToChannel (reference 0)) (ToUnit (reference 2))
@@ -81,18 +81,18 @@ ibankWords =
     ++ zeros 3))))))))))))))))
 
 -- the DBANK: a word that no group stores, and E
-abbrev dbankWords : List ℕ
-dbankWords = zeros 3 ++ (given 0o000025001234 Move Same ++ given 0o701234567012 Same Same)
+abbrev dbank_words : List ℕ
+dbank_words = zeros 3 ++ (given 0o000025001234 Move Same ++ given 0o701234567012 Same Same)
 
 -- the first four words of table 0, and all of table 2
-abbrev firstSection : List ℕ
-firstSection = zeros 6 ++ (given 0o000000000007 (size 0 plus 0) Move ++ given 0o707070707070 Same Same)
+abbrev first_section : List ℕ
+first_section = zeros 6 ++ (given 0o000000000007 (size 0 plus 0) Move ++ given 0o707070707070 Same Same)
 
-abbrev secondSection : List ℕ
-secondSection = zeros 237 ++ given 0o777777000000 Same (ToUnit (reference 3))
+abbrev second_section : List ℕ
+second_section = zeros 237 ++ given 0o777777000000 Same (ToUnit (reference 3))
 
-unfoldable pub workedSource : Source
-workedSource = record {
+unfoldable pub worked_source : Source
+worked_source = record {
   head = 0o342427201211 ∷ 0o411316211205 ∷ 0 ∷ 0 ∷ 18 ∷ 20 ∷ 3 ∷ 17 ∷ [];
   entries =
       0 ∷ 0o173222250505 ∷ 0o000040000001 ∷ 0
@@ -104,15 +104,15 @@ workedSource = record {
       ∷ 12 ∷ 0o252424210505 ∷ 0o212524242105 ∷ 64
       ∷ [];
   sections = 0 ∷ 4 ∷ 2 ∷ 80 ∷ [];
-  words = ibankWords ++ (dbankWords ++ (firstSection ++ secondSection));
+  words = ibank_words ++ (dbank_words ++ (first_section ++ second_section));
 }
 
-abbrev workedLists : Lists
-workedLists = record { area = workedGiven.area; tables = tables_of workedTables; ios = workedIos }
+abbrev worked_lists : Lists
+worked_lists = record { area = worked_given.area; tables = tables_of worked_tables; ios = worked_ios }
 
 pub record WorkedWritten : Type 0 where
-  pub fit : fits workedSource ≡ true
+  pub fit : fits worked_source ≡ true
   -- the image defined for the input directly is the one that was worked out by hand
-  pub direct : imageFor workedLists workedSource ≡ workedImage
+  pub direct : image_for worked_lists worked_source ≡ worked_image
   -- and so is that of the file which is written
-  pub file : image_of workedGiven.area (tables_of workedTables) workedIos (fileOf workedSource) ≡ workedImage
+  pub file : image_of worked_given.area (tables_of worked_tables) worked_ios (file_of worked_source) ≡ worked_image

@@ -18,18 +18,18 @@ pub part-long : (l : List ℕ) (a e : ℕ) → a ≤ e → e ≤ length l → le
 part-long l a e h k = length-take-le (e - a) (drop a l) (rw length-drop (omega arith))
 
 -- a slice of which the part from place a up to place e comes back as v
-abbrev pub withPart : List ℕ → ℕ → ℕ → List ℕ → List ℕ
-withPart l a e v = take a l ++ (v ++ drop (e - a) (drop a l))
+abbrev pub with_part : List ℕ → ℕ → ℕ → List ℕ → List ℕ
+with_part l a e v = take a l ++ (v ++ drop (e - a) (drop a l))
 
 -- where x has been written before it
-part-behind : (x d v : List ℕ) (a e : ℕ) → length x ≡ a → withPart (x ++ d) a e v ≡ (x ++ v) ++ drop (e - a) d
+part-behind : (x d v : List ℕ) (a e : ℕ) → length x ≡ a → with_part (x ++ d) a e v ≡ (x ++ v) ++ drop (e - a) d
 part-behind x d v a e h = rw (take_at x d a h, drop_at x d a h) (sym (append_assoc x v (drop (e - a) d)))
 
 -- four parts that are all of it
 module _ (out x y z t : List ℕ) (a e : ℕ) (first : length x ≡ 256) (second : 256 + length y ≡ a) (third : a + length z ≡ e)
     (long : length out ≡ e + 256) where
-  pub four-parts : withPart (withPart (withPart (withPart out 0 256 x) 256 a y) a e z) e (e + 256) t ≡ x ++ (y ++ (z ++ t))
-  four-parts =
+  pub four_parts : with_part (with_part (with_part (with_part out 0 256 x) 256 a y) a e z) e (e + 256) t ≡ x ++ (y ++ (z ++ t))
+  four_parts =
       let d1 = drop 256 out in
       let d2 = drop (a - 256) d1 in
       let d3 = drop (e - a) d2 in

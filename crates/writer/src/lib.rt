@@ -1,14 +1,14 @@
 // The writer of program files (#102): from what a student gives to the blocks of a file.
 ghost use Rattle.std.specs.Prelude.{◌≡◌, true, ◌/◌, length};
-ghost use Rattle.word.specs.Limits.{wordsInBlock};
+ghost use Rattle.word.specs.Limits.{words_in_block};
 ghost use Rattle.word.specs.Lists.{tab};
-ghost use Rattle.modification.specs.Entries.{entryBlocks};
-ghost use Rattle.source.specs.Source.{countsIn};
-ghost use Rattle.source.specs.Fits.{entriesFit};
-ghost use Rattle.written_records.specs.Records.{ioOf, entriesFor};
+ghost use Rattle.modification.specs.Entries.{entry_blocks};
+ghost use Rattle.source.specs.Source.{counts_in};
+ghost use Rattle.source.specs.Fits.{entries_fit};
+ghost use Rattle.written_records.specs.Records.{io_of, entries_for};
 ghost use Rattle.written_program.specs.Program.{joined};
-ghost use Rattle.writer.specs.File.{fileOf};
-ghost use Rattle.writer.specs.Write.{writeOf, Writes, FileReady, EntryBlocksReady};
+ghost use Rattle.writer.specs.File.{file_of};
+ghost use Rattle.writer.specs.Write.{write_of, Writes, FileReady, EntryBlocksReady};
 
 use block::BLOCK_WORDS;
 use label::Counts;
@@ -30,7 +30,7 @@ pub fn write(
     words: &[u64],
     blocks: &mut [u64],
 ) -> Answer
-    ensures { Writes (writeOf (record {
+    ensures { Writes (write_of (record {
       head = head.entry.now;
       entries = entries.now;
       sections = sections.now;
@@ -58,8 +58,8 @@ pub fn write(
 
 // How many modification blocks there are.
 fn count_entry_blocks(entries: &[u64]) -> usize
-    requires { entriesFit entries.now ≡ true }
-    ensures { result ≡ entryBlocks (ioOf (countsIn entries.now)) (countsIn entries.now).tables }
+    requires { entries_fit entries.now ≡ true }
+    ensures { result ≡ entry_blocks (io_of (counts_in entries.now)) (counts_in entries.now).tables }
 {
     let c = source::entries::count(entries);
     modification::entry_blocks(c.switches + c.channels + c.units, c.tables) as usize
@@ -80,7 +80,7 @@ fn write_file(
       sections = sections.now;
       words = words.now;
     }) m out.old }
-    ensures { out.new ≡ joined (fileOf (record {
+    ensures { out.new ≡ joined (file_of (record {
       head = head.entry.now;
       entries = entries.now;
       sections = sections.now;
@@ -105,7 +105,7 @@ fn write_file(
 fn write_entry_blocks(out: &mut [u64], entries: &[u64], c: Counts)
     requires { EntryBlocksReady entries.now c out.old }
     ensures { out.new
-        ≡ joined (tab (entriesFor entries.now c) (length out.old / wordsInBlock)) }
+        ≡ joined (tab (entries_for entries.now c) (length out.old / words_in_block)) }
 {
     let n = out.len() / BLOCK_WORDS;
     let mut b: usize = 0;

@@ -13,9 +13,9 @@ use Rattle.word.proofs.Cases.{by-eq, by-lt, both, and_left, and_right}
 use Rattle.program.specs.declared.TableSection.{TableSection}
 use Rattle.program.specs.Pieces.{Piece}
 use Rattle.demands.specs.Image.{pieces}
-use Rattle.source.specs.Source.{countsIn, ibankIn, dbankIn, sectionAt, sectionCount, wordCount}
+use Rattle.source.specs.Source.{counts_in, ibank_in, dbank_in, section_at, section_count, word_count}
 use Rattle.source.specs.Listed.{listed}
-use Rattle.source.specs.Fits.{headFits, entriesFit, sectionsFit, fits}
+use Rattle.source.specs.Fits.{head_fits, entries_fit, sections_fit, fits}
 use Rattle.source.proofs.Listed.{listed-append}
 use Rattle.cutting.specs.declared.Cursor.{Cursor}
 use Rattle.cutting.specs.declared.Run.{Run}
@@ -24,115 +24,115 @@ use Rattle.cutting.specs.declared.Item.TheVariants.{Segment, Section, Words, End
 use Rattle.cutting.specs.declared.Piece.{Piece as CutPiece}
 use Rattle.cutting.specs.declared.Piece.TheVariants.{SegmentHead, TableHead, GroupOf}
 use Rattle.cutting.specs.declared.Next.TheVariants.{Put}
-use Rattle.cutting.specs.Cut.{Body, item_at, itemAfter, pastWords, headNext, itemNext, next_at, filledFrom, filledBlock}
-use Rattle.cutting.specs.Cut.{firstCursor, isEnd, is_over, cut}
-use Rattle.cutting.specs.HowFar.{Reached, Carried, itemCount}
-use Rattle.cutting.proofs.Order.{item-head, item-end, item-segment, item-section, not_end}
-use Rattle.cutting.proofs.Placed.{put-segment, put-section}
-use Rattle.cutting.proofs.Far.{first-reached, put-group}
-use Rattle.cutting.proofs.Progress.{cutEnd, cut_all, cut-more}
-use Rattle.written_program.specs.Program.{programFor, programBlocks}
+use Rattle.cutting.specs.Cut.{Body, item_at, item_after, past_words, head_next, item_next, next_at, filled_from, filled_block}
+use Rattle.cutting.specs.Cut.{first_cursor, is_end, is_over, cut}
+use Rattle.cutting.specs.HowFar.{Reached, Carried, item_count}
+use Rattle.cutting.proofs.Order.{item_head, item_end, item_segment, item_section, not_end}
+use Rattle.cutting.proofs.Placed.{put-segment, put_section}
+use Rattle.cutting.proofs.Far.{first-reached, put_group}
+use Rattle.cutting.proofs.Progress.{cut_end, cut_all, cut_more}
+use Rattle.written_program.specs.Program.{program_for, program_blocks}
 use Rattle.written_program.proofs.BackPieces.{head_of, placed}
-use Rattle.written_file.specs.Back.{banksRead, sectionBy, sectionsRead}
-use Rattle.written_file.proofs.BackProgram.{blockPlaced, pieces-trip, all-added, end-reached}
+use Rattle.written_file.specs.Back.{banks_read, section_by, sections_read}
+use Rattle.written_file.proofs.BackProgram.{block_placed, pieces_trip, all-added, end_reached}
 
 -- ---- the banks
-abbrev pub banksIn : List ℕ → List ℕ
-banksIn head = (ibankIn head).at.0 ∷ (ibankIn head).count ∷ (dbankIn head).at.0 ∷ (dbankIn head).count ∷ []
+abbrev pub banks_in : List ℕ → List ℕ
+banks_in head = (ibank_in head).at.0 ∷ (ibank_in head).count ∷ (dbank_in head).at.0 ∷ (dbank_in head).count ∷ []
 
 module _ (b : Body) where
   -- something is to be written
-  not-over : is_over b firstCursor ≡ false
+  not_over : is_over b first_cursor ≡ false
   unfolding is_over item_at
-  not-over = refl
+  not_over = refl
 
   -- the first block begins with the segment section's head
-  block-banks : (rest : List (List CutPiece))
-      → banksRead (flat_map (blockPlaced b.words) ((filledBlock b firstCursor).pieces ∷ rest)) ≡ banksIn b.head
-  unfolding filledBlock filledFrom next_at itemNext headNext item_at flat_map placed head_of banksRead
-  block-banks rest = refl
+  block_banks : (rest : List (List CutPiece))
+      → banks_read (flat_map (block_placed b.words) ((filled_block b first_cursor).pieces ∷ rest)) ≡ banks_in b.head
+  unfolding filled_block filled_from next_at item_next head_next item_at flat_map placed head_of banks_read
+  block_banks rest = refl
 
-  pub banks-trip : Carried b → banksRead (pieces (programBlocks b)) ≡ banksIn b.head
+  pub banks_trip : Carried b → banks_read (pieces (program_blocks b)) ≡ banks_in b.head
   unfolding cut
-  banks-trip k =
-      let n = wordCount b.head b.sections in
-      ap banksRead (pieces-trip b k)
-      ∙ rw (cut-more b k n firstCursor (first-reached b) not-over (omega arith)) (block-banks _)
+  banks_trip k =
+      let n = word_count b.head b.sections in
+      ap banks_read (pieces_trip b k)
+      ∙ rw (cut_more b k n first_cursor (first-reached b) not_over (omega arith)) (block_banks _)
 
 -- ---- the sections: the heads of the pieces give them
-abbrev pub sectionNumbers : TableSection → List ℕ
-sectionNumbers t = t.number.0 ∷ t.count ∷ []
+abbrev pub section_numbers : TableSection → List ℕ
+section_numbers t = t.number.0 ∷ t.count ∷ []
 
-abbrev pub sectionOf : CutPiece → List ℕ
-sectionOf (SegmentHead g) = []
-sectionOf (TableHead t) = sectionNumbers t
-sectionOf (GroupOf g first) = []
+abbrev pub section_of : CutPiece → List ℕ
+section_of (SegmentHead g) = []
+section_of (TableHead t) = section_numbers t
+section_of (GroupOf g first) = []
 
-by-head : (x : CutPiece) → sectionBy (head_of x) ≡ sectionOf x
+by_head : (x : CutPiece) → section_by (head_of x) ≡ section_of x
 unfolding head_of
-by-head (SegmentHead g) = refl
-by-head (TableHead t) = refl
-by-head (GroupOf g first) = refl
+by_head (SegmentHead g) = refl
+by_head (TableHead t) = refl
+by_head (GroupOf g first) = refl
 
-sections-append : (xs ys : List Piece) → sectionsRead (xs ++ ys) ≡ sectionsRead xs ++ sectionsRead ys
-unfolding sectionsRead
-sections-append [] ys = refl
-sections-append (p ∷ ps) ys =
-    ap (λ (l : List ℕ). sectionBy p.head ++ l) (sections-append ps ys)
-    ∙ sym (append_assoc (sectionBy p.head) (sectionsRead ps) (sectionsRead ys))
+sections_append : (xs ys : List Piece) → sections_read (xs ++ ys) ≡ sections_read xs ++ sections_read ys
+unfolding sections_read
+sections_append [] ys = refl
+sections_append (p ∷ ps) ys =
+    ap (λ (l : List ℕ). section_by p.head ++ l) (sections_append ps ys)
+    ∙ sym (append_assoc (section_by p.head) (sections_read ps) (sections_read ys))
 
-pub placed-sections : (block : List ℕ) (i : ℕ) (ps : List CutPiece) → sectionsRead (placed block i ps) ≡ flat_map sectionOf ps
-unfolding placed sectionsRead flat_map
-placed-sections block i [] = refl
-placed-sections block i (x ∷ xs) = rw (by-head x, placed-sections block _ xs)
+pub placed_sections : (block : List ℕ) (i : ℕ) (ps : List CutPiece) → sections_read (placed block i ps) ≡ flat_map section_of ps
+unfolding placed sections_read flat_map
+placed_sections block i [] = refl
+placed_sections block i (x ∷ xs) = rw (by_head x, placed_sections block _ xs)
 
-pub sections-of : (words : List ℕ) (cuts : List (List CutPiece))
-    → sectionsRead (flat_map (blockPlaced words) cuts) ≡ flat_map (flat_map sectionOf) cuts
-unfolding flat_map sectionsRead
-sections-of words [] = refl
-sections-of words (ps ∷ rest) =
-    sections-append (blockPlaced words ps) (flat_map (blockPlaced words) rest)
-    ∙ rw (placed-sections (programFor words ps) 1 ps, sections-of words rest)
+pub sections_of : (words : List ℕ) (cuts : List (List CutPiece))
+    → sections_read (flat_map (block_placed words) cuts) ≡ flat_map (flat_map section_of) cuts
+unfolding flat_map sections_read
+sections_of words [] = refl
+sections_of words (ps ∷ rest) =
+    sections_append (block_placed words ps) (flat_map (block_placed words) rest)
+    ∙ rw (placed_sections (program_for words ps) 1 ps, sections_of words rest)
 
 -- ---- how many table sections' heads stand before item i
-abbrev pub headsBefore : ℕ → ℕ
-headsBefore i = (i - 2) / 2
+abbrev pub heads_before : ℕ → ℕ
+heads_before i = (i - 2) / 2
 
-after-late : (head : List ℕ) (i : ℕ) → 3 ≤ i → itemAfter head i ≡ i + 1
-unfolding itemAfter
-after-late head i h = rw (ne_eqb i 1 (λ e. omega arith))
+after_late : (head : List ℕ) (i : ℕ) → 3 ≤ i → item_after head i ≡ i + 1
+unfolding item_after
+after_late head i h = rw (ne_eqb i 1 (λ e. omega arith))
 
-after-early : (head : List ℕ) (i : ℕ) → i < 3 → itemAfter head i ≤ 3
-unfolding itemAfter
-after-early head i h =
-    both (λ (j : ℕ). j ≤ 3) (eqb i 1 && eqb (dbankIn head).count 0) {x = 3} {y = i + 1} (omega arith) (omega arith)
+after_early : (head : List ℕ) (i : ℕ) → i < 3 → item_after head i ≤ 3
+unfolding item_after
+after_early head i h =
+    both (λ (j : ℕ). j ≤ 3) (eqb i 1 && eqb (dbank_in head).count 0) {x = 3} {y = i + 1} (omega arith) (omega arith)
 
 module _ (head sections : List ℕ) where
   -- past the banks, words stand at the even numbers
-  words-even : (i : ℕ) (r : Run) → item_at head sections i ≡ Words r → 3 ≤ i → (i - 3) % 2 ≡ 1
-  words-even i r e h =
+  words_even : (i : ℕ) (r : Run) → item_at head sections i ≡ Words r → 3 ≤ i → (i - 3) % 2 ≡ 1
+  words_even i r e h =
       by-eq ((i - 3) % 2) 0
-      (λ z. by-lt ((i - 3) / 2) (sectionCount sections)
+      (λ z. by-lt ((i - 3) / 2) (section_count sections)
       (λ l.
-      let f = item-head head sections ((i - 3) / 2) i (omega arith) l in
+      let f = item_head head sections ((i - 3) / 2) i (omega arith) l in
       let y : ◌≡◌ {A = ℕ} 0 1 = cc in absurd (omega arith))
       (λ l.
-      let f = item-end head sections i (omega arith) in
+      let f = item_end head sections i (omega arith) in
       let y : ◌≡◌ {A = ℕ} 0 1 = cc in absurd (omega arith)))
       (λ z. by-eq ((i - 3) % 2) 1 (λ o. o) (λ o. absurd (o (omega arith))))
 
   -- behind words there is no head more
-  words-no-head : (i : ℕ) (r : Run) → item_at head sections i ≡ Words r → headsBefore (itemAfter head i) ≡ headsBefore i
-  words-no-head i r e =
-      by-lt i 3 (λ h. omega (arith, after-early head i h))
-      (λ h. omega (arith, words-even i r e h, after-late head i h))
+  words_no_head : (i : ℕ) (r : Run) → item_at head sections i ≡ Words r → heads_before (item_after head i) ≡ heads_before i
+  words_no_head i r e =
+      by-lt i 3 (λ h. omega (arith, after_early head i h))
+      (λ h. omega (arith, words_even i r e h, after_late head i h))
 
   -- within words or behind them
-  run-no-head : (c : Cursor) (r : Run) (n : ℕ) → item_at head sections c.item ≡ Words r
-      → headsBefore (pastWords head r c n).item ≡ headsBefore c.item
-  run-no-head c r n e =
-      both (λ (d : Cursor). headsBefore d.item ≡ headsBefore c.item) (eqb (c.done + n) r.count)
-      (words-no-head c.item r e) refl
+  run_no_head : (c : Cursor) (r : Run) (n : ℕ) → item_at head sections c.item ≡ Words r
+      → heads_before (past_words head r c n).item ≡ heads_before c.item
+  run_no_head c r n e =
+      both (λ (d : Cursor). heads_before d.item ≡ heads_before c.item) (eqb (c.done + n) r.count)
+      (words_no_head c.item r e) refl
 
 flat_append : (f : TableSection → List ℕ) (xs ys : List TableSection) → flat_map f (xs ++ ys) ≡ flat_map f xs ++ flat_map f ys
 unfolding flat_map
@@ -141,21 +141,21 @@ flat_append f (x ∷ xs) ys =
     ap (λ (l : List ℕ). f x ++ l) (flat_append f xs ys) ∙ sym (append_assoc (f x) (flat_map f xs) (flat_map f ys))
 
 -- the numbers of the first n sections
-abbrev pub sectionsTo : List ℕ → ℕ → List ℕ
-sectionsTo sections n = flat_map sectionNumbers (listed (sectionAt sections) 0 n)
+abbrev pub sections_to : List ℕ → ℕ → List ℕ
+sections_to sections n = flat_map section_numbers (listed (section_at sections) 0 n)
 
 one_more : (sections : List ℕ) (j : ℕ)
-    → sectionsTo sections (j + 1) ≡ sectionsTo sections j ++ sectionNumbers (sectionAt sections j)
+    → sections_to sections (j + 1) ≡ sections_to sections j ++ section_numbers (section_at sections j)
 unfolding listed flat_map
 one_more sections j =
     let z : 0 + j ≡ j = omega arith in
-    ap (flat_map sectionNumbers) (listed-append (sectionAt sections) 0 j 1)
-    ∙ flat_append sectionNumbers (listed (sectionAt sections) 0 j) (listed (sectionAt sections) (0 + j) 1)
+    ap (flat_map section_numbers) (listed-append (section_at sections) 0 j 1)
+    ∙ flat_append section_numbers (listed (section_at sections) 0 j) (listed (section_at sections) (0 + j) 1)
     ∙ rw z
 
 -- all of them are the list given
 numbers-from : (sections : List ℕ) (i n : ℕ) → length sections ≡ 2 * (i + n)
-    → flat_map sectionNumbers (listed (sectionAt sections) i n) ≡ drop (2 * i) sections
+    → flat_map section_numbers (listed (section_at sections) i n) ≡ drop (2 * i) sections
 unfolding listed flat_map
 numbers-from sections i zero e = sym (drop_of_length-le sections {i = 2 * i} (omega arith))
 numbers-from sections i (suc n) e =
@@ -166,61 +166,61 @@ numbers-from sections i (suc n) e =
     let t : suc (2 * i) ≡ 2 * i + 1 = omega arith in
     rw (a, d, s, t, r)
 
-is-end : (x : Item) → isEnd x ≡ true → x ≡ End
-is-end (Segment g) o = absurd (false≢true o)
-is-end (Section t) o = absurd (false≢true o)
-is-end (Words r) o = absurd (false≢true o)
-is-end End o = refl
+is_end_lem : (x : Item) → is_end x ≡ true → x ≡ End
+is_end_lem (Segment g) o = absurd (false≢true o)
+is_end_lem (Section t) o = absurd (false≢true o)
+is_end_lem (Words r) o = absurd (false≢true o)
+is_end_lem End o = refl
 
 module _ (b : Body) (k : Carried b) where
-  sections-even : length b.sections % 2 ≡ 0
-  unfolding fits sectionsFit
-  sections-even =
+  sections_even : length b.sections % 2 ≡ 0
+  unfolding fits sections_fit
+  sections_even =
       eqb-true (length b.sections % 2) 0
       (and_left (eqb (length b.sections % 2) 0) _
-      (and_left (sectionsFit (countsIn k.entries).tables b.sections) _
-      (and_right (entriesFit k.entries) _ (and_right (headFits b.head) _ k.fit))))
+      (and_left (sections_fit (counts_in k.entries).tables b.sections) _
+      (and_right (entries_fit k.entries) _ (and_right (head_fits b.head) _ k.fit))))
 
-  pub put-sections : (p : ℕ) (c : Cursor) (y : CutPiece) (d : Cursor) → Reached b c → next_at b p c ≡ Put y d
-      → sectionsTo b.sections (headsBefore d.item) ≡ sectionsTo b.sections (headsBefore c.item) ++ sectionOf y
-  put-sections p c (SegmentHead g) d r q =
+  pub put_sections : (p : ℕ) (c : Cursor) (y : CutPiece) (d : Cursor) → Reached b c → next_at b p c ≡ Put y d
+      → sections_to b.sections (heads_before d.item) ≡ sections_to b.sections (heads_before c.item) ++ section_of y
+  put_sections p c (SegmentHead g) d r q =
       let s = put-segment b p c d g q in
-      let i = (item-segment b.head b.sections c.item g s.0).0 in
-      let w : itemAfter b.head c.item ≡ d.item = ap (λ (x : Cursor). x.item) s.1 in
-      let e : headsBefore d.item ≡ headsBefore c.item = omega (arith, after-early b.head c.item (omega arith)) in
-      rw e (sym (append-nil (sectionsTo b.sections (headsBefore c.item))))
-  put-sections p c (TableHead t) d r q =
-      let s = put-section b p c d t q in
-      let i = item-section b.head b.sections c.item t s.0 in
+      let i = (item_segment b.head b.sections c.item g s.0).0 in
+      let w : item_after b.head c.item ≡ d.item = ap (λ (x : Cursor). x.item) s.1 in
+      let e : heads_before d.item ≡ heads_before c.item = omega (arith, after_early b.head c.item (omega arith)) in
+      rw e (sym (append-nil (sections_to b.sections (heads_before c.item))))
+  put_sections p c (TableHead t) d r q =
+      let s = put_section b p c d t q in
+      let i = item_section b.head b.sections c.item t s.0 in
       let j = (c.item - 3) / 2 in
-      let w : itemAfter b.head c.item ≡ d.item = ap (λ (x : Cursor). x.item) s.1 in
-      let l : itemAfter b.head c.item ≡ c.item + 1 = after-late b.head c.item i.0 in
-      let m : headsBefore d.item ≡ j + 1 = omega arith in
-      let n : headsBefore c.item ≡ j = omega arith in
+      let w : item_after b.head c.item ≡ d.item = ap (λ (x : Cursor). x.item) s.1 in
+      let l : item_after b.head c.item ≡ c.item + 1 = after_late b.head c.item i.0 in
+      let m : heads_before d.item ≡ j + 1 = omega arith in
+      let n : heads_before c.item ≡ j = omega arith in
       rw (m, n, i.3) (one_more b.sections j)
-  put-sections p c (GroupOf g first) d r q =
-      let s = put-group b k p c r g first d q in
-      let e : headsBefore d.item ≡ headsBefore c.item =
-      rw s.cursor at (run-no-head b.head b.sections c s.run g.program s.item) in
-      rw e (sym (append-nil (sectionsTo b.sections (headsBefore c.item))))
+  put_sections p c (GroupOf g first) d r q =
+      let s = put_group b k p c r g first d q in
+      let e : heads_before d.item ≡ heads_before c.item =
+      rw s.cursor at (run_no_head b.head b.sections c s.run g.program s.item) in
+      rw e (sym (append-nil (sections_to b.sections (heads_before c.item))))
 
   -- at the end all heads are passed
-  end-heads : (c : Cursor) → Reached b c → is_over b c ≡ true → headsBefore c.item ≡ sectionCount b.sections
+  end_heads : (c : Cursor) → Reached b c → is_over b c ≡ true → heads_before c.item ≡ section_count b.sections
   unfolding is_over
-  end-heads c r o =
-      let e = is-end (item_at b.head b.sections c.item) o in
-      by-lt c.item (itemCount b)
+  end_heads c r o =
+      let e = is_end_lem (item_at b.head b.sections c.item) o in
+      by-lt c.item (item_count b)
       (λ h. absurd (rw e at (not_end b.head b.sections c.item h)))
       (λ h. omega (arith, r.item))
 
-  pub sections-trip : sectionsRead (pieces (programBlocks b)) ≡ b.sections
+  pub sections_trip : sections_read (pieces (program_blocks b)) ≡ b.sections
   unfolding listed flat_map
-  sections-trip =
-      let n = wordCount b.head b.sections in
-      let e = cutEnd n b firstCursor in
-      let h = end-heads e (end-reached b k n firstCursor (first-reached b)) (cut_all b k) in
-      ap sectionsRead (pieces-trip b k)
-      ∙ sections-of b.words (cut b)
-      ∙ sym (all-added b k (λ c. sectionsTo b.sections (headsBefore c.item)) sectionOf put-sections refl)
-      ∙ ap (sectionsTo b.sections) h
-      ∙ numbers-from b.sections 0 (sectionCount b.sections) (omega (arith, sections-even))
+  sections_trip =
+      let n = word_count b.head b.sections in
+      let e = cut_end n b first_cursor in
+      let h = end_heads e (end_reached b k n first_cursor (first-reached b)) (cut_all b k) in
+      ap sections_read (pieces_trip b k)
+      ∙ sections_of b.words (cut b)
+      ∙ sym (all-added b k (λ c. sections_to b.sections (heads_before c.item)) section_of put_sections refl)
+      ∙ ap (sections_to b.sections) h
+      ∙ numbers-from b.sections 0 (section_count b.sections) (omega (arith, sections_even))

@@ -26,5 +26,5 @@ NoneByLists [] = Unit {0}
 NoneByLists (a ∷ rest) = NotByLists a × NoneByLists rest
 
 -- "each of its blocks is answered *more* and the last *done*" with the start a; n blocks stand before the last
-abbrev pub allTaken : ℕ → Absolute → List Answer
-allTaken n a = replicate n More ++ (Done a ∷ [])
+abbrev pub all_taken : ℕ → Absolute → List Answer
+all_taken n a = replicate n More ++ (Done a ∷ [])

@@ -34,9 +34,9 @@ joined out v p w ws ms long e h =
     rw (first_part out v p ws (omega arith), take_at (v ∷ ws) d (1 + p) n, drop_at (v ∷ ws) d (1 + p) n, z, append-nil ms)
 
 -- four numbers written one after another
-pub four-set : (l : List ℕ) (p a b c d : ℕ) → p + 4 ≤ length l
+pub four_set : (l : List ℕ) (p a b c d : ℕ) → p + 4 ≤ length l
     → set (set (set (set l p a) (p + 1) b) (p + 2) c) (p + 3) d ≡ splice l p (a ∷ b ∷ c ∷ d ∷ [])
-four-set l p a b c d h =
+four_set l p a b c d h =
     let l1 = set l p a in
     let l2 = set l1 (p + 1) b in
     let l3 = set l2 (p + 2) c in

@@ -1,9 +1,9 @@
 // The pieces of a program block, written (#102): a section's head, or a group with its program words and indicator words.
 ghost use Rattle.std.specs.Prelude.{◌≡◌, [], ◌∷◌, map, ◌+◌, ◌≤◌, ◌<◌, ◌^◌, length};
 ghost use Rattle.word.specs.Lists.{splice};
-ghost use Rattle.source.specs.Source.{wantedFrom};
-ghost use Rattle.forms.specs.Forms.{programWord, groupMarks, wordsFor, indicatorWords};
-ghost use Rattle.written_pieces.specs.Heads.{bankWord, sectionWord, identifier, groupWords, pieceWords};
+ghost use Rattle.source.specs.Source.{wanted_from};
+ghost use Rattle.forms.specs.Forms.{program_word, group_marks, words_for, indicator_words};
+ghost use Rattle.written_pieces.specs.Heads.{bank_word, section_word, identifier, group_words, piece_words};
 ghost use Rattle.written_pieces.specs.HowPieces.{BankReady, SectionReady, WordsReady, GroupReady, PieceReady};
 
 use cutting::Piece;
@@ -27,7 +27,7 @@ const NOT_IBANK: u64 = 1 << 16;
 // A piece, from place p of a block on.
 pub fn put_piece(out: &mut [u64], p: usize, x: Piece, words: &[u64])
     requires { PieceReady words.now x p (length out.old) }
-    ensures { out.new ≡ splice out.old p (pieceWords words.now x) }
+    ensures { out.new ≡ splice out.old p (piece_words words.now x) }
 {
     match x {
         Piece::SegmentHead(g) => put_segment(out, p, g),
@@ -40,7 +40,7 @@ pub fn put_piece(out: &mut [u64], p: usize, x: Piece, words: &[u64])
 fn put_segment(out: &mut [u64], p: usize, g: Segment)
     requires { (p + 4 ≤ length out.old) × (BankReady g.ibank) × (BankReady g.dbank) }
     ensures { out.new
-        ≡ splice out.old p (bankWord g.ibank ∷ (bankWord g.dbank ∷ (0 ∷ (0 ∷ [])))) }
+        ≡ splice out.old p (bank_word g.ibank ∷ (bank_word g.dbank ∷ (0 ∷ (0 ∷ [])))) }
 {
     out[p] = bank_word(g.ibank);
     out[p + 1] = bank_word(g.dbank);
@@ -51,7 +51,7 @@ fn put_segment(out: &mut [u64], p: usize, g: Segment)
 // A table section's word.
 fn put_section(out: &mut [u64], p: usize, t: TableSection)
     requires { (p + 1 ≤ length out.old) × (SectionReady t) }
-    ensures { out.new ≡ splice out.old p (sectionWord t ∷ []) }
+    ensures { out.new ≡ splice out.old p (section_word t ∷ []) }
 {
     out[p] = section_word(t);
 }
@@ -60,7 +60,7 @@ fn put_section(out: &mut [u64], p: usize, t: TableSection)
 fn put_group_at(out: &mut [u64], p: usize, g: Group, words: &[u64], first: usize)
     requires { (p + (1 + g.words) ≤ length out.old) × (GroupReady words.now g first) }
     ensures { out.new
-        ≡ splice out.old p (groupWords g (wantedFrom words.now first g.program)) }
+        ≡ splice out.old p (group_words g (wanted_from words.now first g.program)) }
 {
     let n = 1 + g.words as usize;
     put_group(&mut out[p..p + n], g, words, first);
@@ -69,7 +69,7 @@ fn put_group_at(out: &mut [u64], p: usize, g: Group, words: &[u64], first: usize
 // A bank's word.
 fn bank_word(b: Bank) -> u64
     requires { BankReady b }
-    ensures { result ≡ bankWord b }
+    ensures { result ≡ bank_word b }
 {
     COUNT * b.count + b.at.0
 }
@@ -77,7 +77,7 @@ fn bank_word(b: Bank) -> u64
 // A table section's.
 fn section_word(t: TableSection) -> u64
     requires { SectionReady t }
-    ensures { result ≡ sectionWord t }
+    ensures { result ≡ section_word t }
 {
     SECTION + COUNT * t.count + t.number.0
 }
@@ -98,7 +98,7 @@ fn identify(g: Group) -> u64
 // A group: its identifier, its program words, its indicator words, into a slice of their number.
 fn put_group(out: &mut [u64], g: Group, words: &[u64], first: usize)
     requires { (length out.old ≡ 1 + g.words) × (GroupReady words.now g first) }
-    ensures { out.new ≡ groupWords g (wantedFrom words.now first g.program) }
+    ensures { out.new ≡ group_words g (wanted_from words.now first g.program) }
 {
     let n = g.program as usize;
     let end = 1 + g.words as usize;
@@ -110,7 +110,7 @@ fn put_group(out: &mut [u64], g: Group, words: &[u64], first: usize)
 // The program words of a group, into a slice of their number.
 fn put_words(out: &mut [u64], words: &[u64], first: usize)
     requires { WordsReady words.now first (length out.old) }
-    ensures { out.new ≡ map programWord (wantedFrom words.now first (length out.old)) }
+    ensures { out.new ≡ map program_word (wanted_from words.now first (length out.old)) }
 {
     let n = out.len();
     let mut i: usize = 0;
@@ -124,8 +124,8 @@ fn put_words(out: &mut [u64], words: &[u64], first: usize)
 // `ahead`, a number of `held` bits.
 fn put_marks(out: &mut [u64], words: &[u64], first: usize, n: usize)
     requires { (WordsReady words.now first n)
-        × (length out.old ≡ wordsFor (length (groupMarks (wantedFrom words.now first n)))) }
-    ensures { out.new ≡ indicatorWords (groupMarks (wantedFrom words.now first n)) }
+        × (length out.old ≡ words_for (length (group_marks (wanted_from words.now first n)))) }
+    ensures { out.new ≡ indicator_words (group_marks (wanted_from words.now first n)) }
 {
     let mut next = out.len();
     let mut ahead: u64 = 0;

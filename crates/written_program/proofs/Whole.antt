@@ -6,76 +6,76 @@ use mathlib.Core.List.{◌∷◌, flat_map}
 use native.Mathlib.Omega.{arith}
 use lib.ListN.{length, length-append}
 use borrow.Author.Tests.{lt-ltb}
-use Rattle.word.specs.Limits.{wordsInBlock}
-use Rattle.word.specs.Word.{isWord, wordLimit}
+use Rattle.word.specs.Limits.{words_in_block}
+use Rattle.word.specs.Word.{is_word, word_limit}
 use Rattle.word.specs.Lists.{every}
-use Rattle.word.proofs.Stretch.{every-both}
-use Rattle.block.specs.Block.{wholeBlock, verdict}
+use Rattle.word.proofs.Stretch.{every_both}
+use Rattle.block.specs.Block.{whole_block, verdict}
 use Rattle.block.specs.Fieldata.{spelt}
-use Rattle.block.specs.Records.{checksumPlace, program}
+use Rattle.block.specs.Records.{checksum_place, program}
 use Rattle.block.specs.declared.Record.TheVariants.{Program}
 use Rattle.block.specs.declared.Verdict.TheVariants.{Pass}
 use Rattle.block.proofs.OnePass.{whole_long}
 use Rattle.block.proofs.Padded.{words_append, padded-whole}
-use Rattle.block.proofs.Sealed.{anew-whole, anew-passes}
+use Rattle.block.proofs.Sealed.{anew_whole, anew_passes}
 use Rattle.cutting.specs.declared.Cursor.{Cursor}
-use Rattle.cutting.specs.Cut.{Body, piece_size, next_at, Filled, filledFrom, filledBlock}
+use Rattle.cutting.specs.Cut.{Body, piece_size, next_at, Filled, filled_from, filled_block}
 use Rattle.cutting.specs.HowFar.{Carried, Reached}
 use Rattle.cutting.proofs.Far.{put-reached}
-use Rattle.cutting.proofs.Filling.{put_holds, sizesOf, block_size}
-use Rattle.written_pieces.specs.Heads.{pieceWords}
-use Rattle.written_pieces.proofs.Whole.{piece-long, piece-words}
-use Rattle.written_program.specs.Program.{programWords, programFor}
-use Rattle.written_program.proofs.Fitting.{put-fitting}
+use Rattle.cutting.proofs.Filling.{put_holds, sizes_of, block_size}
+use Rattle.written_pieces.specs.Heads.{piece_words}
+use Rattle.written_pieces.proofs.Whole.{piece_long, piece_words_lem}
+use Rattle.written_program.specs.Program.{program_words, program_for}
+use Rattle.written_program.proofs.Fitting.{put_fitting}
 
-program-word : isWord program ≡ true
+program_word_lem : is_word program ≡ true
 unfolding program spelt
-program-word = lt-ltb program wordLimit (omega arith)
+program_word_lem = lt-ltb program word_limit (omega arith)
 
 module _ (b : Body) (k : Carried b) where
   -- the words of the pieces that a block is filled with
   filled-long : (n p : ℕ) (c : Cursor) → Reached b c
-      → length (flat_map (pieceWords b.words) (filledFrom n b p c).pieces) ≡ sizesOf (filledFrom n b p c).pieces
-  unfolding filledFrom flat_map sizesOf
+      → length (flat_map (piece_words b.words) (filled_from n b p c).pieces) ≡ sizes_of (filled_from n b p c).pieces
+  unfolding filled_from flat_map sizes_of
   filled-long zero p c s = refl
   filled-long (suc n) p c s =
-      put_holds c (λ (f : Filled). length (flat_map (pieceWords b.words) f.pieces) ≡ sizesOf f.pieces) (next_at b p c) _ refl
+      put_holds c (λ (f : Filled). length (flat_map (piece_words b.words) f.pieces) ≡ sizes_of f.pieces) (next_at b p c) _ refl
       (λ y d q.
       omega (
         arith,
-        length-append (pieceWords b.words y) (flat_map (pieceWords b.words) (filledFrom n b (p + piece_size y) d).pieces),
-        piece-long b.words y (put-fitting b k p c s y d q),
+        length-append (piece_words b.words y) (flat_map (piece_words b.words) (filled_from n b (p + piece_size y) d).pieces),
+        piece_long b.words y (put_fitting b k p c s y d q),
         filled-long n (p + piece_size y) d (put-reached b k p c s y d q),
       ))
 
-  filled-words : (n p : ℕ) (c : Cursor) → Reached b c
-      → every isWord (flat_map (pieceWords b.words) (filledFrom n b p c).pieces) ≡ true
-  unfolding filledFrom flat_map every
-  filled-words zero p c s = refl
-  filled-words (suc n) p c s =
-      put_holds c (λ (f : Filled). every isWord (flat_map (pieceWords b.words) f.pieces) ≡ true) (next_at b p c) _ refl
+  filled_words : (n p : ℕ) (c : Cursor) → Reached b c
+      → every is_word (flat_map (piece_words b.words) (filled_from n b p c).pieces) ≡ true
+  unfolding filled_from flat_map every
+  filled_words zero p c s = refl
+  filled_words (suc n) p c s =
+      put_holds c (λ (f : Filled). every is_word (flat_map (piece_words b.words) f.pieces) ≡ true) (next_at b p c) _ refl
       (λ y d q.
-      words_append (pieceWords b.words y) _ (piece-words b.words y (put-fitting b k p c s y d q))
-      (filled-words n (p + piece_size y) d (put-reached b k p c s y d q)))
+      words_append (piece_words b.words y) _ (piece_words_lem b.words y (put_fitting b k p c s y d q))
+      (filled_words n (p + piece_size y) d (put-reached b k p c s y d q)))
 
   module _ (c : Cursor) (s : Reached b c) where
-    pub program-whole : wholeBlock (programWords b.words (filledBlock b c).pieces) ≡ true
-    unfolding programWords filledBlock
+    pub program-whole : whole_block (program_words b.words (filled_block b c).pieces) ≡ true
+    unfolding program_words filled_block
     program-whole =
-        let ws = flat_map (pieceWords b.words) (filledFrom 254 b 1 c).pieces in
+        let ws = flat_map (piece_words b.words) (filled_from 254 b 1 c).pieces in
         let l = filled-long 254 1 c s in
         let n = block_size b c in
-        padded-whole (program ∷ ws) (omega arith) (every-both isWord program ws program-word (filled-words 254 1 c s))
+        padded-whole (program ∷ ws) (omega arith) (every_both is_word program ws program_word_lem (filled_words 254 1 c s))
 
-    pub program-for-whole : wholeBlock (programFor b.words (filledBlock b c).pieces) ≡ true
-    unfolding programFor
-    program-for-whole =
-        anew-whole (checksumPlace Program) (programWords b.words (filledBlock b c).pieces) (omega arith) program-whole
+    pub program_for_whole : whole_block (program_for b.words (filled_block b c).pieces) ≡ true
+    unfolding program_for
+    program_for_whole =
+        anew_whole (checksum_place Program) (program_words b.words (filled_block b c).pieces) (omega arith) program-whole
 
-    pub program-long : length (programFor b.words (filledBlock b c).pieces) ≡ wordsInBlock
-    program-long = whole_long (programFor b.words (filledBlock b c).pieces) program-for-whole
+    pub program-long : length (program_for b.words (filled_block b c).pieces) ≡ words_in_block
+    program-long = whole_long (program_for b.words (filled_block b c).pieces) program_for_whole
 
-    pub program-passes : verdict Program (programFor b.words (filledBlock b c).pieces) ≡ Pass
-    unfolding verdict programFor
-    program-passes =
-        anew-passes (checksumPlace Program) (programWords b.words (filledBlock b c).pieces) (omega arith) program-whole
+    pub program_passes : verdict Program (program_for b.words (filled_block b c).pieces) ≡ Pass
+    unfolding verdict program_for
+    program_passes =
+        anew_passes (checksum_place Program) (program_words b.words (filled_block b c).pieces) (omega arith) program-whole

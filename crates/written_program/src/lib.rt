@@ -1,10 +1,10 @@
 // The program blocks of a file, written from what a student gives (#102): a block is filled with pieces, one after another, and
 // sealed.
 ghost use Rattle.std.specs.Prelude.{◌≡◌, length};
-ghost use Rattle.cutting.specs.Cut.{filledBlock, cut};
+ghost use Rattle.cutting.specs.Cut.{filled_block, cut};
 ghost use Rattle.cutting.specs.HowFar.{Carried};
-ghost use Rattle.written_program.specs.Program.{programBlocks, joined};
-ghost use Rattle.written_program.specs.HowFill.{laidFrom, Lays, Fills, FarReady, FillReady, WriteReady};
+ghost use Rattle.written_program.specs.Program.{program_blocks, joined};
+ghost use Rattle.written_program.specs.HowFill.{laid_from, Lays, Fills, FarReady, FillReady, WriteReady};
 
 use block::{BLOCK_WORDS, Record};
 use cutting::{Cursor, Next, cuts};
@@ -38,7 +38,7 @@ pub fn count_blocks(head: &[u64], sections: &[u64], words: &[u64]) -> usize
 // How far the writing has come when one more block is full.
 fn pass_block(head: &[u64], sections: &[u64], words: &[u64], start: Cursor) -> Cursor
     requires { FarReady (record { head = head.now; sections = sections.now; words = words.now }) start }
-    ensures { result ≡ (filledBlock (record {
+    ensures { result ≡ (filled_block (record {
       head = head.entry.now;
       sections = sections.now;
       words = words.now;
@@ -62,7 +62,7 @@ fn pass_block(head: &[u64], sections: &[u64], words: &[u64], start: Cursor) -> C
 // Writes the program blocks into a slice of their length.
 pub fn write_blocks(out: &mut [u64], head: &[u64], sections: &[u64], words: &[u64])
     requires { WriteReady (record { head = head.now; sections = sections.now; words = words.now }) out.old }
-    ensures { out.new ≡ joined (programBlocks (record {
+    ensures { out.new ≡ joined (program_blocks (record {
       head = head.entry.now;
       sections = sections.now;
       words = words.now;
@@ -106,7 +106,7 @@ fn fill_pieces(
     start: Cursor,
 ) -> Cursor
     requires { FillReady (record { head = head.now; sections = sections.now; words = words.now }) start out.old }
-    ensures { Lays (laidFrom 254 (record {
+    ensures { Lays (laid_from 254 (record {
       head = head.entry.now;
       sections = sections.now;
       words = words.now;

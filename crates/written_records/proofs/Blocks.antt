@@ -9,112 +9,112 @@ use lib.ListN.{length, get_or, set, length-set}
 use lib.Seq.{get_or-set_other}
 use lib.Dec.{eqb}
 use borrow.Author.Tests.{eq-eqb, lt-ltb}
-use Rattle.word.specs.Limits.{wordsInBlock}
-use Rattle.word.specs.Word.{isWord, wordLimit}
+use Rattle.word.specs.Limits.{words_in_block}
+use Rattle.word.specs.Word.{is_word, word_limit}
 use Rattle.word.specs.Lists.{every, tab}
 use Rattle.word.proofs.Cases.{and_both}
 use Rattle.word.proofs.Lists.{length-tab}
-use Rattle.word.proofs.Stretch.{every-both, every_set}
-use Rattle.block.specs.Block.{wholeBlock, padded, sealedAnew, verdict}
+use Rattle.word.proofs.Stretch.{every_both, every_set}
+use Rattle.block.specs.Block.{whole_block, padded, sealed_anew, verdict}
 use Rattle.block.specs.Checksum.{checksum, others}
 use Rattle.block.specs.Fieldata.{spelt}
-use Rattle.block.specs.Records.{checksumPlace, modification, termination}
+use Rattle.block.specs.Records.{checksum_place, modification, termination}
 use Rattle.block.specs.declared.Record.TheVariants.{Label, Modification, Termination}
 use Rattle.block.specs.declared.Verdict.TheVariants.{Pass}
 use Rattle.block.proofs.OnePass.{whole_long, whole_words}
 use Rattle.block.proofs.Padded.{padded-whole}
-use Rattle.block.proofs.Sealed.{whole_set, anew-whole, anew-passes}
+use Rattle.block.proofs.Sealed.{whole_set, anew_whole, anew_passes}
 use Rattle.label.specs.declared.Counts.{Counts}
-use Rattle.label.specs.Tables.{withinLimits}
-use Rattle.label.proofs.Tables.{few-tables}
-use Rattle.modification.specs.Entries.{entryWordsInBlock}
-use Rattle.source.specs.Source.{start_in, countsIn}
-use Rattle.source.specs.Fits.{headFits, entriesFit}
-use Rattle.written_records.specs.Records.{tableWordsFor, flagWord, countsWord, sectionsWord, frontWords, entryWordOr}
-use Rattle.written_records.specs.Records.{labelWords, labelFor, entriesWords, entriesFor, terminationWords}
-use Rattle.written_records.specs.Records.{terminationFor}
-use Rattle.written_records.proofs.Words.{first_word, second_word, exact-most, start_small, tables-most, tables-words}
-use Rattle.written_records.proofs.Words.{counts-small, entry-word, every-tab}
+use Rattle.label.specs.Tables.{within_limits}
+use Rattle.label.proofs.Tables.{few_tables}
+use Rattle.modification.specs.Entries.{entry_words_in_block}
+use Rattle.source.specs.Source.{start_in, counts_in}
+use Rattle.source.specs.Fits.{head_fits, entries_fit}
+use Rattle.written_records.specs.Records.{table_words_for, flag_word, counts_word, sections_word, front_words, entry_word_or}
+use Rattle.written_records.specs.Records.{label_words, label_for, entries_words, entries_for, termination_words}
+use Rattle.written_records.specs.Records.{termination_for}
+use Rattle.written_records.proofs.Words.{first_word, second_word, exact_most, start_small, tables_most_lem, tables_words}
+use Rattle.written_records.proofs.Words.{counts_small, entry_word_lem, every-tab}
 
 -- ---- the label
-module _ (head : List ℕ) (c : Counts) (h : headFits head ≡ true) (w : withinLimits c ≡ true) where
-  pub front-whole : wholeBlock (padded (frontWords head c)) ≡ true
+module _ (head : List ℕ) (c : Counts) (h : head_fits head ≡ true) (w : within_limits c ≡ true) where
+  pub front-whole : whole_block (padded (front_words head c)) ≡ true
   front-whole =
-      let m = tables-most c in
-      padded-whole (frontWords head c) (omega arith)
-      (every-both isWord (get_or head 0 0) _ (first_word head h)
-      (every-both isWord (get_or head 1 0) _ (second_word head h)
-      (every-both isWord flagWord _ (lt-ltb flagWord wordLimit (omega arith))
-      (every-both isWord (countsWord (get_or head 2 0) c) (tableWordsFor c)
-      (lt-ltb (countsWord (get_or head 2 0) c) wordLimit (counts-small c w (get_or head 2 0) (exact-most head h)))
-      (tables-words c w)))))
+      let m = tables_most_lem c in
+      padded-whole (front_words head c) (omega arith)
+      (every_both is_word (get_or head 0 0) _ (first_word head h)
+      (every_both is_word (get_or head 1 0) _ (second_word head h)
+      (every_both is_word flag_word _ (lt-ltb flag_word word_limit (omega arith))
+      (every_both is_word (counts_word (get_or head 2 0) c) (table_words_for c)
+      (lt-ltb (counts_word (get_or head 2 0) c) word_limit (counts_small c w (get_or head 2 0) (exact_most head h)))
+      (tables_words c w)))))
 
   module _ (n : ℕ) (few : n ≤ c.tables) where
-    pub label-whole : wholeBlock (labelWords head c n) ≡ true
-    unfolding labelWords
+    pub label-whole : whole_block (label_words head c n) ≡ true
+    unfolding label_words
     label-whole =
-        let a = few-tables c w in
+        let a = few_tables c w in
         whole_set _ 255 (get_or head 0 0) (first_word head h)
-        (whole_set (padded (frontWords head c)) 253 (sectionsWord n) (lt-ltb (sectionsWord n) wordLimit (omega arith)) front-whole)
+        (whole_set (padded (front_words head c)) 253 (sections_word n) (lt-ltb (sections_word n) word_limit (omega arith)) front-whole)
 
-    pub label-for-whole : wholeBlock (labelFor head c n) ≡ true
-    unfolding labelFor
-    label-for-whole = anew-whole (checksumPlace Label) (labelWords head c n) (omega arith) label-whole
+    pub label_for_whole : whole_block (label_for head c n) ≡ true
+    unfolding label_for
+    label_for_whole = anew_whole (checksum_place Label) (label_words head c n) (omega arith) label-whole
 
-    pub label-long : length (labelFor head c n) ≡ wordsInBlock
-    label-long = whole_long (labelFor head c n) label-for-whole
+    pub label-long : length (label_for head c n) ≡ words_in_block
+    label-long = whole_long (label_for head c n) label_for_whole
 
-    pub label-passes : verdict Label (labelFor head c n) ≡ Pass
-    unfolding verdict labelFor
-    label-passes = anew-passes (checksumPlace Label) (labelWords head c n) (omega arith) label-whole
+    pub label_passes : verdict Label (label_for head c n) ≡ Pass
+    unfolding verdict label_for
+    label_passes = anew_passes (checksum_place Label) (label_words head c n) (omega arith) label-whole
 
 -- ---- the modification blocks
-modification-word : isWord modification ≡ true
+modification_word : is_word modification ≡ true
 unfolding modification spelt
-modification-word = lt-ltb modification wordLimit (omega arith)
+modification_word = lt-ltb modification word_limit (omega arith)
 
-module _ (entries : List ℕ) (c : Counts) (b : ℕ) (h : entriesFit entries ≡ true) (e : c ≡ countsIn entries) where
-  pub entries-whole : wholeBlock (entriesWords entries c b) ≡ true
-  unfolding entriesWords
+module _ (entries : List ℕ) (c : Counts) (b : ℕ) (h : entries_fit entries ≡ true) (e : c ≡ counts_in entries) where
+  pub entries-whole : whole_block (entries_words entries c b) ≡ true
+  unfolding entries_words
   entries-whole =
-      let f : ℕ → ℕ = λ i. entryWordOr entries c (entryWordsInBlock * b + i) in
-      let l = length-tab f entryWordsInBlock in
-      padded-whole (modification ∷ tab f entryWordsInBlock) (omega arith)
-      (every-both isWord modification (tab f entryWordsInBlock) modification-word
-      (every-tab f (λ i. entry-word entries h c e (entryWordsInBlock * b + i)) entryWordsInBlock))
+      let f : ℕ → ℕ = λ i. entry_word_or entries c (entry_words_in_block * b + i) in
+      let l = length-tab f entry_words_in_block in
+      padded-whole (modification ∷ tab f entry_words_in_block) (omega arith)
+      (every_both is_word modification (tab f entry_words_in_block) modification_word
+      (every-tab f (λ i. entry_word_lem entries h c e (entry_words_in_block * b + i)) entry_words_in_block))
 
-  pub entries-for-whole : wholeBlock (entriesFor entries c b) ≡ true
-  unfolding entriesFor
-  entries-for-whole = anew-whole (checksumPlace Modification) (entriesWords entries c b) (omega arith) entries-whole
+  pub entries_for_whole : whole_block (entries_for entries c b) ≡ true
+  unfolding entries_for
+  entries_for_whole = anew_whole (checksum_place Modification) (entries_words entries c b) (omega arith) entries-whole
 
-  pub entries-long : length (entriesFor entries c b) ≡ wordsInBlock
-  entries-long = whole_long (entriesFor entries c b) entries-for-whole
+  pub entries-long : length (entries_for entries c b) ≡ words_in_block
+  entries-long = whole_long (entries_for entries c b) entries_for_whole
 
-  pub entries-passes : verdict Modification (entriesFor entries c b) ≡ Pass
-  unfolding verdict entriesFor
-  entries-passes = anew-passes (checksumPlace Modification) (entriesWords entries c b) (omega arith) entries-whole
+  pub entries_passes : verdict Modification (entries_for entries c b) ≡ Pass
+  unfolding verdict entries_for
+  entries_passes = anew_passes (checksum_place Modification) (entries_words entries c b) (omega arith) entries-whole
 
 -- ---- the termination block
-termination-word : isWord termination ≡ true
+termination_word : is_word termination ≡ true
 unfolding termination spelt
-termination-word = lt-ltb termination wordLimit (omega arith)
+termination_word = lt-ltb termination word_limit (omega arith)
 
-module _ (head : List ℕ) (h : headFits head ≡ true) where
-  pub termination-whole : wholeBlock (terminationWords head) ≡ true
-  unfolding terminationWords every
+module _ (head : List ℕ) (h : head_fits head ≡ true) where
+  pub termination-whole : whole_block (termination_words head) ≡ true
+  unfolding termination_words every
   termination-whole =
       let s = start_small head h in
       padded-whole (termination ∷ (start_in head).0 ∷ []) (omega arith)
-      (every-both isWord termination ((start_in head).0 ∷ []) termination-word
-      (every-both isWord (start_in head).0 [] (lt-ltb (start_in head).0 wordLimit (omega arith)) refl))
+      (every_both is_word termination ((start_in head).0 ∷ []) termination_word
+      (every_both is_word (start_in head).0 [] (lt-ltb (start_in head).0 word_limit (omega arith)) refl))
 
-  pub termination-for-whole : wholeBlock (terminationFor head) ≡ true
-  unfolding terminationFor
-  termination-for-whole = anew-whole (checksumPlace Termination) (terminationWords head) (omega arith) termination-whole
+  pub termination_for_whole : whole_block (termination_for head) ≡ true
+  unfolding termination_for
+  termination_for_whole = anew_whole (checksum_place Termination) (termination_words head) (omega arith) termination-whole
 
-  pub termination-long : length (terminationFor head) ≡ wordsInBlock
-  termination-long = whole_long (terminationFor head) termination-for-whole
+  pub termination-long : length (termination_for head) ≡ words_in_block
+  termination-long = whole_long (termination_for head) termination_for_whole
 
-  pub termination-passes : verdict Termination (terminationFor head) ≡ Pass
-  unfolding verdict terminationFor
-  termination-passes = anew-passes (checksumPlace Termination) (terminationWords head) (omega arith) termination-whole
+  pub termination_passes : verdict Termination (termination_for head) ≡ Pass
+  unfolding verdict termination_for
+  termination_passes = anew_passes (checksum_place Termination) (termination_words head) (omega arith) termination-whole

@@ -2,12 +2,12 @@
 ghost use Rattle.std.specs.Prelude.{◌≡◌, true, ◌+◌, ◌*◌, ◌≤◌, ◌<◌, ◌^◌, length};
 ghost use Rattle.word.specs.Lists.{splice};
 ghost use Rattle.block.specs.Block.{padded};
-ghost use Rattle.label.specs.Tables.{withinLimits};
-ghost use Rattle.source.specs.Source.{countsIn};
-ghost use Rattle.source.specs.Fits.{entriesFit};
-ghost use Rattle.written_records.specs.Records.{tableWordFor, tableWordsFor, countsWord, frontWords};
-ghost use Rattle.written_records.specs.Records.{wordOfEntry, entryWordAt, entryWordOr};
-ghost use Rattle.written_records.specs.Records.{labelFor, entriesFor, terminationFor};
+ghost use Rattle.label.specs.Tables.{within_limits};
+ghost use Rattle.source.specs.Source.{counts_in};
+ghost use Rattle.source.specs.Fits.{entries_fit};
+ghost use Rattle.written_records.specs.Records.{table_word_for, table_words_for, counts_word, front_words};
+ghost use Rattle.written_records.specs.Records.{word_of_entry, entry_word_at, entry_word_or};
+ghost use Rattle.written_records.specs.Records.{label_for, entries_for, termination_for};
 ghost use Rattle.written_records.specs.Records.{LabelReady, FrontReady, EntriesReady, TerminationReady, EntryThere};
 
 use block::{BLOCK_WORDS, Record};
@@ -30,7 +30,7 @@ const ENTRY_WORDS: usize = 254;
 // Writes the label.
 pub fn write_label(out: &mut [u64], head: &[u64], c: Counts, sections: u64)
     requires { LabelReady head.now c sections out.old }
-    ensures { out.new ≡ labelFor head.now c sections }
+    ensures { out.new ≡ label_for head.now c sections }
 {
     write_front(out, head, c);
     out[253] = COUNT + sections;
@@ -41,7 +41,7 @@ pub fn write_label(out: &mut [u64], head: &[u64], c: Counts, sections: u64)
 // Words 0 to 3 and the table words; all others zero.
 fn write_front(out: &mut [u64], head: &[u64], c: Counts)
     requires { FrontReady head.now c out.old }
-    ensures { out.new ≡ padded (frontWords head.now c) }
+    ensures { out.new ≡ padded (front_words head.now c) }
 {
     word::slices::clear(out, 0, BLOCK_WORDS);
     out[0] = head[0];
@@ -53,29 +53,29 @@ fn write_front(out: &mut [u64], head: &[u64], c: Counts)
 
 // Word 3.
 fn counts_word(exact: u64, c: Counts) -> u64
-    requires { (exact ≤ 1) × (withinLimits c ≡ true) }
-    ensures { result ≡ countsWord exact c }
+    requires { (exact ≤ 1) × (within_limits c ≡ true) }
+    ensures { result ≡ counts_word exact c }
 {
     EXACT * exact + COUNT * table_count(c) + (c.switches + c.channels + c.units + c.tables)
 }
 
 // How many types have entries.
 fn table_count(c: Counts) -> u64
-    ensures { result ≡ length (tableWordsFor c) }
+    ensures { result ≡ length (table_words_for c) }
 {
     one_if(c.switches) + one_if(c.channels) + one_if(c.units) + one_if(c.tables)
 }
 
 fn one_if(n: u64) -> u64
-    ensures { result ≡ length (tableWordFor 0 n) }
+    ensures { result ≡ length (table_word_for 0 n) }
 {
     if n == 0 { 0 } else { 1 }
 }
 
 // The table words, from word 4 on.
 fn write_tables(out: &mut [u64], c: Counts)
-    requires { (length out.old ≡ 256) × (withinLimits c ≡ true) }
-    ensures { out.new ≡ splice out.old 4 (tableWordsFor c) }
+    requires { (length out.old ≡ 256) × (within_limits c ≡ true) }
+    ensures { out.new ≡ splice out.old 4 (table_words_for c) }
 {
     let a = write_table(out, 4, label::JUMP_SWITCH, c.switches);
     let b = write_table(out, a, label::CHANNEL, c.channels);
@@ -86,7 +86,7 @@ fn write_tables(out: &mut [u64], c: Counts)
 // A table word at place k, where the type has entries; the place behind it.
 fn write_table(out: &mut [u64], k: usize, t: u64, n: u64) -> usize
     requires { (length out.old ≡ 256) × (k < 16) × (t < 16) × (n < 2 ^ 9) }
-    ensures { (result ≡ k + length (tableWordFor t n)) × (out.new ≡ splice out.old k (tableWordFor t n)) }
+    ensures { (result ≡ k + length (table_word_for t n)) × (out.new ≡ splice out.old k (table_word_for t n)) }
 {
     if n == 0 {
         return k;
@@ -98,7 +98,7 @@ fn write_table(out: &mut [u64], k: usize, t: u64, n: u64) -> usize
 // Writes modification block b, counted from 0.
 pub fn write_entries(out: &mut [u64], entries: &[u64], c: Counts, b: usize)
     requires { EntriesReady entries.now c b out.old }
-    ensures { out.new ≡ entriesFor entries.now c b }
+    ensures { out.new ≡ entries_for entries.now c b }
 {
     word::slices::clear(out, 0, BLOCK_WORDS);
     out[0] = block::MODRC;
@@ -112,8 +112,8 @@ pub fn write_entries(out: &mut [u64], entries: &[u64], c: Counts, b: usize)
 
 // Entry word k; zero past the last.
 fn entry_word_or(entries: &[u64], c: Counts, k: usize) -> u64
-    requires { (entriesFit entries.now ≡ true) × (c ≡ countsIn entries.now) × (k < 2 ^ 32) }
-    ensures { result ≡ entryWordOr entries.now c k }
+    requires { (entries_fit entries.now ≡ true) × (c ≡ counts_in entries.now) × (k < 2 ^ 32) }
+    ensures { result ≡ entry_word_or entries.now c k }
 {
     let io = c.switches + c.channels + c.units;
     if k as u64 >= modification::entry_words(io, c.tables) {
@@ -125,7 +125,7 @@ fn entry_word_or(entries: &[u64], c: Counts, k: usize) -> u64
 // Entry word k: of an I/O entry, which has two, or of a core entry, which has three.
 fn entry_word(entries: &[u64], io: usize, k: usize) -> u64
     requires { EntryThere entries.now io k }
-    ensures { result ≡ entryWordAt entries.now io k }
+    ensures { result ≡ entry_word_at entries.now io k }
 {
     if k < 2 * io {
         return word_of(source::entries::entry_at(entries, k / 2), k % 2);
@@ -135,7 +135,7 @@ fn entry_word(entries: &[u64], io: usize, k: usize) -> u64
 }
 
 fn word_of(e: Entry, j: usize) -> u64
-    ensures { result ≡ wordOfEntry e j }
+    ensures { result ≡ word_of_entry e j }
 {
     if j == 0 {
         return e.first;
@@ -149,7 +149,7 @@ fn word_of(e: Entry, j: usize) -> u64
 // Writes the termination block.
 pub fn write_termination(out: &mut [u64], head: &[u64])
     requires { TerminationReady head.now out.old }
-    ensures { out.new ≡ terminationFor head.now }
+    ensures { out.new ≡ termination_for head.now }
 {
     word::slices::clear(out, 0, BLOCK_WORDS);
     out[0] = block::TRMRC;

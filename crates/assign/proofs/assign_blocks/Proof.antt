@@ -30,8 +30,8 @@ returns c = search rules
 returns-2 : tie.Need-returns-2
 returns-2 c = search rules
 
-pub assign-blocks-spec : {M : Type 1} → statement M
-assign-blocks-spec =
+pub assign_blocks_spec : {M : Type 1} → statement M
+assign_blocks_spec =
     tie.close
     (tie.spec
     first-blocks-requires

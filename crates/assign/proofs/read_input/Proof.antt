@@ -54,8 +54,8 @@ same-length-3 c = search rules
 returns-3 : tie.Need-returns-3 invariant-loop decreases-loop
 returns-3 c = search rules
 
-pub read-input-spec : {M : Type 1} → statement M
-read-input-spec =
+pub read_input_spec : {M : Type 1} → statement M
+read_input_spec =
     tie.close
     (tie.spec
     invariant-loop

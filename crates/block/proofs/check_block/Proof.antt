@@ -1,11 +1,11 @@
 -- `block::check_block` meets its contract: by what is known where the pass has found a sum.
 use Rattle.std.proofs.Common.{◌<◌, sym, ◌∙◌, arith, rules}
-use Rattle.word.specs.Limits.{wordsInBlock}
+use Rattle.word.specs.Limits.{words_in_block}
 use Rattle.block.specs.Checksum.{checksum}
-use Rattle.block.specs.Records.{checksumPlace}
+use Rattle.block.specs.Records.{checksum_place}
 use Rattle.block.specs.Block.{verdict}
-use Rattle.block.proofs.Records.{place-small}
-use Rattle.block.proofs.OnePass.{SumKnown, sum-known, none-refused, agreed-passed, differing-refused}
+use Rattle.block.proofs.Records.{place_small}
+use Rattle.block.proofs.OnePass.{SumKnown, sum_known, none-refused, agreed_passed, differing_refused}
 use Rattle.block.proofs.check_block.Statement.{statement}
 use Rattle.block.proofs.check_block.Tie as tie
 
@@ -22,13 +22,13 @@ checksum-place-requires : tie.Need-checksum-place-requires
 checksum-place-requires c κs = search rules
 
 -- what is known from where the checksum's place is known
-small : (c : tie.After-checksum-place) → c.checksum-place.result < wordsInBlock
-small c = rw c.checksum-place.ensures (place-small c.before.before.before.before.before.before.args.r)
+small : (c : tie.After-checksum-place) → c.checksum-place.result < words_in_block
+small c = rw c.checksum-place.ensures (place_small c.before.before.before.before.before.before.args.r)
 
 known : (c : tie.After-checksum-place) →
     SumKnown c.before.before.before.before.before.before.args.block.now c.checksum-place.result
     c.before.before.s.given.0.0
-known c = sum-known _ _ _ (small c) (sym c.before.before.before.before.sum-words.ensures ∙ c.before.before.s.given.1)
+known c = sum_known _ _ _ (small c) (sym c.before.before.before.before.sum-words.ensures ∙ c.before.before.s.given.1)
 
 mul-seal : tie.Need-overflow-mul-seal
 mul-seal c = omega (arith, small c)
@@ -46,24 +46,24 @@ returns : tie.Need-returns
 unfolding verdict
 returns c =
     let a = c.before.before.before.before.args in
-    none-refused checksum (checksumPlace a.r) a.block.now (sym c.before.before.sum-words.ensures ∙ c.enum_told.given.1)
+    none-refused checksum (checksum_place a.r) a.block.now (sym c.before.before.sum-words.ensures ∙ c.enum_told.given.1)
 
 returns-2 : tie.Need-returns-2
 unfolding verdict
 returns-2 c =
     let k = known c.before.before.before in
     rw (← c.before.before.before.checksum-place.ensures)
-    (agreed-passed checksum _ _ k.whole (sym k.seal ∙ sym c.before.seal-of.ensures ∙ c.if1.true))
+    (agreed_passed checksum _ _ k.whole (sym k.seal ∙ sym c.before.seal-of.ensures ∙ c.if1.true))
 
 returns-3 : tie.Need-returns-3
 unfolding verdict
 returns-3 c =
     let k = known c.before.before.before in
     rw (← c.before.before.before.checksum-place.ensures)
-    (differing-refused checksum _ _ k.whole (λ e. c.if1.false (c.before.seal-of.ensures ∙ k.seal ∙ e)))
+    (differing_refused checksum _ _ k.whole (λ e. c.if1.false (c.before.seal-of.ensures ∙ k.seal ∙ e)))
 
-pub check-block-spec : {M : Type 1} → statement M
-check-block-spec =
+pub check_block_spec : {M : Type 1} → statement M
+check_block_spec =
     tie.close
     (tie.spec
     sum-words-requires

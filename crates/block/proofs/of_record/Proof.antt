@@ -35,8 +35,8 @@ returns-4 : tie.Need-returns-4
 unfolding termination spelt
 returns-4 c = rw (c.enum-told4.given.1, ← c.before.before.word_at.ensures)
 
-pub of-record-spec : {M : Type 1} → statement M
-of-record-spec =
+pub of_record_spec : {M : Type 1} → statement M
+of_record_spec =
     tie.close
     (tie.spec
     word-at-requires

@@ -1,9 +1,9 @@
 -- `block::seal` meets its contract: by what is known where the pass has found a sum.
 use Rattle.std.proofs.Common.{◌≡◌, ◌<◌, sym, ◌∙◌, arith, rules}
-use Rattle.word.specs.Limits.{wordsInBlock}
-use Rattle.block.specs.Block.{sealedAnew}
-use Rattle.block.proofs.OnePass.{SumKnown, sum-known, none-whole}
-use Rattle.block.proofs.Records.{place-small}
+use Rattle.word.specs.Limits.{words_in_block}
+use Rattle.block.specs.Block.{sealed_anew}
+use Rattle.block.proofs.OnePass.{SumKnown, sum_known, none-whole}
+use Rattle.block.proofs.Records.{place_small}
 use Rattle.block.proofs.seal.Statement.{statement}
 use Rattle.block.proofs.seal.Tie as tie
 
@@ -20,16 +20,16 @@ enum-known-s : tie.Need-enum-known-s
 enum-known-s c = search rules
 
 -- what is known once the words are summed
-small : (c : tie.After-known-told) → c.before.before.before.before.before.checksum-place.result < wordsInBlock
+small : (c : tie.After-known-told) → c.before.before.before.before.before.checksum-place.result < words_in_block
 small c =
     rw c.before.before.before.before.before.checksum-place.ensures
-    (place-small c.before.before.before.before.before.before.before.args.r)
+    (place_small c.before.before.before.before.before.before.before.args.r)
 
 known : (c : tie.After-known-told) →
     SumKnown c.before.before.before.before.before.before.before.args.words.now
     c.before.before.before.before.before.checksum-place.result
     c.before.s.given.0.0
-known c = sum-known _ _ _ (small c) (sym c.before.before.before.sum-words.ensures ∙ c.before.s.given.1)
+known c = sum_known _ _ _ (small c) (sym c.before.before.before.sum-words.ensures ∙ c.before.s.given.1)
 
 mul-old : tie.Need-overflow-mul-old
 mul-old c = omega (arith, small c)
@@ -59,13 +59,13 @@ same-length-2 : tie.Need-same-length-2
 same-length-2 c = search rules
 
 returns-2 : tie.Need-returns-2
-unfolding sealedAnew
+unfolding sealed_anew
 returns-2 c =
     rw (← c.before.before.before.before.before.before.before.checksum-place.ensures)
     (rw (c.seal-of.ensures, (known c.before.before).seal))
 
-pub seal-spec : {M : Type 1} → statement M
-seal-spec =
+pub seal_spec : {M : Type 1} → statement M
+seal_spec =
     tie.close
     (tie.spec
     checksum-place-requires

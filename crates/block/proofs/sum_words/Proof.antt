@@ -1,11 +1,11 @@
 -- `block::sum_words` meets its contract: by the loop's invariant, over what is left of the four quarters.
 use Rattle.std.proofs.Common.{◌≡◌, ◌+◌, ◌-◌, ◌%◌, ◌^◌, ◌<◌, ◌≤◌, ◌&&◌, ◌∙◌, arith, rules, le-ltb, lt-ltb}
-use Rattle.word.specs.Word.{wordLimit, isWord}
+use Rattle.word.specs.Word.{word_limit, is_word}
 use Rattle.word.specs.Lists.{every}
 use Rattle.word.proofs.Tests.{tests}
-use Rattle.block.specs.Block.{wholeBlock}
+use Rattle.block.specs.Block.{whole_block}
 use Rattle.block.specs.HowChecksum.{total, summed, quarter, quarters, left_of}
-use Rattle.block.proofs.Quarters.{left-all, sums-more, sums-end, words_more, words-end}
+use Rattle.block.proofs.Quarters.{left-all, sums_more, sums_end, words_more, words_end}
 use Rattle.block.proofs.OnePass.{summed-none, summed-sum}
 use Rattle.block.proofs.sum_words.Statement.{statement}
 use Rattle.block.proofs.sum_words.Tie as tie
@@ -13,13 +13,13 @@ use Rattle.block.proofs.sum_words.Tie as tie
 abbrev invariant-loop : tie.invariant-loop
 invariant-loop block any₀ sum₀ i₀ any sum i =
     (i ≤ quarter) × (sum < 2 ^ 64) × ((sum + total (left_of quarters block i)) % 2 ^ 64 ≡ total block % 2 ^ 64)
-    × (every isWord block ≡ (isWord any && every isWord (left_of quarters block i)))
+    × (every is_word block ≡ (is_word any && every is_word (left_of quarters block i)))
 
 abbrev decreases-loop : tie.decreases-loop
 decreases-loop block any₀ sum₀ i₀ any sum i = quarter - i
 
 returns : tie.Need-returns invariant-loop decreases-loop
-unfolding summed wholeBlock
+unfolding summed whole_block
 returns c = search tests
 
 loop-holds : tie.Need-loop-init invariant-loop decreases-loop
@@ -90,8 +90,8 @@ loop-again c =
         c.before.before.wrapping-add-u642.ensures,
         c.before.before.before.wrapping-add-u64.ensures,
       )
-          (sums-more b l.i (omega arith) l.sum (total b) (omega arith) l.invariant.2),
-      words_more b l.i (omega arith) l.any (every isWord b) (omega arith) l.invariant.3,
+          (sums_more b l.i (omega arith) l.sum (total b) (omega arith) l.invariant.2),
+      words_more b l.i (omega arith) l.any (every is_word b) (omega arith) l.invariant.3,
     )
 
 returns-2 : tie.Need-returns-2 invariant-loop decreases-loop
@@ -99,19 +99,19 @@ returns-2 c =
     let l = c.before.before.loop in
     let b = c.before.before.before.before.before.args.block.now in
     summed-none b (omega arith)
-    (words-end b l.i (omega arith) l.any (every isWord b) (omega arith) l.invariant.3 ∙ le-ltb l.any wordLimit c.if2.true)
+    (words_end b l.i (omega arith) l.any (every is_word b) (omega arith) l.invariant.3 ∙ le-ltb l.any word_limit c.if2.true)
 
 returns-3 : tie.Need-returns-3 invariant-loop decreases-loop
 returns-3 c =
     let l = c.before.before.loop in
     let b = c.before.before.before.before.before.args.block.now in
     summed-sum b l.sum (omega arith)
-    (words-end b l.i (omega arith) l.any (every isWord b) (omega arith) l.invariant.3 ∙ lt-ltb l.any wordLimit c.if2.false)
+    (words_end b l.i (omega arith) l.any (every is_word b) (omega arith) l.invariant.3 ∙ lt-ltb l.any word_limit c.if2.false)
     l.invariant.1
-    (sums-end b l.i (omega arith) l.sum (total b) (omega arith) l.invariant.2)
+    (sums_end b l.i (omega arith) l.sum (total b) (omega arith) l.invariant.2)
 
-pub sum-words-spec : {M : Type 1} → statement M
-sum-words-spec =
+pub sum_words_spec : {M : Type 1} → statement M
+sum_words_spec =
     tie.close
     (tie.spec
     invariant-loop

@@ -3,14 +3,14 @@ use Prim.Native.Nat.{◌≤◌, ◌-◌}
 use mathlib.Core.Path.{◌≡◌, refl}
 use lib.ListN.{length, drop}
 use Rattle.word.specs.Lists.{every}
-use Rattle.book.specs.HowKept.{isMark}
-use Rattle.book.proofs.Marking.{marks-more, marks-fails, marks-ends}
+use Rattle.book.specs.HowKept.{is_mark}
+use Rattle.book.proofs.Marking.{marks_more, marks_fails, marks-ends}
 use native.Mathlib.Omega.{arith}
 use Rattle.book.proofs.all_marks.Statement.{statement}
 use Rattle.book.proofs.all_marks.Tie as tie
 
 abbrev invariant-loop : tie.invariant-loop
-invariant-loop marks j₀ j = (j ≤ length marks) × (every isMark marks ≡ every isMark (drop j marks))
+invariant-loop marks j₀ j = (j ≤ length marks) × (every is_mark marks ≡ every is_mark (drop j marks))
 
 abbrev decreases-loop : tie.decreases-loop
 decreases-loop marks j₀ j = length marks - j
@@ -27,7 +27,7 @@ shared-slice-read-if1 c = omega arith
 returns : tie.Need-returns invariant-loop decreases-loop
 returns c =
     let l = c.before.before.before.loop in
-    marks-fails _ l.j _ (omega arith) c.if1.true l.invariant.1
+    marks_fails _ l.j _ (omega arith) c.if1.true l.invariant.1
 
 add-j : tie.Need-overflow-add-j invariant-loop decreases-loop
 add-j c = omega arith
@@ -38,15 +38,15 @@ loop-less c = omega arith
 loop-again : tie.Need-loop-preserved invariant-loop decreases-loop
 loop-again c =
     let l = c.before.before.before.loop in
-    (omega arith, marks-more _ l.j _ (omega arith) c.if1.false l.invariant.1)
+    (omega arith, marks_more _ l.j _ (omega arith) c.if1.false l.invariant.1)
 
 returns-2 : tie.Need-returns-2 invariant-loop decreases-loop
 returns-2 c =
     let l = c.before.loop in
     marks-ends _ l.j _ (omega arith) l.invariant.1
 
-pub all-marks-spec : {M : Type 1} → statement M
-all-marks-spec =
+pub all-marks_spec : {M : Type 1} → statement M
+all-marks_spec =
     tie.close
     (tie.spec
     invariant-loop

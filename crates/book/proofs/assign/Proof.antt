@@ -35,8 +35,8 @@ returns c =
 returns-2 : tie.Need-returns-2
 returns-2 c = gives-fault _ _ _ _ _ c.before.before.before.read-front.ensures _ c.before.f.given.1
 
-pub assign-spec : {M : Type 1} → statement M
-assign-spec =
+pub assign_spec : {M : Type 1} → statement M
+assign_spec =
     tie.close
     (tie.spec
     read-front-requires

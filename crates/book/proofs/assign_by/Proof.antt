@@ -1,12 +1,12 @@
 -- `book::assign_by` meets its contract: 24 by the lengths and the book, and then what looking up leaves.
 use Prim.Native.Nat.{ℕ, ◌*◌}
 use mathlib.Core.List.{List}
-use Rattle.book.specs.HowKept.{keptTags}
+use Rattle.book.specs.HowKept.{kept_tags}
 use mathlib.Core.Path.{refl, sym, ap, ◌∙◌}
 use lib.ListN.{length}
-use borrow.Author.Tests.{not-true, not-false}
+use borrow.Author.Tests.{not_true, not-false}
 use Rattle.book.proofs.Kept.{all-long, all-kept}
-use Rattle.book.proofs.Answers.{io-unfit, tables-unfit, book-fit, gives-24, gives-on}
+use Rattle.book.proofs.Answers.{io_unfit, tables_unfit, book_fit, gives_24, gives_on}
 use borrow.Author.Rules.{rules}
 use Rattle.book.proofs.assign_by.Statement.{statement}
 use Rattle.book.proofs.assign_by.Tie as tie
@@ -17,7 +17,7 @@ count-of-requires c κs = search rules
 returns : tie.Need-returns
 returns c =
     let a = c.before.before.before.before.before.before.args in
-    gives-24 _ _ _ _ _ (io-unfit a.book.now a.blocks.now a.l a.io.now a.tables.now
+    gives_24 _ _ _ _ _ (io_unfit a.book.now a.blocks.now a.l a.io.now a.tables.now
     (λ e. c.if1.true (e ∙ sym c.before.count_of.ensures)))
 
 count-of-requires-2 : tie.Need-count-of-requires-2
@@ -29,7 +29,7 @@ mul-if2 c = search rules
 returns-2 : tie.Need-returns-2
 returns-2 c =
     let a = c.before.before.before.before.before.before.before.before.args in
-    gives-24 _ _ _ _ _ (tables-unfit a.book.now a.blocks.now a.l a.io.now a.tables.now
+    gives_24 _ _ _ _ _ (tables_unfit a.book.now a.blocks.now a.l a.io.now a.tables.now
     (c.before.before.if1.false ∙ c.before.before.before.count_of.ensures)
     (λ e. c.if2.true (e ∙ sym (ap (λ (n : ℕ). 2 * n) c.before.count-of2.ensures))))
 
@@ -39,11 +39,11 @@ is-book-requires c κs = search rules
 returns-3 : tie.Need-returns-3
 returns-3 c =
     let a = c.before.before.before.before.before.before.before.before.before.before.args in
-    gives-24 _ _ _ _ _ (book-fit a.book.now a.blocks.now a.l a.io.now a.tables.now _
+    gives_24 _ _ _ _ _ (book_fit a.book.now a.blocks.now a.l a.io.now a.tables.now _
     (c.before.before.before.before.if1.false ∙ c.before.before.before.before.before.count_of.ensures)
     (c.before.before.if2.false ∙ ap (λ (n : ℕ). 2 * n) c.before.before.before.count-of2.ensures)
     c.before.is-book.ensures
-    ∙ not-true _ c.if3.true)
+    ∙ not_true _ c.if3.true)
 
 slice-aggregate-read-tags : tie.Need-slice-aggregate-read-tags
 slice-aggregate-read-tags c = search rules
@@ -81,17 +81,17 @@ returns-4 c =
     let z = b.before.before.before.before.before.before.before.before.before in
     let a = z.args in
     let t = c.before.before.before.before.before.before.before.before.before.read-tags in
-    gives-on _ _ _ _ _ _ _ _ _
-    (book-fit a.book.now a.blocks.now a.l a.io.now a.tables.now _
+    gives_on _ _ _ _ _ _ _ _ _
+    (book_fit a.book.now a.blocks.now a.l a.io.now a.tables.now _
     (b.before.before.before.if1.false ∙ b.before.before.before.before.count_of.ensures)
     (b.before.if2.false ∙ ap (λ (n : ℕ). 2 * n) b.before.before.count-of2.ensures)
     b.is-book.ensures
     ∙ not-false _ c.before.before.before.before.before.before.before.before.before.before.before.if3.false)
-    (ap (λ (k : List ℕ). keptTags k a.l) t.ensures ∙ all-kept a.blocks.now a.l z.requires _ refl)
+    (ap (λ (k : List ℕ). kept_tags k a.l) t.ensures ∙ all-kept a.blocks.now a.l z.requires _ refl)
     c.before.before.before.before.look_up.ensures
 
-pub assign-by-spec : {M : Type 1} → statement M
-assign-by-spec =
+pub assign_by_spec : {M : Type 1} → statement M
+assign_by_spec =
     tie.close
     (tie.spec
     count-of-requires

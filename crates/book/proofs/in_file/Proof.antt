@@ -3,8 +3,8 @@ use native.Mathlib.Omega.{arith}
 use Prim.Native.Nat.{◌+◌, ◌≤◌}
 use mathlib.Core.Path.{ap, ◌∙◌}
 use Rattle.book.specs.Assign.{place_of}
-use Rattle.book.specs.HowKept.{keptWords}
-use Rattle.book.proofs.Kept.{few-entries, start-most, kept-lent, in_kept}
+use Rattle.book.specs.HowKept.{kept_words}
+use Rattle.book.proofs.Kept.{few_entries, start_most, kept-lent, in_kept}
 use borrow.Author.Rules.{rules}
 use Rattle.book.proofs.in_file.Statement.{statement}
 use Rattle.book.proofs.in_file.Tie as tie
@@ -16,11 +16,11 @@ count-of-requires : tie.Need-count-of-requires
 count-of-requires c κs = search rules
 
 -- the kind's stretch lies among what is kept
-inside : (c : tie.After-count-of) → c.before.start_of_lem.result + c.count_of.result ≤ keptWords
+inside : (c : tie.After-count-of) → c.before.start_of_lem.result + c.count_of.result ≤ kept_words
 inside c =
     let z = c.before.before.before in
-    let f = few-entries z.args.l z.args.r.kind z.requires.0 in
-    let s = start-most z.args.r.kind in
+    let f = few_entries z.args.l z.args.r.kind z.requires.0 in
+    let s = start_most z.args.r.kind in
     omega (arith, c.count_of.ensures, c.before.start_of_lem.ensures)
 
 add-find : tie.Need-overflow-add-find
@@ -51,8 +51,8 @@ returns c =
     c.before.before.count_of.ensures))
     c.before.before.count_of.ensures
 
-pub in-file-spec : {M : Type 1} → statement M
-in-file-spec =
+pub in_file_spec : {M : Type 1} → statement M
+in_file_spec =
     tie.close
     (tie.spec
     start-of-requires

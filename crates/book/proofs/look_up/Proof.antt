@@ -1,8 +1,8 @@
 -- `book::look_up` meets its contract: each answer by what the passes over the records told.
 use mathlib.Core.Path.{refl, sym, ◌∙◌}
-use borrow.Author.Tests.{not-true, not-false}
+use borrow.Author.Tests.{not_true, not-false}
 use Rattle.book.proofs.Given.{all-given, io-numbers, table-numbers}
-use Rattle.book.proofs.Answers.{gives-25-or-26, gives-27, gives-lists}
+use Rattle.book.proofs.Answers.{gives_25_or_26, gives_27, gives_lists}
 use borrow.Author.Rules.{rules}
 use Rattle.book.proofs.look_up.Statement.{statement}
 use Rattle.book.proofs.look_up.Tie as tie
@@ -18,7 +18,7 @@ not-taken-requires c κs = search rules
 
 returns : tie.Need-returns
 returns c =
-    gives-25-or-26 _ _ _ _ _ (sym c.before.before.before.take-records.ensures.told ∙ not-true _ c.before.if1.true)
+    gives_25_or_26 _ _ _ _ _ (sym c.before.before.before.take-records.ensures.told ∙ not_true _ c.before.if1.true)
     c.not_taken.ensures
 
 slice-aggregate-all-given : tie.Need-slice-aggregate-all-given
@@ -32,10 +32,10 @@ returns-2 c =
     let t = c.before.before.before.before.before in
     let p = t.before.before.before.before.before.before.requires in
     let q = not-false _ c.before.before.before.if1.false in
-    gives-27 _ _ _ _ _ t.take-records.ensures.told q
+    gives_27 _ _ _ _ _ t.take-records.ensures.told q
     (sym (all-given _ _ _ _ p.look.long p.look.carried (t.take-records.ensures.left q)) ∙ sym
     c.before.all-given.ensures
-    ∙ not-true _ c.if2.true)
+    ∙ not_true _ c.if2.true)
 
 slice-aggregate-write-lists : tie.Need-slice-aggregate-write-lists
 slice-aggregate-write-lists c = search rules
@@ -67,14 +67,14 @@ returns-3 c =
     let p = t.before.before.before.before.before.before.requires in
     let q = not-false _ g.before.before.if1.false in
     let m = t.take-records.ensures.left q in
-    gives-lists _ _ _ _ _ t.take-records.ensures.told q _ _
+    gives_lists _ _ _ _ _ t.take-records.ensures.told q _ _
     (sym (all-given _ _ _ _ p.look.long p.look.carried m) ∙ sym g.all-given.ensures
     ∙ not-false _ w.before.before.before.before.if2.false)
     (w.write-lists.ensures.io-left ∙ io-numbers _ _ _ _ p.look.long p.look.carried m)
     (w.write-lists.ensures.tables-left ∙ table-numbers _ _ _ _ p.look.long p.look.carried m)
 
-pub look-up-spec : {M : Type 1} → statement M
-look-up-spec =
+pub look_up_spec : {M : Type 1} → statement M
+look_up_spec =
     tie.close
     (tie.spec
     slice-aggregate-take-records

@@ -4,7 +4,7 @@ use mathlib.Core.Path.{◌≡◌, ap, ◌∙◌}
 use lib.ListN.{length, length-set, set}
 use Rattle.book.specs.Assign.{place_of}
 use Rattle.word.proofs.Lists.{rest-lent}
-use Rattle.book.proofs.Marking.{MarkedTo, marks_begin, marks-next, marks-end}
+use Rattle.book.proofs.Marking.{MarkedTo, marks_begin, marks_next, marks_end}
 use native.Mathlib.Omega.{arith}
 use borrow.Author.Rules.{rules}
 use Rattle.book.proofs.mark.Statement.{statement}
@@ -60,7 +60,7 @@ next : (c : tie.After-find invariant-loop decreases-loop) →
 next c =
     let z = c.before.before.before.before.before.before in
     let l = c.before.before.before.loop in
-    marks-next _ _ _ _ z.requires.0 l.j _ _ (omega arith) l.invariant.2
+    marks_next _ _ _ _ z.requires.0 l.j _ _ (omega arith) l.invariant.2
     (c.find.ensures ∙ ap (place_of z.args.tag) (rest-lent z.args.tags.now (l.j + 1)))
 
 add-j-2 : tie.Need-overflow-add-j-2 invariant-loop decreases-loop
@@ -78,7 +78,7 @@ same_length c = search rules
 returns : tie.Need-returns invariant-loop decreases-loop
 returns c =
     let l = c.before.loop in
-    marks-end _ _ _ _ c.before.before.before.before.requires.0 l.j _ (omega arith) l.invariant.2
+    marks_end _ _ _ _ c.before.before.before.before.requires.0 l.j _ (omega arith) l.invariant.2
 
 pub mark_spec : {M : Type 1} → statement M
 mark_spec =

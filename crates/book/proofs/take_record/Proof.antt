@@ -2,9 +2,9 @@
 use Prim.Native.Nat.{◌+◌, ◌≤◌}
 use mathlib.Core.Path.{◌≡◌, refl, ap, ◌∙◌}
 use Rattle.book.specs.Assign.{place_of}
-use Rattle.book.specs.HowKept.{keptWords, keptOf}
-use Rattle.book.proofs.Kept.{few-entries, start-most, kept-lent}
-use Rattle.book.proofs.Marking.{marked-none-such, marked-before, marked-now}
+use Rattle.book.specs.HowKept.{kept_words, kept_of}
+use Rattle.book.proofs.Kept.{few_entries, start_most, kept-lent}
+use Rattle.book.proofs.Marking.{marked-none_such, marked-before, marked_now}
 use native.Mathlib.Omega.{arith}
 use borrow.Author.Rules.{rules}
 use Rattle.book.proofs.take_record.Statement.{statement}
@@ -17,17 +17,17 @@ count-of-requires : tie.Need-count-of-requires
 count-of-requires c κs = search rules
 
 -- the kind's stretch lies among what is kept; and where the tag is found in it
-inside : (c : tie.After-count-of) → c.before.start_of_lem.result + c.count_of.result ≤ keptWords
+inside : (c : tie.After-count-of) → c.before.start_of_lem.result + c.count_of.result ≤ kept_words
 inside c =
     let z = c.before.before.before.before in
-    let f = few-entries z.args.l z.args.r.kind z.requires.carried in
-    let s = start-most z.args.r.kind in
+    let f = few_entries z.args.l z.args.r.kind z.requires.carried in
+    let s = start_most z.args.r.kind in
     omega (arith, c.count_of.ensures, c.before.start_of_lem.ensures)
 
 place : (c : tie.After-find) →
     c.find.result
     ≡ place_of c.before.before.before.before.before.before.args.r.tag
-    (keptOf c.before.before.before.before.before.before.args.tags.now
+    (kept_of c.before.before.before.before.before.before.args.tags.now
     c.before.before.before.before.before.before.args.l
     c.before.before.before.before.before.before.args.r.kind)
 place c =
@@ -59,7 +59,7 @@ returns : tie.Need-returns
 returns c =
     let f = c.before in
     let z = f.before.before.before.before.before.before in
-    marked-none-such _ _ z.args.r _ _ _ _ z.requires.tags-long z.requires.marks-long z.requires.carried (place f)
+    marked-none_such _ _ z.args.r _ _ _ _ z.requires.tags_long z.requires.marks-long z.requires.carried (place f)
     f.before.before.before.start_of_lem.ensures f.before.before.count_of.ensures _ c.if1.true
 
 add-old : tie.Need-overflow-add-old
@@ -75,7 +75,7 @@ returns-2 : tie.Need-returns-2
 returns-2 c =
     let f = c.before.before.before in
     let z = f.before.before.before.before.before.before in
-    marked-before _ _ z.args.r _ _ _ _ z.requires.tags-long z.requires.marks-long z.requires.carried (place f)
+    marked-before _ _ z.args.r _ _ _ _ z.requires.tags_long z.requires.marks-long z.requires.carried (place f)
     f.before.before.before.start_of_lem.ensures f.before.before.count_of.ensures (omega arith) _ c.if2.true
 
 add-mark : tie.Need-overflow-add-mark
@@ -121,13 +121,13 @@ returns-3 : tie.Need-returns-3
 returns-3 c =
     let f = c.before.before.before.before.before.before.before.before.before in
     let z = f.before.before.before.before.before.before in
-    marked-now _ _ z.args.r _ _ _ _ z.requires.tags-long z.requires.marks-long z.requires.carried (place f)
+    marked_now _ _ z.args.r _ _ _ _ z.requires.tags_long z.requires.marks-long z.requires.carried (place f)
     f.before.before.before.start_of_lem.ensures f.before.before.count_of.ensures
     (omega (arith, c.before.before.before.before.before.before.before.before.if1.false)) _ _ _ _
     c.before.before.before.before.before.before.if2.false refl refl refl c.before.before.mark.ensures
 
-pub take-record-spec : {M : Type 1} → statement M
-take-record-spec =
+pub take_record_spec : {M : Type 1} → statement M
+take_record_spec =
     tie.close
     (tie.spec
     start-of-requires

@@ -1,5 +1,5 @@
 -- `book::write_lists` meets its contract: the marks of each kind, as numbers.
-use Rattle.book.proofs.Filling.{first-long, io-ready, pairs-ready, lists_filled}
+use Rattle.book.proofs.Filling.{first-long, io_ready, pairs_ready, lists_filled}
 use borrow.Author.Rules.{rules}
 use Rattle.book.proofs.write_lists.Statement.{statement}
 use Rattle.book.proofs.write_lists.Tie as tie
@@ -24,7 +24,7 @@ slice-aggregate-write-numbers c =
 write-numbers-requires : tie.Need-write-numbers-requires
 write-numbers-requires c κs =
     let p = c.before.before.before.before.before.before.before.before.before.requires in
-    io-ready _ _ p.long p.carried p.all _
+    io_ready _ _ p.long p.carried p.all _
     c.before.before.before.before.before.before.before.before.before.args.io.now
     c.before.before.count-of2.ensures p.io-long
 
@@ -62,7 +62,7 @@ write-pairs-requires : tie.Need-write-pairs-requires
 write-pairs-requires c κs =
     let d = c.before.before.before.before.before.before.before.before in
     let p = d.before.before.before.before.before.before.before.requires in
-    pairs-ready _ _ p.long p.carried p.all _ _ _ _ d.before.before.start_of_lem.ensures d.before.start-of2.ensures
+    pairs_ready _ _ p.long p.carried p.all _ _ _ _ d.before.before.start_of_lem.ensures d.before.start-of2.ensures
     d.before.before.before.count_of.ensures p.tables-long
 
 same_length : tie.Need-same-length
@@ -81,8 +81,8 @@ returns c =
     c.before.before.before.before.before.before.before.before.write-numbers.ensures
     c.before.before.write-pairs.ensures
 
-pub write-lists-spec : {M : Type 1} → statement M
-write-lists-spec =
+pub write_lists_spec : {M : Type 1} → statement M
+write_lists_spec =
     tie.close
     (tie.spec
     count-of-requires

@@ -2,14 +2,14 @@
 use Prim.Native.Nat.{◌≤◌, ◌-◌}
 use mathlib.Core.Path.{◌≡◌, refl}
 use lib.ListN.{length, length-set}
-use Rattle.book.proofs.Marking.{mark-some, numbersTo, numbers-none, numbers_more, numbers-all}
+use Rattle.book.proofs.Marking.{mark_some, numbers_to, numbers-none, numbers_more, numbers-all}
 use native.Mathlib.Omega.{arith}
 use borrow.Author.Rules.{rules}
 use Rattle.book.proofs.write_numbers.Statement.{statement}
 use Rattle.book.proofs.write_numbers.Tie as tie
 
 abbrev invariant-loop : tie.invariant-loop
-invariant-loop marks list₀ j₀ list j = (j ≤ length marks) × (length list ≡ length marks) × (list ≡ numbersTo marks list₀ j)
+invariant-loop marks list₀ j₀ list j = (j ≤ length marks) × (length list ≡ length marks) × (list ≡ numbers_to marks list₀ j)
 
 abbrev decreases-loop : tie.decreases-loop
 decreases-loop marks list₀ j₀ list j = length marks - j
@@ -26,7 +26,7 @@ shared-slice-read-list c = omega arith
 sub-list : tie.Need-overflow-sub-list invariant-loop decreases-loop
 sub-list c =
     let l = c.before.before.loop in
-    omega (arith, mark-some _ l.j c.before.before.before.requires.1 (omega arith))
+    omega (arith, mark_some _ l.j c.before.before.before.requires.1 (omega arith))
 
 mul-list-2 : tie.Need-overflow-mul-list-2 invariant-loop decreases-loop
 mul-list-2 c = omega arith
@@ -56,8 +56,8 @@ returns c =
     let l = c.before.loop in
     numbers-all _ _ l.j _ (omega arith) (omega arith) l.invariant.2
 
-pub write-numbers-spec : {M : Type 1} → statement M
-write-numbers-spec =
+pub write_numbers_spec : {M : Type 1} → statement M
+write_numbers_spec =
     tie.close
     (tie.spec
     invariant-loop

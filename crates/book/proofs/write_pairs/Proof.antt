@@ -2,20 +2,20 @@
 use Prim.Native.Nat.{◌≤◌, ◌-◌, ◌*◌}
 use mathlib.Core.Path.{◌≡◌, refl}
 use lib.ListN.{length, length-set}
-use Rattle.book.proofs.Marking.{mark-some, pairsTo, pairs-none, pairs-more, pairs-all}
+use Rattle.book.proofs.Marking.{mark_some, pairs_to, pairs_none, pairs_more, pairs_all}
 use native.Mathlib.Omega.{arith}
 use Rattle.book.proofs.write_pairs.Statement.{statement}
 use Rattle.book.proofs.write_pairs.Tie as tie
 
 abbrev invariant-loop : tie.invariant-loop
 invariant-loop addresses lengths list₀ t₀ list t =
-    (t ≤ length addresses) × (length list ≡ 2 * length addresses) × (list ≡ pairsTo addresses lengths list₀ t)
+    (t ≤ length addresses) × (length list ≡ 2 * length addresses) × (list ≡ pairs_to addresses lengths list₀ t)
 
 abbrev decreases-loop : tie.decreases-loop
 decreases-loop addresses lengths list₀ t₀ list t = length addresses - t
 
 loop-holds : tie.Need-loop-init invariant-loop decreases-loop
-loop-holds c = (omega arith, omega arith, pairs-none _ _ _)
+loop-holds c = (omega arith, omega arith, pairs_none _ _ _)
 
 mul-list : tie.Need-overflow-mul-list invariant-loop decreases-loop
 mul-list c = omega arith
@@ -26,7 +26,7 @@ shared-slice-read-list c = omega arith
 sub-list : tie.Need-overflow-sub-list invariant-loop decreases-loop
 sub-list c =
     let l = c.before.before.loop in
-    omega (arith, mark-some _ l.t c.before.before.before.requires.first (omega arith))
+    omega (arith, mark_some _ l.t c.before.before.before.requires.first (omega arith))
 
 mul-list-2 : tie.Need-overflow-mul-list-2 invariant-loop decreases-loop
 mul-list-2 c = omega arith
@@ -46,7 +46,7 @@ shared-slice-read-list-2 c = omega arith
 sub-list-2 : tie.Need-overflow-sub-list-2 invariant-loop decreases-loop
 sub-list-2 c =
     let l = c.before.before.before.loop in
-    omega (arith, mark-some _ l.t c.before.before.before.before.requires.second (omega arith))
+    omega (arith, mark_some _ l.t c.before.before.before.before.requires.second (omega arith))
 
 mul-list-5 : tie.Need-overflow-mul-list-5 invariant-loop decreases-loop
 mul-list-5 c = omega arith
@@ -71,7 +71,7 @@ loop-again c =
     let l = c.before.before.before.loop in (
       omega arith,
       simp length-set (omega arith),
-      pairs-more _ _ _ l.t _ _ _ (omega arith) refl refl l.invariant.2,
+      pairs_more _ _ _ l.t _ _ _ (omega arith) refl refl l.invariant.2,
     )
 
 same_length : tie.Need-same-length invariant-loop decreases-loop
@@ -80,10 +80,10 @@ same_length c = omega arith
 returns : tie.Need-returns invariant-loop decreases-loop
 returns c =
     let l = c.before.loop in
-    pairs-all _ _ _ l.t _ (omega arith) (omega arith) l.invariant.2
+    pairs_all _ _ _ l.t _ (omega arith) (omega arith) l.invariant.2
 
-pub write-pairs-spec : {M : Type 1} → statement M
-write-pairs-spec =
+pub write_pairs_spec : {M : Type 1} → statement M
+write_pairs_spec =
     tie.close
     (tie.spec
     invariant-loop

@@ -64,8 +64,8 @@ returns-5 c = rw c.before.before.a3.given.1
 returns-6 : tie.Need-returns-6
 returns-6 c = rw c.enum-told3.given.1
 
-pub pack-spec : {M : Type 1} → statement M
-pack-spec =
+pub pack_spec : {M : Type 1} → statement M
+pack_spec =
     tie.close
     (tie.spec
     enum-known-a

@@ -1,5 +1,5 @@
 -- `clamp::clamp_assign` meets its contract: what assigning leaves, packed.
-use Rattle.clamp.proofs.Assigned.{refused-small, packed-assigned}
+use Rattle.clamp.proofs.Assigned.{refused_small, packed_assigned}
 use borrow.Author.Rules.{rules}
 use Rattle.clamp.proofs.clamp_assign.Statement.{statement}
 use Rattle.clamp.proofs.clamp_assign.Tie as tie
@@ -18,7 +18,7 @@ enum-known-f c = search rules
 
 pack-file-requires-2 : tie.Need-pack-file-requires-2
 pack-file-requires-2 c κs =
-    refused-small _ _ _ _ _ _ _ _ c.before.before.before.before.before.before.before.assign.ensures
+    refused_small _ _ _ _ _ _ _ _ c.before.before.before.before.before.before.before.assign.ensures
     c.before.f.given.1
 
 same_length : tie.Need-same-length
@@ -30,7 +30,7 @@ same-length-2 c = search rules
 returns : tie.Need-returns
 returns c =
     let d = c.before.before.before.before.before.before.before in
-    packed-assigned _ _ _ _ _ _ _ _ d.assign.ensures (rw c.before.enum_told.given.1 c.pack-file.ensures)
+    packed_assigned _ _ _ _ _ _ _ _ d.assign.ensures (rw c.before.enum_told.given.1 c.pack-file.ensures)
 
 same-length-3 : tie.Need-same-length-3
 same-length-3 c = search rules
@@ -41,10 +41,10 @@ same-length-4 c = search rules
 returns-2 : tie.Need-returns-2
 returns-2 c =
     let d = c.before.before.before.before.before.before.before.before in
-    packed-assigned _ _ _ _ _ _ _ _ d.assign.ensures (rw c.before.before.f.given.1 c.pack-file2.ensures)
+    packed_assigned _ _ _ _ _ _ _ _ d.assign.ensures (rw c.before.before.f.given.1 c.pack-file2.ensures)
 
-pub clamp-assign-spec : {M : Type 1} → statement M
-clamp-assign-spec =
+pub clamp_assign_spec : {M : Type 1} → statement M
+clamp_assign_spec =
     tie.close
     (tie.spec
     assign-requires

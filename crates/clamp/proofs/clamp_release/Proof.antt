@@ -1,6 +1,6 @@
 -- `clamp::clamp_release` meets its contract: what the call leaves, packed.
-use Rattle.calls.proofs.Freed.{release-small}
-use Rattle.clamp.proofs.Returned.{packed-returned}
+use Rattle.calls.proofs.Freed.{release_small}
+use Rattle.clamp.proofs.Returned.{packed_returned}
 use borrow.Author.Rules.{rules}
 use Rattle.clamp.proofs.clamp_release.Statement.{statement}
 use Rattle.clamp.proofs.clamp_release.Tie as tie
@@ -10,13 +10,13 @@ release-place-requires c κs = search rules
 
 pack-requires : tie.Need-pack-requires
 pack-requires c κs = let a = c.before.before.before.before.before.args in rw c.before.before.release-place.ensures.told
-    (release-small a.desk.now a.core a.room a.place)
+    (release_small a.desk.now a.core a.room a.place)
 
 same_length : tie.Need-same-length
 same_length c = search rules
 
 returns : tie.Need-returns
-returns c = packed-returned _ _ _ _ _ c.before.before.before.release-place.ensures c.pack.ensures
+returns c = packed_returned _ _ _ _ _ c.before.before.before.release-place.ensures c.pack.ensures
 
-pub clamp-release-spec : {M : Type 1} → statement M
-clamp-release-spec = tie.close (tie.spec release-place-requires pack-requires same_length returns)
+pub clamp_release_spec : {M : Type 1} → statement M
+clamp_release_spec = tie.close (tie.spec release-place-requires pack-requires same_length returns)

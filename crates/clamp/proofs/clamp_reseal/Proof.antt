@@ -1,6 +1,6 @@
 -- `clamp::clamp_reseal` meets its contract: what resealing leaves, packed.
 use mathlib.Core.Path.{sym, ◌∙◌}
-use Rattle.clamp.proofs.Resealed.{reseal-small, packed-resealed}
+use Rattle.clamp.proofs.Resealed.{reseal_small, packed-resealed}
 use borrow.Author.Rules.{rules}
 use Rattle.clamp.proofs.clamp_reseal.Statement.{statement}
 use Rattle.clamp.proofs.clamp_reseal.Tie as tie
@@ -21,7 +21,7 @@ pack-file-requires-2 : tie.Need-pack-file-requires-2
 pack-file-requires-2 c κs =
     let a = c.before.before.before.before.before.before.before.before.args in
     rw (sym c.before.before.before.before.before.reseal.ensures.told ∙ c.before.f.given.1)
-    at (reseal-small a.index a.block.now)
+    at (reseal_small a.index a.block.now)
 
 same_length : tie.Need-same-length
 same_length c = search rules
@@ -39,8 +39,8 @@ returns-2 c =
     packed-resealed _ _ _ _ _ c.before.before.before.before.before.before.reseal.ensures
     (rw c.before.before.f.given.1 c.pack-file2.ensures)
 
-pub clamp-reseal-spec : {M : Type 1} → statement M
-clamp-reseal-spec =
+pub clamp_reseal_spec : {M : Type 1} → statement M
+clamp_reseal_spec =
     tie.close
     (tie.spec
     reseal-requires

@@ -1,5 +1,5 @@
 -- `clamp::clamp_write` meets its contract: what writing leaves, packed.
-use Rattle.clamp.proofs.Written.{answer-small, packed-written}
+use Rattle.clamp.proofs.Written.{answer_small, packed-written}
 use borrow.Author.Rules.{rules}
 use Rattle.clamp.proofs.clamp_write.Statement.{statement}
 use Rattle.clamp.proofs.clamp_write.Tie as tie
@@ -12,14 +12,14 @@ enum-known-n c = search rules
 
 pack-file-requires : tie.Need-pack-file-requires
 pack-file-requires c κs =
-    answer-small _ _ _ _ _ c.before.before.before.before.before.write.ensures c.before.n.given.1
+    answer_small _ _ _ _ _ c.before.before.before.before.before.write.ensures c.before.n.given.1
 
 enum-known-f : tie.Need-enum-known-f
 enum-known-f c = search rules
 
 pack-file-requires-2 : tie.Need-pack-file-requires-2
 pack-file-requires-2 c κs =
-    answer-small _ _ _ _ _ c.before.before.before.before.before.write.ensures c.before.f.given.1
+    answer_small _ _ _ _ _ c.before.before.before.before.before.write.ensures c.before.f.given.1
 
 same_length : tie.Need-same-length
 same_length c = search rules
@@ -37,8 +37,8 @@ returns-2 c =
     let d = c.before.before.before.before.before.before in
     packed-written _ _ _ _ _ d.write.ensures (rw c.before.before.f.given.1 c.pack-file2.ensures)
 
-pub clamp-write-spec : {M : Type 1} → statement M
-clamp-write-spec =
+pub clamp_write_spec : {M : Type 1} → statement M
+clamp_write_spec =
     tie.close
     (tie.spec
     write-requires

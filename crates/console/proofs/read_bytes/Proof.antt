@@ -66,8 +66,8 @@ same-length-3 c = search rules
 returns-3 : tie.Need-returns-3 invariant-loop decreases-loop
 returns-3 c = search rules
 
-pub read-bytes-spec : {M : Type 1} → statement M
-read-bytes-spec =
+pub read_bytes_spec : {M : Type 1} → statement M
+read_bytes_spec =
     tie.close
     (tie.spec
     invariant-loop

@@ -51,8 +51,8 @@ say-requires-3 c κs = search rules
 returns : tie.Need-returns invariant-loop decreases-loop
 returns c = search rules
 
-pub say-list-spec : {M : Type 1} → statement M
-say-list-spec =
+pub say_list_spec : {M : Type 1} → statement M
+say_list_spec =
     tie.close
     (tie.spec
     invariant-loop

@@ -1,7 +1,7 @@
 -- `desk::apart_from_held` meets its contract: each return by the tests that led to it.
 use borrow.Author.Tests.{eq-eqb, ne_eqb}
 use Rattle.layout.specs.Layout.{own_of}
-use Rattle.desk.specs.Sound.{areasApart}
+use Rattle.desk.specs.Sound.{areas_apart}
 use borrow.Author.Rules.{rules}
 use Rattle.desk.proofs.apart_from_held.Statement.{statement}
 use Rattle.desk.proofs.apart_from_held.Tie as tie
@@ -10,7 +10,7 @@ shared-slice-read-if1 : tie.Need-shared-slice-read-if1
 shared-slice-read-if1 c = search rules
 
 returns : tie.Need-returns
-unfolding areasApart own_of
+unfolding areas_apart own_of
 returns c = rw (ne_eqb _ _ c.before.before.before.before.requires.held, eq-eqb _ _ c.if1.true)
 
 shared-slice-read-runs-apart : tie.Need-shared-slice-read-runs-apart
@@ -29,13 +29,13 @@ runs-apart-requires : tie.Need-runs-apart-requires
 runs-apart-requires c κs = search rules
 
 returns-2 : tie.Need-returns-2
-unfolding areasApart own_of
+unfolding areas_apart own_of
 returns-2 c =
     let b = c.before.before.before.before.before in
     rw (ne_eqb _ _ b.before.before.before.before.requires.held, ne_eqb _ _ b.if1.false) c.runs-apart.ensures
 
-pub apart-from-held-spec : {M : Type 1} → statement M
-apart-from-held-spec =
+pub apart-from-held_spec : {M : Type 1} → statement M
+apart-from-held_spec =
     tie.close
     (tie.spec
     shared-slice-read-if1

@@ -30,6 +30,6 @@ apart-from-held-requires c κs =
 returns-2 : tie.Need-returns-2
 returns-2 c = rw (ne_eqb _ 0 c.before.before.if1.false, ← c.before.place_at.ensures) c.apart-from-held.ensures
 
-pub apart-from-last-spec : {M : Type 1} → statement M
-apart-from-last-spec =
+pub apart-from-last_spec : {M : Type 1} → statement M
+apart-from-last_spec =
     tie.close (tie.spec returns sub-place-at place-at-requires apart-from-held-requires returns-2)

@@ -1,8 +1,8 @@
--- `desk::held_fits` meets its contract: each return by the tests that led to it.
-use Rattle.desk.proofs.Tested.{lists-readable, area_small}
+-- `desk::held_fits_lem` meets its contract: each return by the tests that led to it.
+use Rattle.desk.proofs.Tested.{lists_readable, area_small}
 use mathlib.Core.Path.{sym, ◌∙◌}
-use borrow.Author.Tests.{not-true, not-false}
-use Rattle.desk.specs.Sound.{heldFits}
+use borrow.Author.Tests.{not_true, not-false}
+use Rattle.desk.specs.Sound.{held_fits}
 use borrow.Author.Rules.{rules}
 use Rattle.desk.proofs.held_fits.Statement.{statement}
 use Rattle.desk.proofs.held_fits.Tie as tie
@@ -14,23 +14,23 @@ area-in-requires : tie.Need-area-in-requires
 area-in-requires c κs = search rules
 
 returns : tie.Need-returns
-unfolding heldFits
+unfolding held_fits
 returns c =
     let a = c.before in
-    rw (← a.before.before.before.own_of_lem.ensures, sym a.area_in.ensures ∙ not-true _ c.if1.true)
+    rw (← a.before.before.before.own_of_lem.ensures, sym a.area_in.ensures ∙ not_true _ c.if1.true)
 
 counts-fit-requires : tie.Need-counts-fit-requires
 counts-fit-requires c κs = search rules
 
 returns-2 : tie.Need-returns-2
-unfolding heldFits
+unfolding held_fits
 returns-2 c =
     let i = c.before.before in
     let a = i.before in
     rw (
       ← a.before.before.before.own_of_lem.ensures,
       sym a.area_in.ensures ∙ not-false _ i.if1.false,
-      sym c.before.counts-fit.ensures ∙ not-true _ c.if2.true,
+      sym c.before.counts_fit_lem.ensures ∙ not_true _ c.if2.true,
     )
 
 load-fits-requires : tie.Need-load-fits-requires
@@ -38,23 +38,23 @@ load-fits-requires c κs =
     let i = c.before.before in
     let a = i.before in
     let b = a.before.before.before.before.before in
-    let q = sym c.before.counts-fit.ensures ∙ not-false _ c.if2.false in
+    let q = sym c.before.counts_fit_lem.ensures ∙ not-false _ c.if2.false in
     let w = sym a.area_in.ensures ∙ not-false _ i.if1.false in
-    (b.requires.0, lists-readable _ _ b.requires.0 q (area_small _ _ b.requires.1 w))
+    (b.requires.0, lists_readable _ _ b.requires.0 q (area_small _ _ b.requires.1 w))
 
 returns-3 : tie.Need-returns-3
-unfolding heldFits
+unfolding held_fits
 returns-3 c =
     let i = c.before.before.before in
     let a = i.before in
     rw (
       ← a.before.before.before.own_of_lem.ensures,
       sym a.area_in.ensures ∙ not-false _ i.if1.false,
-      sym c.before.before.counts-fit.ensures ∙ not-false _ c.before.if2.false,
+      sym c.before.before.counts_fit_lem.ensures ∙ not-false _ c.before.if2.false,
     ) c.load-fits.ensures
 
-pub held-fits-spec : {M : Type 1} → statement M
-held-fits-spec =
+pub held-fits_spec : {M : Type 1} → statement M
+held-fits_spec =
     tie.close
     (tie.spec
     own-of-requires

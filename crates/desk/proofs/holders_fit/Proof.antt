@@ -1,13 +1,13 @@
 -- `desk::holders_fit` meets its contract: the holders' test first, then the pass over the places that are held.
 use mathlib.Core.Path.{◌≡◌, sym, ap, ◌∙◌}
 use native.Mathlib.Omega.{arith}
-use borrow.Author.Tests.{not-true, not-false}
+use borrow.Author.Tests.{not_true, not-false}
 use lib.ListN.{length, take}
-use Rattle.rooms.specs.Rooms.{heldPlaces}
-use Rattle.rooms.proofs.Held.{held-few, held-lent}
+use Rattle.rooms.specs.Rooms.{held_places}
+use Rattle.rooms.proofs.Held.{held_few, held-lent}
 use Rattle.layout.proofs.Places.{length-holders}
 use borrow.Author.Rules.{rules}
-use Rattle.desk.proofs.Looked.{nothing-held}
+use Rattle.desk.proofs.Looked.{nothing_held}
 use Rattle.desk.proofs.holders_fit.Statement.{statement}
 use Rattle.desk.proofs.holders_fit.Tie as tie
 
@@ -22,7 +22,7 @@ fair-requires c κs = search rules
 
 returns : tie.Need-returns
 returns c = sym (rw (sym (rw c.before.before.before.read-holders.ensures at c.before.fair.ensures)
-    ∙ not-true _ c.if1.true))
+    ∙ not_true _ c.if1.true))
 
 slice-aggregate-held-places : tie.Need-slice-aggregate-held-places
 slice-aggregate-held-places c = search rules
@@ -38,16 +38,16 @@ module _ (c : tie.After-held-places) where
   holders-long : length c.before.before.before.before.before.before.read-holders.result ≡ 12
   holders-long = ap length c.before.before.before.before.before.before.read-holders.ensures ∙ length-holders _
 
-  held-lent-on : take c.held-places.result c.held-places.new.1.0 ≡ heldPlaces 0
+  held-lent_on : take c.held-places.result c.held-places.new.1.0 ≡ held_places 0
       c.before.before.before.before.before.before.read-holders.result
-  held-lent-on = rw c.held-places.ensures.1 (held-lent _ _ _ c.held-places.ensures.0 (omega (arith, holders-long)))
+  held-lent_on = rw c.held-places.ensures.1 (held-lent _ _ _ c.held-places.ensures.0 (omega (arith, holders-long)))
 
 returns-2 : tie.Need-returns-2
 returns-2 c =
     let r = c.before.before.before.before.before.before.before.before.read-holders.ensures in
     let f = sym (rw r at c.before.before.before.before.before.before.fair.ensures)
     ∙ not-false _ c.before.before.before.before.before.if1.false in
-    sym (rw (f, sym (nothing-held _ f (rw r at (sym c.before.before.held-places.ensures.0 ∙ c.if2.true)))))
+    sym (rw (f, sym (nothing_held _ f (rw r at (sym c.before.before.held-places.ensures.0 ∙ c.if2.true)))))
 
 array-share-prefix-held : tie.Need-array-share-prefix-held
 array-share-prefix-held c =
@@ -55,7 +55,7 @@ array-share-prefix-held c =
     omega (
       arith,
       e.held-places.auto.1.0,
-      held-few e.before.before.before.before.before.before.read-holders.result
+      held_few e.before.before.before.before.before.before.read-holders.result
           e.before.before.before.before.before.before.read-holders.result _ e.held-places.ensures.0
           (omega arith),
       holders-long e,
@@ -63,7 +63,7 @@ array-share-prefix-held c =
 
 slice-aggregate-places-fit : tie.Need-slice-aggregate-places-fit
 slice-aggregate-places-fit c = c.before.before.before.held-places.ensures.0
-    ∙ sym (ap length (held-lent-on c.before.before.before))
+    ∙ sym (ap length (held-lent_on c.before.before.before))
 
 places-fit-requires : tie.Need-places-fit-requires
 places-fit-requires c κs =
@@ -72,7 +72,7 @@ places-fit-requires c κs =
       map = c.before.before.before.before.before.before.before.before.before.before.before.requires;
       rooms = sym (rw r at c.before.before.before.before.before.before.before.fair.ensures)
           ∙ not-false _ c.before.before.before.before.before.before.if1.false;
-      named = held-lent-on c.before.before.before ∙ ap (heldPlaces 0) r;
+      named = held-lent_on c.before.before.before ∙ ap (held_places 0) r;
     }
 
 returns-3 : tie.Need-returns-3
@@ -81,8 +81,8 @@ returns-3 c =
     rw (sym (rw r at c.before.before.before.before.before.before.before.before.fair.ensures)
     ∙ not-false _ c.before.before.before.before.before.before.before.if1.false) c.places-fit.ensures
 
-pub holders-fit-spec : {M : Type 1} → statement M
-holders-fit-spec =
+pub holders_fit_spec : {M : Type 1} → statement M
+holders_fit_spec =
     tie.close
     (tie.spec
     read-holders-requires

@@ -1,8 +1,8 @@
 -- `desk::is_sound` meets its contract: each return by the tests that led to it.
 use mathlib.Core.Path.{sym, ◌∙◌, ◌≡◌}
-use borrow.Author.Tests.{eq-eqb, ne_eqb, le-leb, lt-leb, not-true, not-false}
-use Rattle.layout.specs.Layout.{coreLength, mapNumbers}
-use Rattle.map.specs.Map.{mapOf, mapObeys}
+use borrow.Author.Tests.{eq-eqb, ne_eqb, le-leb, lt-leb, not_true, not-false}
+use Rattle.layout.specs.Layout.{core_length, map_numbers}
+use Rattle.map.specs.Map.{map_of, map_obeys}
 use Rattle.desk.specs.Sound.{sound}
 use borrow.Author.Rules.{rules}
 use Rattle.desk.proofs.is_sound.Statement.{statement}
@@ -30,10 +30,10 @@ map-fits-requires : tie.Need-map-fits-requires
 map-fits-requires c κs = search rules
 
 -- the map's test, as it was made
-map-test : (c : tie.After-map-fits)
-    → c.map-fits.result ≡ mapObeys (coreLength c.before.before.before.before.before.before.before.args.desk.now)
-    (mapOf (mapNumbers c.before.before.before.before.before.before.before.args.desk.now))
-map-test c = c.map-fits.ensures ∙ rw c.before.map-numbers.ensures
+map_test : (c : tie.After-map-fits)
+    → c.map-fits.result ≡ map_obeys (core_length c.before.before.before.before.before.before.before.args.desk.now)
+    (map_of (map_numbers c.before.before.before.before.before.before.before.args.desk.now))
+map_test c = c.map-fits.ensures ∙ rw c.before.map-numbers.ensures
 
 returns-4 : tie.Need-returns-4
 unfolding sound
@@ -42,8 +42,8 @@ returns-4 c = rw (
   le-leb _ _
       c.before.before.before.before.if2.false,
   le-leb _ _ c.before.before.before.if3.false,
-  sym (map-test c.before)
-      ∙ not-true _ c.if4.true,
+  sym (map_test c.before)
+      ∙ not_true _ c.if4.true,
 )
 
 holders-fit-requires : tie.Need-holders-fit-requires
@@ -51,7 +51,7 @@ holders-fit-requires c κs =
     record {
       long = c.before.before.before.before.before.before.if1.false;
       most = c.before.before.before.if3.false;
-      obeys = sym (map-test c.before) ∙ not-false _ c.if4.false;
+      obeys = sym (map_test c.before) ∙ not-false _ c.if4.false;
     }
 
 returns-5 : tie.Need-returns-5
@@ -63,12 +63,12 @@ returns-5 c =
           c.before.before.before.before.before.if2.false,
       le-leb _ _ c.before.before.before.before.if3.false,
       sym
-          (map-test c.before.before) ∙ not-false _ c.before.if4.false,
+          (map_test c.before.before) ∙ not-false _ c.before.if4.false,
     )
     c.holders-fit.ensures
 
-pub is-sound-spec : {M : Type 1} → statement M
-is-sound-spec =
+pub is_sound_spec : {M : Type 1} → statement M
+is_sound_spec =
     tie.close
     (tie.spec
     returns

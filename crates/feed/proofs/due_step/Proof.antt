@@ -1,7 +1,7 @@
 -- `feed::due_step`: by what is due.
-use Rattle.feed.proofs.Waiting.{entry-block-small, label-met, entry-met}
+use Rattle.feed.proofs.Waiting.{entry_block_small, label_met, entry_met}
 use mathlib.Core.Path.{refl}
-use Rattle.feed.specs.Block.{dueStep}
+use Rattle.feed.specs.Block.{due_step}
 use borrow.Author.Rules.{rules}
 use Rattle.feed.proofs.due_step.Statement.{statement}
 use Rattle.feed.proofs.due_step.Tie as tie
@@ -19,7 +19,7 @@ entry-step-requires : tie.Need-entry-step-requires
 entry-step-requires c κs = let w = c.before.before.before.before.before.before.requires in
     record {
       lists = w.lists;
-      few = entry-block-small _ _ _ _ _ _
+      few = entry_block_small _ _ _ _ _ _
           (rw c.before.s.given.1 at w.waits);
       long = w.waits.long;
     }
@@ -45,33 +45,33 @@ enum-told-3 c = search rules
 
 returns : tie.Need-returns
 returns c = rw c.before.enum_told.given.1
-    (label-met _ _ c.before.before.before.before.before.before.requires.lists _ _ _ c.label-step.ensures)
+    (label_met _ _ c.before.before.before.before.before.before.requires.lists _ _ _ c.label_step_lem.ensures)
 
 returns-2 : tie.Need-returns-2
 returns-2 c = rw c.before.before.s.given.1
-    (entry-met _ _ c.before.before.before.before.before.before.before.requires.lists _ _ _ _ _ _ c.entry-step.ensures)
+    (entry_met _ _ c.before.before.before.before.before.before.before.requires.lists _ _ _ _ _ _ c.entry-step.ensures)
 
 same_length : tie.Need-same-length
 same_length c = search rules
 
 returns-3 : tie.Need-returns-3
-unfolding dueStep
+unfolding due_step
 returns-3 c = rw c.before.before.before.before.before.s2.given.1 c.before.before.program-step.ensures
 
 returns-4 : tie.Need-returns-4
-unfolding dueStep
+unfolding due_step
 returns-4 c = rw c.before.before.s3.given.1 (record { told = c.termination-step.ensures; left = refl })
 
 returns-5 : tie.Need-returns-5
-unfolding dueStep
+unfolding due_step
 returns-5 c = rw c.enum-told2.given.1 (record { told = refl; left = refl })
 
 returns-6 : tie.Need-returns-6
-unfolding dueStep
+unfolding due_step
 returns-6 c = rw c.enum-told3.given.1 (record { told = refl; left = refl })
 
-pub due-step-spec : {M : Type 1} → statement M
-due-step-spec =
+pub due_step_spec : {M : Type 1} → statement M
+due_step_spec =
     tie.close
     (tie.spec
     enum_told

@@ -3,9 +3,9 @@ use mathlib.Core.Path.{refl, sym, ◌∙◌}
 use native.Mathlib.Omega.{arith}
 use Rattle.desk.proofs.Facts.{sound-long}
 use Rattle.layout.proofs.Places.{place-length}
-use Rattle.feed.specs.Feed.{held_of, checkedOf}
-use Rattle.feed.proofs.Held.{held-kept-waits}
-use Rattle.feed.proofs.Fed.{verdict-pass}
+use Rattle.feed.specs.Feed.{held_of, checked_of}
+use Rattle.feed.proofs.Held.{held-kept_waits}
+use Rattle.feed.proofs.Fed.{verdict_pass}
 use borrow.Author.Rules.{rules}
 use Rattle.feed.proofs.feed_held.Statement.{statement}
 use Rattle.feed.proofs.feed_held.Tie as tie
@@ -26,7 +26,7 @@ same_length c = search rules
 returns : tie.Need-returns
 unfolding held_of
 returns c = let e = rw c.before.before.before.place_at.ensures at c.before.before.stage-of.ensures in
-    rw (← e, sym c.before.is-over.ensures ∙ c.if1.true) (record { told = refl; desk-left = refl; core-left = refl })
+    rw (← e, sym c.before.is-over.ensures ∙ c.if1.true) (record { told = refl; desk_left = refl; core-left = refl })
 
 record-due-requires : tie.Need-record-due-requires
 record-due-requires c κs = search rules
@@ -41,12 +41,12 @@ take-block-requires : tie.Need-take-block-requires
 take-block-requires c κs = let q = c.before.before.before.before.before.before.before.before.before.before.before.before.before.before.requires in
     let e = rw c.before.before.before.before.before.before.before.before.before.place_at.ensures at
     c.before.before.before.before.before.before.before.before.stage-of.ensures in
-    let v = verdict-pass _ _
+    let v = verdict_pass _ _
     (sym c.before.before.before.before.check-block.ensures ∙ c.before.before.enum_told.given.1) in
     record {
       long = sound-long _ q.desk;
       place = q.place;
-      load = rw e (held-kept-waits _ q.desk _ q.place (λ z. omega (arith, q.held)) _ _ q.long v.0 v.1);
+      load = rw e (held-kept_waits _ q.desk _ q.place (λ z. omega (arith, q.held)) _ _ q.long v.0 v.1);
     }
 
 enum-known-f : tie.Need-enum-known-f
@@ -59,7 +59,7 @@ same-length-3 : tie.Need-same-length-3
 same-length-3 c = search rules
 
 returns-2 : tie.Need-returns-2
-unfolding held_of checkedOf
+unfolding held_of checked_of
 returns-2 c = let e = rw
     c.before.before.before.before.before.before.before.before.before.before.before.before.before.before.place_at.ensures at c.before.before.before.before.before.before.before.before.before.before.before.before.before.stage-of.ensures in
     rw (← e, sym c.before.before.before.before.before.before.before.before.before.before.before.before.is-over.ensures ∙ c.before.before.before.before.before.before.before.before.before.before.before.if1.false, ← c.before.before.before.before.before.before.before.before.before.before.record-due.ensures, sym c.before.before.before.before.before.before.before.before.before.check-block.ensures ∙ c.before.before.before.before.before.before.before.enum_told.given.1) c.before.before.before.before.take-block.ensures
@@ -68,7 +68,7 @@ same-length-4 : tie.Need-same-length-4
 same-length-4 c = search rules
 
 returns-3 : tie.Need-returns-3
-unfolding held_of checkedOf
+unfolding held_of checked_of
 returns-3 c = let e = rw c.before.before.before.before.before.before.before.before.place_at.ensures at
     c.before.before.before.before.before.before.before.stage-of.ensures in
     rw (
@@ -79,10 +79,10 @@ returns-3 c = let e = rw c.before.before.before.before.before.before.before.befo
       sym
           c.before.before.before.check-block.ensures ∙ c.before.f.given.1,
     )
-    (record { told = refl; desk-left = refl; core-left = refl })
+    (record { told = refl; desk_left = refl; core-left = refl })
 
-pub feed-held-spec : {M : Type 1} → statement M
-feed-held-spec =
+pub feed-held_spec : {M : Type 1} → statement M
+feed-held_spec =
     tie.close
     (tie.spec
     place-at-requires

@@ -32,7 +32,7 @@ same_length c = search rules
 returns : tie.Need-returns
 unfolding settled_of
 returns c = rw c.before.before.before.before.before.r.given.1
-    (record { told = refl; desk-left = c.before.before.write-stage.ensures; core-left = refl })
+    (record { told = refl; desk_left = c.before.before.write-stage.ensures; core-left = refl })
 
 same-length-2 : tie.Need-same-length-2
 same-length-2 c = search rules
@@ -40,7 +40,7 @@ same-length-2 c = search rules
 returns-2 : tie.Need-returns-2
 unfolding settled_of
 returns-2 c = rw c.before.before.before.before.before.r2.given.1
-    (record { told = refl; desk-left = c.before.before.write-stage2.ensures; core-left = refl })
+    (record { told = refl; desk_left = c.before.before.write-stage2.ensures; core-left = refl })
 
 same-length-3 : tie.Need-same-length-3
 same-length-3 c = search rules
@@ -51,10 +51,10 @@ same-length-4 c = search rules
 returns-3 : tie.Need-returns-3
 unfolding settled_of
 returns-3 c = rw c.before.before.before.before.before.before.before.before.before.r3.given.1
-    (record { told = refl; desk-left = c.before.before.before.before.before.before.write-stage3.ensures; core-left = c.before.before.clear.ensures })
+    (record { told = refl; desk_left = c.before.before.before.before.before.before.write-stage3.ensures; core-left = c.before.before.clear.ensures })
 
-pub settle-spec : {M : Type 1} → statement M
-settle-spec =
+pub settle_spec : {M : Type 1} → statement M
+settle_spec =
     tie.close
     (tie.spec
     enum-known-r

@@ -1,8 +1,8 @@
 -- `feed::take_block`: what the step told and left is settled.
 use native.Mathlib.Omega.{arith}
 use Rattle.layout.proofs.Places.{place-length}
-use Rattle.feed.specs.Feed.{loadIn}
-use Rattle.feed.proofs.Fed.{taken-met}
+use Rattle.feed.specs.Feed.{load_in}
+use Rattle.feed.proofs.Fed.{taken_met}
 use borrow.Author.Rules.{rules}
 use Rattle.feed.proofs.take_block.Statement.{statement}
 use Rattle.feed.proofs.take_block.Tie as tie
@@ -38,15 +38,15 @@ same-length-2 : tie.Need-same-length-2
 same-length-2 c = search rules
 
 returns : tie.Need-returns
-unfolding loadIn
+unfolding load_in
 returns c = let q = c.before.before.before.before.before.before.before.before.before.before.before.before.before.before.before.before.before.before.before.requires in
     let o = c.before.before.before.before.before.before.before.before.before.before.before.before.before.own_of_lem.ensures in
     let e = c.before.before.before.before.before.before.before.before.before.before.before.before.before.before.place_at.ensures in
     let m = rw (c.before.before.before.before.before.before.before.before.before.before.before.Lists-of.ensures, o, e) at c.before.before.before.before.before.before.before.before.before.load_step.ensures in
-    rw (← taken-met _ _ _ _ _ _ q.load.waits _ _ m) (rw (o, e) at c.before.before.before.before.settle.ensures)
+    rw (← taken_met _ _ _ _ _ _ q.load.waits _ _ m) (rw (o, e) at c.before.before.before.before.settle.ensures)
 
-pub take-block-spec : {M : Type 1} → statement M
-take-block-spec =
+pub take-block_spec : {M : Type 1} → statement M
+take-block_spec =
     tie.close
     (tie.spec
     place-at-requires

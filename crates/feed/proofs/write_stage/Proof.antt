@@ -29,8 +29,8 @@ returns : tie.Need-returns
 unfolding staged
 returns c = rw c.before.before.before.before.before.stage-numbers.ensures at c.before.before.copy-in.ensures
 
-pub write-stage-spec : {M : Type 1} → statement M
-write-stage-spec =
+pub write_stage_spec : {M : Type 1} → statement M
+write_stage_spec =
     tie.close
     (tie.spec
     stage-numbers-requires

@@ -16,5 +16,5 @@ returns-2 : tie.Need-returns-2
 returns-2 c = let s = c.before.before.before in
     rw c.if1.false (address-or-length-kept false _ _ s.args.k _ s.requires.0 s.requires.1 c.before.core-table.ensures)
 
-pub address-or-length-spec : {M : Type 1} → statement M
-address-or-length-spec = tie.close (tie.spec core-table-requires returns returns-2)
+pub address-or-length_spec : {M : Type 1} → statement M
+address-or-length_spec = tie.close (tie.spec core-table-requires returns returns-2)

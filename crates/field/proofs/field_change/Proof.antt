@@ -1,8 +1,8 @@
 -- `field::field_change` meets its contract: each arm of the match by what its calls give (Field's arms), and what they give fits.
 use mathlib.Core.Path.{sym, ◌∙◌}
-use Rattle.field.specs.Field.{assignedBy}
-use Rattle.field.proofs.Field.{moved-fits, pair_fits, long-fits, short-fits, switch_fits, unit-fits, moved-arm, pair-arm}
-use Rattle.field.proofs.Field.{long-arm, short-arm, unit-arm, switch-arm, switch-right, others}
+use Rattle.field.specs.Field.{assigned_by}
+use Rattle.field.proofs.Field.{moved_fits, pair_fits, long-fits, short-fits, switch_fits, unit-fits, moved_arm, pair_arm}
+use Rattle.field.proofs.Field.{long_arm, short_arm, unit_arm, switch_arm, switch_right, others}
 use borrow.Author.Rules.{rules}
 use Rattle.field.proofs.field_change.Statement.{statement}
 use Rattle.field.proofs.field_change.Tie as tie
@@ -14,7 +14,7 @@ moved-field-requires : tie.Need-moved-field-requires
 moved-field-requires c κs = search rules
 
 put-back-requires : tie.Need-put-back-requires
-put-back-requires c κs = (search rules, rw c.moved-field.ensures (moved-fits _ _))
+put-back-requires c κs = (search rules, rw c.moved_field_lem.ensures (moved_fits _ _))
 
 pair-of-requires : tie.Need-pair-of-requires
 pair-of-requires c κs = search rules
@@ -32,9 +32,9 @@ put-back-requires-3 : tie.Need-put-back-requires-3
 put-back-requires-3 c κs = (search rules, rw c.Long-of.ensures (long-fits _ _ _))
 
 returns : tie.Need-returns
-unfolding assignedBy
+unfolding assigned_by
 returns c = let m = c.before.before.before.before in
-    c.put-back3.ensures ∙ long-arm _ _ _ _ m.before.field.ensures m.match.keys3
+    c.put-back3.ensures ∙ long_arm _ _ _ _ m.before.field.ensures m.match.keys3
     (sym c.before.before.before.is_set.ensures ∙ c.before.before.if1.true) c.before.Long-of.ensures
 
 short-of-requires : tie.Need-short-of-requires
@@ -65,41 +65,41 @@ put-back-requires-5 : tie.Need-put-back-requires-5
 put-back-requires-5 c κs = (search rules, rw c.unit-of.ensures (unit-fits _ _ _))
 
 returns-2 : tie.Need-returns-2
-unfolding assignedBy
+unfolding assigned_by
 returns-2 c = let m = c.before.before in
-    c.put_back.ensures ∙ moved-arm _ _ _ _ m.before.field.ensures m.match.keys1 c.before.moved-field.ensures
+    c.put_back.ensures ∙ moved_arm _ _ _ _ m.before.field.ensures m.match.keys1 c.before.moved_field_lem.ensures
 
 returns-3 : tie.Need-returns-3
-unfolding assignedBy
+unfolding assigned_by
 returns-3 c = let m = c.before.before in
-    c.put-back2.ensures ∙ pair-arm _ _ _ _ m.before.field.ensures m.match.keys2 c.before.pair_of.ensures
+    c.put-back2.ensures ∙ pair_arm _ _ _ _ m.before.field.ensures m.match.keys2 c.before.pair_of.ensures
 
 returns-4 : tie.Need-returns-4
-unfolding assignedBy
+unfolding assigned_by
 returns-4 c = let m = c.before.before.before.before in
-    c.put-back4.ensures ∙ short-arm _ _ _ _ m.before.field.ensures m.match.keys3
+    c.put-back4.ensures ∙ short_arm _ _ _ _ m.before.field.ensures m.match.keys3
     (sym c.before.before.before.is_set.ensures ∙ c.before.before.if1.false) c.before.short-of.ensures
 
 returns-5 : tie.Need-returns-5
-unfolding assignedBy
+unfolding assigned_by
 returns-5 c = let m = c.before.before.before in
     rw m.enum_told.given.1
     (c.put_a.ensures
-    ∙ switch-arm _ _ _ c.before.before.a-field.ensures m.before.before.match.keys4 c.before.switch-of.ensures)
+    ∙ switch_arm _ _ _ c.before.before.a-field.ensures m.before.before.match.keys4 c.before.switch-of.ensures)
 
 returns-6 : tie.Need-returns-6
-returns-6 c = rw c.enum-told2.given.1 (switch-right _ _ _ c.before.before.match.keys4)
+returns-6 c = rw c.enum-told2.given.1 (switch_right _ _ _ c.before.before.match.keys4)
 
 returns-7 : tie.Need-returns-7
-unfolding assignedBy
+unfolding assigned_by
 returns-7 c = let m = c.before.before in
-    c.put-back5.ensures ∙ unit-arm _ _ _ _ m.before.field.ensures m.match.keys5 c.before.unit-of.ensures
+    c.put-back5.ensures ∙ unit_arm _ _ _ _ m.before.field.ensures m.match.keys5 c.before.unit-of.ensures
 
 returns-8 : tie.Need-returns-8
 returns-8 c = let m = c.match.rest in others _ _ _ _ _ m.0.0.0.0.1 m.0.0.0.1 m.0.0.1 m.0.1 m.1
 
-pub field-change-spec : {M : Type 1} → statement M
-field-change-spec =
+pub field_change_spec : {M : Type 1} → statement M
+field_change_spec =
     tie.close
     (tie.spec
     field-requires

@@ -1,6 +1,6 @@
 -- `field::field_step` meets its contract: a refusal gets its half and bit.
 use mathlib.Core.Path.{sym, ◌∙◌}
-use Rattle.field.specs.Field.{fieldStep}
+use Rattle.field.specs.Field.{field_step}
 use borrow.Author.Rules.{rules}
 use Rattle.field.proofs.field_step.Statement.{statement}
 use Rattle.field.proofs.field_step.Tie as tie
@@ -18,15 +18,15 @@ in-half-requires : tie.Need-in-half-requires
 in-half-requires c κs = search rules
 
 returns : tie.Need-returns
-unfolding fieldStep
+unfolding field_step
 returns c = rw (sym c.before.before.before.field-change.ensures ∙ c.before.v.given.1)
 
 returns-2 : tie.Need-returns-2
-unfolding fieldStep
+unfolding field_step
 returns-2 c =
-    rw (c.in-half.ensures, sym c.before.before.before.before.field-change.ensures ∙ c.before.before.f.given.1)
+    rw (c.in_half_lem.ensures, sym c.before.before.before.before.field-change.ensures ∙ c.before.before.f.given.1)
 
-pub field-step-spec : {M : Type 1} → statement M
-field-step-spec =
+pub field_step_spec : {M : Type 1} → statement M
+field_step_spec =
     tie.close
     (tie.spec field-change-requires enum-known-v enum-known-f in-half-requires returns returns-2)

@@ -45,8 +45,8 @@ returns-3 c = rw (
     (rw (c.before.is-set3.ensures, c.before.before.is-set2.ensures, c.before.before.before.bits2.ensures) at
     c.refer.ensures)
 
-pub long-of-spec : {M : Type 1} → statement M
-long-of-spec =
+pub long_of_spec : {M : Type 1} → statement M
+long_of_spec =
     tie.close
     (tie.spec
     bits-requires

@@ -54,8 +54,8 @@ returns-3 c = let z = c.before.before.before.before.before.before.before.before 
       le-ltb _ _ c.if2.false,
     )
 
-pub pair-of-spec : {M : Type 1} → statement M
-pair-of-spec =
+pub pair_of_spec : {M : Type 1} → statement M
+pair_of_spec =
     tie.close
     (tie.spec
     is-set-requires

@@ -23,5 +23,5 @@ returns-2 : tie.Need-returns-2
 unfolding put_back
 returns-2 c = simp c.before.b2.given.1
 
-pub put-a-spec : {M : Type 1} → statement M
-put-a-spec = tie.close (tie.spec enum-known-b store-a-requires enum-known-b-2 returns returns-2)
+pub put-a_spec : {M : Type 1} → statement M
+put-a_spec = tie.close (tie.spec enum-known-b store-a-requires enum-known-b-2 returns returns-2)

@@ -23,6 +23,6 @@ returns-2 : tie.Need-returns-2
 unfolding put_back
 returns-2 c = simp c.before.b2.given.1
 
-pub put-back-spec : {M : Type 1} → statement M
-put-back-spec =
+pub put_back_spec : {M : Type 1} → statement M
+put_back_spec =
     tie.close (tie.spec enum-known-b store-field-requires enum-known-b-2 returns returns-2)

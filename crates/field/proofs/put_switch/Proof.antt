@@ -23,5 +23,5 @@ returns-2 : tie.Need-returns-2
 unfolding put_back
 returns-2 c = simp c.enum_told.given.1
 
-pub put-switch-spec : {M : Type 1} → statement M
-put-switch-spec = tie.close (tie.spec enum-known-b store-a-requires enum_told returns returns-2)
+pub put-switch_spec : {M : Type 1} → statement M
+put-switch_spec = tie.close (tie.spec enum-known-b store-a-requires enum_told returns returns-2)

@@ -23,5 +23,5 @@ returns-2 : tie.Need-returns-2
 unfolding put_back
 returns-2 c = simp c.enum_told.given.1
 
-pub put-word-spec : {M : Type 1} → statement M
-put-word-spec = tie.close (tie.spec enum-known-b store-field-requires enum_told returns returns-2)
+pub put_word_spec : {M : Type 1} → statement M
+put_word_spec = tie.close (tie.spec enum-known-b store-field-requires enum_told returns returns-2)

@@ -20,5 +20,5 @@ returns-2 : tie.Need-returns-2
 unfolding referred
 returns-2 c = search (tests, core-length)
 
-pub refer-spec : {M : Type 1} → statement M
-refer-spec = tie.close (tie.spec address-or-length-requires plus-or-minus-requires returns returns-2)
+pub refer_spec : {M : Type 1} → statement M
+refer_spec = tie.close (tie.spec address-or-length-requires plus-or-minus-requires returns returns-2)

@@ -38,8 +38,8 @@ returns-2 c = let z = rw
     (c.before.before.before.before.before.bits.ensures, c.before.before.before.before.before.before.is_set.ensures) at (sym c.before.before.before.before.minus-zero.ensures ∙ c.before.before.before.if1.false) in
     rw z (rw (c.before.is-set2.ensures, c.before.before.bits2.ensures, c.before.before.before.before.before.bits.ensures, c.before.before.before.before.before.before.is_set.ensures) at c.refer.ensures)
 
-pub short-of-spec : {M : Type 1} → statement M
-short-of-spec =
+pub short_of_spec : {M : Type 1} → statement M
+short_of_spec =
     tie.close
     (tie.spec
     is-set-requires

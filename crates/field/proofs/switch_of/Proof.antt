@@ -20,5 +20,5 @@ returns-2 : tie.Need-returns-2
 unfolding switch
 returns-2 c = rw (lt-leb _ _ c.before.before.if1.false, ← c.before.io-assigned.ensures, ← c.bits.ensures)
 
-pub switch-of-spec : {M : Type 1} → statement M
-switch-of-spec = tie.close (tie.spec returns io-assigned-requires bits-requires returns-2)
+pub switch_of_spec : {M : Type 1} → statement M
+switch_of_spec = tie.close (tie.spec returns io-assigned-requires bits-requires returns-2)

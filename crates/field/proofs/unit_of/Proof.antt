@@ -24,5 +24,5 @@ returns-3 : tie.Need-returns-3
 unfolding unit
 returns-3 c = search (tests, io-length)
 
-pub unit-of-spec : {M : Type 1} → statement M
-unit-of-spec = tie.close (tie.spec returns io-assigned-requires valued-of-requires returns-2 returns-3)
+pub unit_of_spec : {M : Type 1} → statement M
+unit_of_spec = tie.close (tie.spec returns io-assigned-requires valued-of-requires returns-2 returns-3)

@@ -12,5 +12,5 @@ returns-2 : tie.Need-returns-2
 unfolding valued
 returns-2 c = search tests
 
-pub valued-of-spec : {M : Type 1} → statement M
-valued-of-spec = tie.close (tie.spec returns returns-2)
+pub valued_of_spec : {M : Type 1} → statement M
+valued_of_spec = tie.close (tie.spec returns returns-2)

@@ -1,5 +1,5 @@
 -- `forms::constant_form` meets its contract: each form by the test that leads to it; a flag is a bit, so that no sum wraps.
-use Rattle.word.proofs.Word.{flag-below}
+use Rattle.word.proofs.Word.{flag_below}
 use Rattle.forms.specs.Forms.{form_of}
 use borrow.Author.Tests.{lt-ltb, le-ltb}
 use native.Mathlib.Omega.{arith}
@@ -11,18 +11,18 @@ flag-of-requires : tie.Need-flag-of-requires
 flag-of-requires c κs = search rules
 
 mul-result : tie.Need-overflow-mul-result
-mul-result c = omega (arith, flag-below c.before.before.args.minus)
+mul-result c = omega (arith, flag_below c.before.before.args.minus)
 
 flag-of-requires-2 : tie.Need-flag-of-requires-2
 flag-of-requires-2 c κs = search rules
 
 mul-result-2 : tie.Need-overflow-mul-result-2
-mul-result-2 c = omega (arith, flag-below c.before.before.before.args.sized)
+mul-result-2 c = omega (arith, flag_below c.before.before.before.args.sized)
 
 add-result : tie.Need-overflow-add-result
 add-result c =
     let a = c.before.before.before.args in
-    omega (arith, flag-below a.minus, flag-below a.sized)
+    omega (arith, flag_below a.minus, flag_below a.sized)
 
 mul-result-3 : tie.Need-overflow-mul-result-3
 mul-result-3 c = search rules
@@ -30,12 +30,12 @@ mul-result-3 c = search rules
 add-result-2 : tie.Need-overflow-add-result-2
 add-result-2 c =
     let a = c.before.before.before.before.args in
-    omega (arith, flag-below a.minus, flag-below a.sized)
+    omega (arith, flag_below a.minus, flag_below a.sized)
 
 add-result-3 : tie.Need-overflow-add-result-3
 add-result-3 c =
     let a = c.before.before.before.before.args in
-    omega (arith, flag-below a.minus, flag-below a.sized)
+    omega (arith, flag_below a.minus, flag_below a.sized)
 
 returns : tie.Need-returns
 unfolding form_of
@@ -47,20 +47,20 @@ flag-of-requires-3 : tie.Need-flag-of-requires-3
 flag-of-requires-3 c κs = search rules
 
 mul-result-4 : tie.Need-overflow-mul-result-4
-mul-result-4 c = omega (arith, flag-below c.before.before.args.minus)
+mul-result-4 c = omega (arith, flag_below c.before.before.args.minus)
 
 add-result-4 : tie.Need-overflow-add-result-4
-add-result-4 c = omega (arith, flag-below c.before.before.args.minus)
+add-result-4 c = omega (arith, flag_below c.before.before.args.minus)
 
 add-result-5 : tie.Need-overflow-add-result-5
-add-result-5 c = omega (arith, flag-below c.before.before.args.minus)
+add-result-5 c = omega (arith, flag_below c.before.before.args.minus)
 
 returns-2 : tie.Need-returns-2
 unfolding form_of
 returns-2 c = rw (le-ltb _ _ c.before.if1.false, c.flag-of3.ensures)
 
-pub constant-form-spec : {M : Type 1} → statement M
-constant-form-spec =
+pub constant_form_spec : {M : Type 1} → statement M
+constant_form_spec =
     tie.close
     (tie.spec
     flag-of-requires

@@ -1,8 +1,8 @@
 -- `forms::fill` meets its contract: each arm by what it holds; a form fits the bits that it fills.
 use mathlib.Core.Path.{sym}
 use Rattle.forms.specs.Forms.{form_of, filled}
-use Rattle.forms.proofs.Forms.{form_small, filled-same, filled-move}
-use Rattle.forms.proofs.Filling.{channel-small}
+use Rattle.forms.proofs.Forms.{form_small, filled-same, filled_move}
+use Rattle.forms.proofs.Filling.{channel_small}
 use borrow.Author.Rules.{rules}
 use Rattle.forms.proofs.fill.Statement.{statement}
 use Rattle.forms.proofs.fill.Tie as tie
@@ -22,7 +22,7 @@ pair-form-requires c κs = rw c.before.c.given.1 at c.before.before.before.requi
 store-field-requires : tie.Need-store-field-requires
 store-field-requires c κs =
     let s = c.before.before.before.before in
-    (search rules, rw c.pair-form.ensures (form_small s.args.h _ (rw c.before.before.c.given.1 at s.requires.1)))
+    (search rules, rw c.pair_form.ensures (form_small s.args.h _ (rw c.before.before.c.given.1 at s.requires.1)))
 
 enum-known-c-2 : tie.Need-enum-known-c-2
 enum-known-c-2 c = search rules
@@ -43,7 +43,7 @@ enum-known-c-3 c = search rules
 store-a-requires : tie.Need-store-a-requires
 store-a-requires c κs =
     let s = c.before.before.before in
-    (search rules, channel-small s.args.h _ (rw c.before.c3.given.1 at s.requires.1))
+    (search rules, channel_small s.args.h _ (rw c.before.c3.given.1 at s.requires.1))
 
 enum-known-c-4 : tie.Need-enum-known-c-4
 enum-known-c-4 c = search rules
@@ -55,11 +55,11 @@ returns : tie.Need-returns
 returns c = rw c.enum_told.given.1 (sym (filled-same _ _))
 
 returns-2 : tie.Need-returns-2
-returns-2 c = rw c.enum-told2.given.1 (sym (filled-move _ _))
+returns-2 c = rw c.enum-told2.given.1 (sym (filled_move _ _))
 
 returns-3 : tie.Need-returns-3
 unfolding filled
-returns-3 c = rw (c.before.before.before.c.given.1, ← c.before.pair-form.ensures) c.store-field.ensures
+returns-3 c = rw (c.before.before.before.c.given.1, ← c.before.pair_form.ensures) c.store-field.ensures
 
 returns-4 : tie.Need-returns-4
 unfolding filled

@@ -17,5 +17,5 @@ fill-requires c κs = rw c.change-of.ensures c.before.before.requires
 returns-2 : tie.Need-returns-2
 returns-2 c = rw (← c.before.change-of.ensures) c.fill.ensures
 
-pub fill-half-spec : {M : Type 1} → statement M
-fill-half-spec = tie.close (tie.spec returns change-of-requires fill-requires returns-2)
+pub fill_half_spec : {M : Type 1} → statement M
+fill_half_spec = tie.close (tie.spec returns change-of-requires fill-requires returns-2)

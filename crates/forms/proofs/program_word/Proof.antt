@@ -1,7 +1,7 @@
 -- `forms::program_word` meets its contract: one half, then the other; a word stays a word.
-use Rattle.forms.specs.Forms.{programWord}
+use Rattle.forms.specs.Forms.{program_word}
 use Rattle.word.specs.declared.Half.TheVariants.{Left}
-use Rattle.forms.proofs.Forms.{filled-word}
+use Rattle.forms.proofs.Forms.{filled_word}
 use borrow.Author.Rules.{rules}
 use Rattle.forms.proofs.program_word.Statement.{statement}
 use Rattle.forms.proofs.program_word.Tie as tie
@@ -12,11 +12,11 @@ fill-half-requires c κs = search rules
 fill-half-requires-2 : tie.Need-fill-half-requires-2
 fill-half-requires-2 c κs =
     let p = c.before.requires in
-    (rw c.fill-half.ensures (filled-word Left _ _ p.left p.word), p.right)
+    (rw c.fill-half.ensures (filled_word Left _ _ p.left p.word), p.right)
 
 returns : tie.Need-returns
-unfolding programWord
+unfolding program_word
 returns c = rw (← c.before.fill-half.ensures) c.fill-half2.ensures
 
-pub program-word-spec : {M : Type 1} → statement M
-program-word-spec = tie.close (tie.spec fill-half-requires fill-half-requires-2 returns)
+pub program_word_spec : {M : Type 1} → statement M
+program_word_spec = tie.close (tie.spec fill-half-requires fill-half-requires-2 returns)

@@ -4,7 +4,7 @@ use Prim.Native.Nat.{◌-◌, ◌*◌}
 use native.Mathlib.Omega.{arith}
 use borrow.Author.Rules.{rules}
 use Rattle.word.proofs.Lists.{range-lent}
-use Rattle.word.specs.Limits.{wordsInBlock}
+use Rattle.word.specs.Limits.{words_in_block}
 use Rattle.front.specs.Front.{block_at}
 use Rattle.front.proofs.block_at.Statement.{statement}
 use Rattle.front.proofs.block_at.Tie as tie
@@ -29,7 +29,7 @@ part-result-end c = search rules
 
 returns : tie.Need-returns
 unfolding block_at
-returns c = let a = c.before.before.args in last-part a.blocks.now (wordsInBlock * a.i) wordsInBlock (omega arith)
+returns c = let a = c.before.before.args in last-part a.blocks.now (words_in_block * a.i) words_in_block (omega arith)
 
 add-result : tie.Need-overflow-add-result
 add-result c = search rules
@@ -48,10 +48,10 @@ part-result-end-2 c = search rules
 
 returns-2 : tie.Need-returns-2
 unfolding block_at
-returns-2 c = let a = c.before.before.args in range-lent a.blocks.now (wordsInBlock * a.i) wordsInBlock
+returns-2 c = let a = c.before.before.args in range-lent a.blocks.now (words_in_block * a.i) words_in_block
 
-pub block-at-spec : {M : Type 1} → statement M
-block-at-spec =
+pub block-at_spec : {M : Type 1} → statement M
+block-at_spec =
     tie.close
     (tie.spec
     mul-a

@@ -1,6 +1,6 @@
 -- `front::check_behind` meets its contract: what is over, once the blocks that are due are right.
 use mathlib.Core.Path.{sym, ◌∙◌}
-use Rattle.front.proofs.Blocks.{behind-right, behind-wrong}
+use Rattle.front.proofs.Blocks.{behind_right, behind_wrong}
 use borrow.Author.Rules.{rules}
 use Rattle.front.proofs.check_behind.Statement.{statement}
 use Rattle.front.proofs.check_behind.Tie as tie
@@ -22,14 +22,14 @@ enum-known-f c = search rules
 
 returns : tie.Need-returns
 returns c =
-    behind-right _ _ _ (sym c.before.before.before.check-modifications.ensures ∙ c.before.enum_told.given.1)
+    behind_right _ _ _ (sym c.before.before.before.check-modifications.ensures ∙ c.before.enum_told.given.1)
     c.check-over.ensures
 
 returns-2 : tie.Need-returns-2
-returns-2 c = behind-wrong _ _ _ (sym c.before.before.before.check-modifications.ensures ∙ c.before.f.given.1)
+returns-2 c = behind_wrong _ _ _ (sym c.before.before.before.check-modifications.ensures ∙ c.before.f.given.1)
 
-pub check-behind-spec : {M : Type 1} → statement M
-check-behind-spec =
+pub check_behind_spec : {M : Type 1} → statement M
+check_behind_spec =
     tie.close
     (tie.spec
     check-modifications-requires

@@ -1,6 +1,6 @@
 -- `front::check_modification` meets its contract: one law for each way in which it ends.
 use mathlib.Core.Path.{sym, ◌∙◌}
-use Rattle.front.proofs.Blocks.{missing, right-record, other-record, refused-block}
+use Rattle.front.proofs.Blocks.{missing, right_record, other_record, refused-block}
 use native.Mathlib.Omega.{arith}
 use borrow.Author.Rules.{rules}
 use Rattle.front.proofs.check_modification.Statement.{statement}
@@ -30,7 +30,7 @@ of-record-requires c κs = search rules
 returns-2 : tie.Need-returns-2
 returns-2 c =
     let d = c.before.before.before.before in
-    right-record _ _ (omega arith) _ d.before.block_at.ensures
+    right_record _ _ (omega arith) _ d.before.block_at.ensures
     (sym d.check-block.ensures ∙ c.before.before.enum_told.given.1)
     (sym c.if2.true ∙ c.before.of-record.ensures)
 
@@ -43,7 +43,7 @@ enum-known-f c = search rules
 returns-3 : tie.Need-returns-3
 returns-3 c =
     let d = c.before.before.before.before.before in
-    other-record _ _ (omega arith) _ d.before.block_at.ensures _ c.wrong-record2.ensures
+    other_record _ _ (omega arith) _ d.before.block_at.ensures _ c.wrong-record2.ensures
     (sym d.check-block.ensures ∙ c.before.before.before.enum_told.given.1)
     (sym c.before.if2.false ∙ c.before.before.of-record.ensures)
 
@@ -52,8 +52,8 @@ returns-4 c =
     let d = c.before.before.before in
     refused-block _ _ (omega arith) _ d.before.block_at.ensures _ (sym d.check-block.ensures ∙ c.before.f.given.1)
 
-pub check-modification-spec : {M : Type 1} → statement M
-check-modification-spec =
+pub check_modification_spec : {M : Type 1} → statement M
+check_modification_spec =
     tie.close
     (tie.spec
     mul-if1

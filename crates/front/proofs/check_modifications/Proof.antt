@@ -2,15 +2,15 @@
 use Prim.Native.Nat.{◌≤◌, ◌-◌}
 use mathlib.Core.Path.{◌≡◌, sym, ◌∙◌}
 use Rattle.block.specs.declared.Verdict.TheVariants.{Pass}
-use Rattle.front.specs.Front.{modificationsTo}
-use Rattle.front.proofs.Blocks.{none_yet, one_more, first-wrong, all_right}
+use Rattle.front.specs.Front.{modifications_to}
+use Rattle.front.proofs.Blocks.{none_yet, one_more, first_wrong_lem, all_right}
 use native.Mathlib.Omega.{arith}
 use borrow.Author.Rules.{rules}
 use Rattle.front.proofs.check_modifications.Statement.{statement}
 use Rattle.front.proofs.check_modifications.Tie as tie
 
 abbrev invariant-loop : tie.invariant-loop
-invariant-loop blocks m i₀ i = (i ≤ m) × (modificationsTo blocks i ≡ Pass)
+invariant-loop blocks m i₀ i = (i ≤ m) × (modifications_to blocks i ≡ Pass)
 
 abbrev decreases-loop : tie.decreases-loop
 decreases-loop blocks m i₀ i = m - i
@@ -46,15 +46,15 @@ returns : tie.Need-returns invariant-loop decreases-loop
 returns c =
     let d = c.before.before.before in
     let l = d.before.before.loop in
-    first-wrong _ l.i _ _ (omega arith) l.invariant.1 (sym d.check-modification.ensures ∙ c.before.f.given.1)
+    first_wrong_lem _ l.i _ _ (omega arith) l.invariant.1 (sym d.check-modification.ensures ∙ c.before.f.given.1)
 
 returns-2 : tie.Need-returns-2 invariant-loop decreases-loop
 returns-2 c =
     let l = c.before.loop in
     all_right _ l.i _ (omega arith) (omega arith) l.invariant.1
 
-pub check-modifications-spec : {M : Type 1} → statement M
-check-modifications-spec =
+pub check_modifications_spec : {M : Type 1} → statement M
+check_modifications_spec =
     tie.close
     (tie.spec
     invariant-loop

@@ -38,8 +38,8 @@ returns-3 c =
     let d = c.before.before.before in
     refused_over _ _ (omega arith) _ d.before.block_at.ensures _ (sym d.check-block.ensures ∙ c.before.f.given.1)
 
-pub check-over-spec : {M : Type 1} → statement M
-check-over-spec =
+pub check_over_spec : {M : Type 1} → statement M
+check_over_spec =
     tie.close
     (tie.spec
     mul-if1

@@ -2,9 +2,9 @@
 use mathlib.Core.Path.{ap, ◌∙◌}
 use Prim.Native.Nat.{◌+◌, ◌*◌}
 use lib.ListN.{get_or}
-use Rattle.word.specs.Limits.{wordsInBlock}
+use Rattle.word.specs.Limits.{words_in_block}
 use Rattle.modification.specs.declared.Spot.{Spot}
-use Rattle.front.specs.Front.{entryWord}
+use Rattle.front.specs.Front.{entry_word}
 use native.Mathlib.Omega.{arith}
 use borrow.Author.Rules.{rules}
 use Rattle.front.proofs.entry_word.Statement.{statement}
@@ -35,13 +35,13 @@ word-at-requires : tie.Need-word-at-requires
 word-at-requires c κs = search rules
 
 returns : tie.Need-returns
-unfolding entryWord
+unfolding entry_word
 returns c =
     c.word_at.ensures
-    ∙ ap (λ (s : Spot). get_or c.before.before.before.args.blocks.now (wordsInBlock * (1 + s.block) + s.word) 0)
+    ∙ ap (λ (s : Spot). get_or c.before.before.before.args.blocks.now (words_in_block * (1 + s.block) + s.word) 0)
     c.before.spot_of_lem.ensures
 
-pub entry-word-spec : {M : Type 1} → statement M
-entry-word-spec =
+pub entry_word_spec : {M : Type 1} → statement M
+entry_word_spec =
     tie.close
     (tie.spec spot-of-requires add-word-at mul-word-at add-word-at-2 word-at-requires returns)

@@ -1,6 +1,6 @@
 -- `front::read_front` meets its contract: by the label, and by what stands behind it.
 use mathlib.Core.Path.{sym, ◌∙◌}
-use Rattle.front.proofs.Carried.{front-none, label-block-carried, front-good, front-bad}
+use Rattle.front.proofs.Carried.{front-none, label-block-carried, front_good, front_bad}
 use native.Mathlib.Omega.{arith}
 use borrow.Author.Rules.{rules}
 use Rattle.front.proofs.read_front.Statement.{statement}
@@ -28,18 +28,18 @@ enum-known-f c = search rules
 returns-2 : tie.Need-returns-2
 returns-2 c =
     let d = c.before.before.before.before in
-    front-good _ (omega arith) _ _
+    front_good _ (omega arith) _ _
     (rw d.before.block_at.ensures at (sym d.read-label-block.ensures ∙ c.before.before.l.given.1))
     c.with_blocks.ensures
 
 returns-3 : tie.Need-returns-3
 returns-3 c =
     let d = c.before.before.before in
-    front-bad _ (omega arith) _
+    front_bad _ (omega arith) _
     (rw d.before.block_at.ensures at (sym d.read-label-block.ensures ∙ c.before.f.given.1))
 
-pub read-front-spec : {M : Type 1} → statement M
-read-front-spec =
+pub read-front_spec : {M : Type 1} → statement M
+read-front_spec =
     tie.close
     (tie.spec
     returns

@@ -1,5 +1,5 @@
 -- `front::with_blocks` meets its contract: by the verdict on the blocks behind the label.
-use Rattle.front.proofs.Carried.{with-right, with-wrong}
+use Rattle.front.proofs.Carried.{with_right, with_wrong}
 use mathlib.Core.Path.{sym, ◌∙◌}
 use borrow.Author.Rules.{rules}
 use Rattle.front.proofs.with_blocks.Statement.{statement}
@@ -19,17 +19,17 @@ enum-known-f c = search rules
 
 returns : tie.Need-returns
 returns c =
-    with-right _ _
+    with_right _ _
     (rw c.before.before.before.blocks-due.ensures at
     (sym c.before.before.check-behind.ensures ∙ c.enum_told.given.1))
 
 returns-2 : tie.Need-returns-2
 returns-2 c =
-    with-wrong _ _ _
+    with_wrong _ _ _
     (rw c.before.before.before.before.blocks-due.ensures at
     (sym c.before.before.before.check-behind.ensures ∙ c.before.f.given.1))
 
-pub with-blocks-spec : {M : Type 1} → statement M
-with-blocks-spec =
+pub with_blocks_spec : {M : Type 1} → statement M
+with_blocks_spec =
     tie.close
     (tie.spec blocks-due-requires check-behind-requires enum_told enum-known-f returns returns-2)

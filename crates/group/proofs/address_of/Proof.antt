@@ -27,7 +27,7 @@ returns-2 : tie.Need-returns-2
 unfolding address_of
 returns-2 c = rw c.before.before.before.section.given.1 c.from-table.ensures
 
-pub address-of-spec : {M : Type 1} → statement M
-address-of-spec =
+pub address_of_spec : {M : Type 1} → statement M
+address_of_spec =
     tie.close
     (tie.spec enum_told placed-requires enum-known-section from-table-requires returns returns-2)

@@ -1,6 +1,6 @@
 -- `count_group`: from what its callees ensure; the count says which answer stands.
 use native.Mathlib.Omega.{arith}
-use Rattle.group.proofs.Steps.{lent-ready, fault-ready, bits_most, counted-done, counted-wrong, counted_stop}
+use Rattle.group.proofs.Steps.{lent_ready, fault_ready, bits_most, counted_done, counted_wrong, counted_stop}
 use borrow.Author.Rules.{rules}
 use Rattle.group.proofs.count_group.Statement.{statement}
 use Rattle.group.proofs.count_group.Tie as tie
@@ -27,7 +27,7 @@ part-change-group-end : tie.Need-slice-bounds-change-group-end
 part-change-group-end c = search rules
 
 change-group-requires : tie.Need-change-group-requires
-change-group-requires c κs = lent-ready _ _ _ _ _ _ c.before.before.before.before.before.before.requires.0
+change-group-requires c κs = lent_ready _ _ _ _ _ _ c.before.before.before.before.before.before.requires.0
     c.before.before.before.before.before.before.requires.1
 
 enum-known-bits : tie.Need-enum-known-bits
@@ -47,7 +47,7 @@ returns : tie.Need-returns
 returns c = let up = c.before.before.before.before.before.before.before in
     let top = up.before.before.before.before.before.before.before in
     let p = top.requires in
-    counted-done _ _ _ _ _ _ p.0 p.1 _ _ _ up.change-group.ensures _
+    counted_done _ _ _ _ _ _ p.0 p.1 _ _ _ up.change-group.ensures _
     c.before.before.before.bits.given.1 _ c.before.just_enough.ensures c.if1.true
 
 refuse-requires : tie.Need-refuse-requires
@@ -70,7 +70,7 @@ part-group-fault-end c = search rules
 
 group-fault-requires : tie.Need-group-fault-requires
 group-fault-requires c κs = let up = c.before.before.before.before.before.before.before in
-    fault-ready _ _ _ _ _ _ up.before.before.before.before.before.before.requires.0
+    fault_ready _ _ _ _ _ _ up.before.before.before.before.before.before.requires.0
     up.before.before.before.before.before.before.requires.1
 
 refuse-requires-2 : tie.Need-refuse-requires-2
@@ -83,7 +83,7 @@ returns-2 : tie.Need-returns-2
 returns-2 c = let up = c.before.before.before.before.before.before.before in
     let top = up.before.before.before.before.before.before.before in
     let p = top.before.before.before.before.requires in
-    counted-wrong _ _ _ _ _ _ p.0 p.1 _ _ _ up.before.before.before.before.change-group.ensures _
+    counted_wrong _ _ _ _ _ _ p.0 p.1 _ _ _ up.before.before.before.before.change-group.ensures _
     up.bits.given.1 _ c.before.before.before.before.before.just_enough.ensures
     c.before.before.before.before.if1.false _ _
     c.before.before.refuse.ensures
@@ -99,8 +99,8 @@ returns-3 c = let up = c.before.before.before.before.before.before.before in
     c.before.before.before.before.before.before.enum_told.given.1 _
     c.before.before.before.group-fault.ensures _ _ c.before.before.refuse2.ensures
 
-pub count-group-spec : {M : Type 1} → statement M
-count-group-spec =
+pub count_group_spec : {M : Type 1} → statement M
+count_group_spec =
     tie.close
     (tie.spec
     add-first

@@ -5,12 +5,12 @@ use native.Mathlib.Omega.{arith}
 use lib.ListN.{length}
 use Prim.Native.Nat.{◌+◌, ◌≤◌}
 use Rattle.word.specs.declared.Absolute.{Absolute}
-use Rattle.field.specs.Field.{assignedBy}
+use Rattle.field.specs.Field.{assigned_by}
 use Rattle.program.specs.declared.Group.{Group}
-use Rattle.group.specs.Group.{wordsLie, readOutcome, groupStep}
+use Rattle.group.specs.Group.{words_lie, read_outcome, group_step}
 use Rattle.group.specs.HowGroup.{Sized}
-use Rattle.group.proofs.Places.{words-lie, group-sized}
-use Rattle.group.proofs.Steps.{outcome-filled, outcome-outside}
+use Rattle.group.proofs.Places.{words_lie_lem, group_sized}
+use Rattle.group.proofs.Steps.{outcome_filled, outcome_outside}
 use borrow.Author.Rules.{rules}
 use Rattle.group.proofs.group_step.Statement.{statement}
 use Rattle.group.proofs.group_step.Tie as tie
@@ -36,38 +36,38 @@ address-of-requires c κs =
     record {
       inside = omega (arith, p.inside, p.most);
       room = p.room;
-      sized = group-sized _ _
+      sized = group_sized _ _
           (sym c.before.before.before.before.before.before.read-group.ensures
           ∙ c.before.before.before.before.g.given.1);
     }
 
 -- the group that was read, and its words in the core
 module _ (c : tie.After-address-of) where
-  abbrev the-group : Group
-  the-group = c.before.before.before.before.before.g.given.0.0
+  abbrev the_group : Group
+  the_group = c.before.before.before.before.before.g.given.0.0
 
-  its-size : Sized the-group
-  its-size = group-sized _ _
+  its-size : Sized the_group
+  its-size = group_sized _ _
       (sym c.before.before.before.before.before.before.before.read-group.ensures
       ∙ c.before.before.before.before.before.g.given.1)
 
-  it-lies : wordsLie c.before.before.before.before.before.before.before.before.before.before.before.before.args.section the-group ≡ true
-  it-lies = sym c.before.before.before.words-lie.ensures ∙ c.before.before.if1.true
+  it-lies : words_lie c.before.before.before.before.before.before.before.before.before.before.before.before.args.section the_group ≡ true
+  it-lies = sym c.before.before.before.words_lie_lem.ensures ∙ c.before.before.if1.true
 
-  its-end : c.address-of.result.0 + the-group.program ≤ length
+  its_end : c.address-of.result.0 + the_group.program ≤ length
       c.before.before.before.before.before.before.before.before.before.before.before.before.args.core.now
-  its-end =
+  its_end =
       let z = c.before.before.before.before.before.before.before.before.before.before.before.before in
       let l = rw (sym c.address-of.ensures) at
-      (words-lie z.args.s.given.area z.args.section the-group z.requires.room it-lies) in
+      (words_lie_lem z.args.s.given.area z.args.section the_group z.requires.room it-lies) in
       omega (arith, l.high, z.requires.inside)
 
 add-past : tie.Need-overflow-add-past
-add-past c = omega (arith, its-end c, c.before.before.before.before.before.before.before.before.before.before.before.before.requires.most)
+add-past c = omega (arith, its_end c, c.before.before.before.before.before.before.before.before.before.before.before.before.requires.most)
 
 mul-fill-group : tie.Need-overflow-mul-fill-group
 mul-fill-group c = omega
-    (arith, its-end c, c.before.before.before.before.before.before.before.before.before.before.before.before.requires.most)
+    (arith, its_end c, c.before.before.before.before.before.before.before.before.before.before.before.before.requires.most)
 
 sub-fill-group : tie.Need-overflow-sub-fill-group
 sub-fill-group c = search rules
@@ -76,7 +76,7 @@ part-fill-group-start : tie.Need-slice-bounds-fill-group-start
 part-fill-group-start c = search rules
 
 part-fill-group-end : tie.Need-slice-bounds-fill-group-end
-part-fill-group-end c = its-end c
+part-fill-group-end c = its_end c
 
 fill-group-requires : tie.Need-fill-group-requires
 fill-group-requires c κs =
@@ -95,31 +95,31 @@ same_length : tie.Need-same-length
 same_length c = search rules
 
 returns : tie.Need-returns
-unfolding groupStep readOutcome assignedBy
+unfolding group_step read_outcome assigned_by
 returns c =
     let a = c.before.before.before.before in
     let z = a.before.before.before.before.before.before.before.before.before.before.before.before in
     rw (sym a.before.before.before.before.before.before.before.read-group.ensures
     ∙ a.before.before.before.before.before.g.given.1)
-    (outcome-filled _ _ _ _ _ _ z.requires.long (omega (arith, its-end a, ap (λ (x : Absolute). x.0) a.address-of.ensures))
+    (outcome_filled _ _ _ _ _ _ z.requires.long (omega (arith, its_end a, ap (λ (x : Absolute). x.0) a.address-of.ensures))
     (it-lies a) _ (ap (λ (x : Absolute). x.0) a.address-of.ensures) _ _ c.before.before.fill-group.ensures)
 
 enum-known-f : tie.Need-enum-known-f
 enum-known-f c = search rules
 
 returns-2 : tie.Need-returns-2
-unfolding groupStep readOutcome assignedBy
+unfolding group_step read_outcome assigned_by
 returns-2 c =
     rw (sym c.before.before.before.before.before.read-group.ensures ∙ c.before.before.before.g.given.1)
-    (outcome-outside _ _ _ _ _ _ (sym c.before.words-lie.ensures ∙ c.if1.false))
+    (outcome_outside _ _ _ _ _ _ (sym c.before.words_lie_lem.ensures ∙ c.if1.false))
 
 returns-3 : tie.Need-returns-3
-unfolding groupStep readOutcome
+unfolding group_step read_outcome
 returns-3 c = rw (sym c.before.before.before.read-group.ensures ∙ c.before.f.given.1)
     (record { told = refl; left = refl })
 
-pub group-step-spec : {M : Type 1} → statement M
-group-step-spec =
+pub group_step_spec : {M : Type 1} → statement M
+group_step_spec =
     tie.close
     (tie.spec
     mul-read-group

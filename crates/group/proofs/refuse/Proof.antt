@@ -18,5 +18,5 @@ returns c = record {
       ∙ cleared-whole c.before.before.before.before.before.args.out.now;
 }
 
-pub refuse-spec : {M : Type 1} → statement M
-refuse-spec = tie.close (tie.spec clear-requires same_length returns)
+pub refuse_spec : {M : Type 1} → statement M
+refuse_spec = tie.close (tie.spec clear-requires same_length returns)

@@ -12,5 +12,5 @@ returns-2 : tie.Need-returns-2
 unfolding beyond
 returns-2 c = rw (lt-leb _ _ c.if1.false)
 
-pub beyond-last-spec : {M : Type 1} → statement M
-beyond-last-spec = tie.close (tie.spec returns returns-2)
+pub beyond-last_spec : {M : Type 1} → statement M
+beyond-last_spec = tie.close (tie.spec returns returns-2)

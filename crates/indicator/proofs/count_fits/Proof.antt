@@ -2,7 +2,7 @@
 -- those of all words end.
 use Prim.Native.Nat.{◌≤◌, ◌-◌}
 use native.Mathlib.Omega.{arith}
-use Rattle.indicator.proofs.Turns.{Counts, counts_start, counts-full, counts-on, counts_end}
+use Rattle.indicator.proofs.Turns.{Counts, counts_start, counts_full, counts_on, counts_end}
 use borrow.Author.Rules.{rules}
 use Rattle.indicator.proofs.count_fits.Statement.{statement}
 use Rattle.indicator.proofs.count_fits.Tie as tie
@@ -34,7 +34,7 @@ pass-word-requires : tie.Need-pass-word-requires invariant-loop decreases-loop
 pass-word-requires c κs = let b = c.before.before.before.before.before.before in
     let l = c.before.before.before.loop in
     rw c.before.refill.ensures
-    (counts-full b.args.words.now b.args.n b.requires.all (omega arith) l.c l.k l.invariant.1).room
+    (counts_full b.args.words.now b.args.n b.requires.all (omega arith) l.c l.k l.invariant.1).room
 
 add-k : tie.Need-overflow-add-k invariant-loop decreases-loop
 add-k c = search rules
@@ -47,7 +47,7 @@ loop-again c = let b = c.before.before.before.before.before.before.before in
     let l = c.before.before.before.before.loop in
     rw (c.pass-word.ensures, c.before.before.refill.ensures) (
       omega arith,
-      counts-on b.args.words.now b.args.n b.requires.all (omega arith) l.c l.k l.invariant.1 b.requires.program
+      counts_on b.args.words.now b.args.n b.requires.all (omega arith) l.c l.k l.invariant.1 b.requires.program
           (omega arith),
     )
 
@@ -70,8 +70,8 @@ returns c = let a = c.before.before.before.before.before.before.args in
       counts_end a.words.now a.n l.c l.k (omega arith) l.invariant.1,
     )
 
-pub count-fits-spec : {M : Type 1} → statement M
-count-fits-spec =
+pub count-fits_spec : {M : Type 1} → statement M
+count-fits_spec =
     tie.close
     (tie.spec
     invariant-loop

@@ -1,4 +1,4 @@
--- `just_enough`: the tests of the code are those of the definition.
+-- `just_enough_lem`: the tests of the code are those of the definition.
 use borrow.Author.Tests.{le-leb, lt-leb}
 use borrow.Author.Rules.{rules}
 use Rattle.indicator.proofs.just_enough.Statement.{statement}
@@ -19,5 +19,5 @@ returns c = rw (le-leb _ _ c.if1.true)
 returns-2 : tie.Need-returns-2
 returns-2 c = rw (lt-leb _ _ c.if1.false)
 
-pub just-enough-spec : {M : Type 1} → statement M
-just-enough-spec = tie.close (tie.spec mul-if1 mul-result add-result returns returns-2)
+pub just_enough_spec : {M : Type 1} → statement M
+just_enough_spec = tie.close (tie.spec mul-if1 mul-result add-result returns returns-2)

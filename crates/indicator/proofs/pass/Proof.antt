@@ -1,6 +1,6 @@
 -- `pass`: from what `width` ensures; no indicator is over 13 bits.
 use native.Mathlib.Omega.{arith}
-use Rattle.indicator.proofs.Places.{width-most}
+use Rattle.indicator.proofs.Places.{width_most}
 use Rattle.indicator.specs.HowCursor.{past_of}
 use borrow.Author.Rules.{rules}
 use Rattle.indicator.proofs.pass.Statement.{statement}
@@ -10,7 +10,7 @@ width-requires : tie.Need-width-requires
 width-requires c κs = search rules
 
 pass-bits-requires : tie.Need-pass-bits-requires
-pass-bits-requires c κs = omega (arith, c.width.ensures, width-most c.before.args.m)
+pass-bits-requires c κs = omega (arith, c.width.ensures, width_most c.before.args.m)
 
 returns : tie.Need-returns
 unfolding past_of

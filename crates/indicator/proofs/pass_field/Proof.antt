@@ -1,5 +1,5 @@
 -- `pass_field`: from what its callees ensure.
-use Rattle.indicator.specs.HowCursor.{pastField}
+use Rattle.indicator.specs.HowCursor.{past_field}
 use borrow.Author.Rules.{rules}
 use Rattle.indicator.proofs.pass_field.Statement.{statement}
 use Rattle.indicator.proofs.pass_field.Tie as tie
@@ -11,8 +11,8 @@ pass-requires : tie.Need-pass-requires
 pass-requires c κs = search rules
 
 returns : tie.Need-returns
-unfolding pastField
+unfolding past_field
 returns c = rw (c.pass.ensures, c.before.look.ensures)
 
-pub pass-field-spec : {M : Type 1} → statement M
-pass-field-spec = tie.close (tie.spec look-requires pass-requires returns)
+pub pass_field_spec : {M : Type 1} → statement M
+pass_field_spec = tie.close (tie.spec look-requires pass-requires returns)

@@ -1,6 +1,6 @@
 -- `place`: from what `beyond_last` ensures.
 use native.Mathlib.Omega.{arith}
-use Rattle.indicator.proofs.Reading.{beyond-most}
+use Rattle.indicator.proofs.Reading.{beyond_most}
 use borrow.Author.Rules.{rules}
 use Rattle.indicator.proofs.place.Statement.{statement}
 use Rattle.indicator.proofs.place.Tie as tie
@@ -16,7 +16,7 @@ beyond-last-requires c κs = search rules
 
 add-result : tie.Need-overflow-add-result
 add-result c = let a = c.before.before.args in
-    omega (arith, c.beyond-last.ensures, beyond-most a.n a.c.next)
+    omega (arith, c.beyond-last.ensures, beyond_most a.n a.c.next)
 
 sub-result-2 : tie.Need-overflow-sub-result-2
 sub-result-2 c = omega (arith, c.before.beyond-last.ensures)
@@ -24,5 +24,5 @@ sub-result-2 c = omega (arith, c.before.beyond-last.ensures)
 returns : tie.Need-returns
 returns c = rw c.before.beyond-last.ensures
 
-pub place-spec : {M : Type 1} → statement M
-place-spec = tie.close (tie.spec sub-result mul-result beyond-last-requires add-result sub-result-2 returns)
+pub place_spec : {M : Type 1} → statement M
+place_spec = tie.close (tie.spec sub-result mul-result beyond-last-requires add-result sub-result-2 returns)

@@ -9,5 +9,5 @@ further-requires c κs = omega arith
 returns : tie.Need-returns
 returns c = rw c.further.ensures
 
-pub bad-at-spec : {M : Type 1} → statement M
-bad-at-spec = tie.close (tie.spec further-requires returns)
+pub bad_at_spec : {M : Type 1} → statement M
+bad_at_spec = tie.close (tie.spec further-requires returns)

@@ -16,5 +16,5 @@ returns c = search (tests, ← c.bits2.ensures, ← c.before.before.bits.ensures
 returns-2 : tie.Need-returns-2
 returns-2 c = search (tests, ← c.before.bits.ensures)
 
-pub entries-if-spec : {M : Type 1} → statement M
-entries-if-spec = tie.close (tie.spec bits-requires bits-requires-2 returns returns-2)
+pub entries_if_spec : {M : Type 1} → statement M
+entries_if_spec = tie.close (tie.spec bits-requires bits-requires-2 returns returns-2)

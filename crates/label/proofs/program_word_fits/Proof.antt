@@ -1,6 +1,6 @@
 -- `label::program_word_fits` meets its contract: each return by the tests that led to it, of the bits read.
 use Rattle.word.proofs.Tests.{tests}
-use Rattle.label.specs.Label.{programWordFits}
+use Rattle.label.specs.Label.{program_word_fits}
 use borrow.Author.Rules.{rules}
 use Rattle.label.proofs.program_word_fits.Statement.{statement}
 use Rattle.label.proofs.program_word_fits.Tie as tie
@@ -9,21 +9,21 @@ bits-requires : tie.Need-bits-requires
 bits-requires c κs = search rules
 
 returns : tie.Need-returns
-unfolding programWordFits
+unfolding program_word_fits
 returns c = search (tests, ← c.before.bits.ensures)
 
 bits-requires-2 : tie.Need-bits-requires-2
 bits-requires-2 c κs = search rules
 
 returns-2 : tie.Need-returns-2
-unfolding programWordFits
+unfolding program_word_fits
 returns-2 c = search (tests, ← c.before.bits2.ensures, ← c.before.before.before.bits.ensures)
 
 bits-requires-3 : tie.Need-bits-requires-3
 bits-requires-3 c κs = search rules
 
 returns-3 : tie.Need-returns-3
-unfolding programWordFits
+unfolding program_word_fits
 returns-3 c =
     search (
       tests,
@@ -36,7 +36,7 @@ bits-requires-4 : tie.Need-bits-requires-4
 bits-requires-4 c κs = search rules
 
 returns-4 : tie.Need-returns-4
-unfolding programWordFits
+unfolding program_word_fits
 returns-4 c =
     search (
       tests,
@@ -46,8 +46,8 @@ returns-4 c =
       ← c.before.before.before.before.before.before.bits.ensures,
     )
 
-pub program-word-fits-spec : {M : Type 1} → statement M
-program-word-fits-spec =
+pub program_word_fits_spec : {M : Type 1} → statement M
+program_word_fits_spec =
     tie.close
     (tie.spec
     bits-requires

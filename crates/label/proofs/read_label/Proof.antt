@@ -1,12 +1,12 @@
 -- `label::read_label` meets its contract: each return by what the readers of its parts have answered.
 use mathlib.Core.Path.{sym, ◌∙◌}
 use native.Mathlib.Omega.{arith}
-use Rattle.label.specs.Tables.{tableWords}
+use Rattle.label.specs.Tables.{table_words}
 use borrow.Author.Tests.{eq-eqb, ne_eqb}
 use Rattle.label.specs.Label.{label_of}
-use Rattle.label.proofs.Spelt.{name-good, name-bad}
-use Rattle.label.proofs.Tables.{few, table-few, stand-within}
-use Rattle.label.proofs.TableTurns.{tables-good, tables-bad}
+use Rattle.label.proofs.Spelt.{name_good, name_bad}
+use Rattle.label.proofs.Tables.{few, table_few, stand_within}
+use Rattle.label.proofs.TableTurns.{tables_good, tables_bad}
 use borrow.Author.Rules.{rules}
 use Rattle.label.proofs.read_label.Statement.{statement}
 use Rattle.label.proofs.read_label.Tie as tie
@@ -38,7 +38,7 @@ returns c =
     let d = c.before.before in
     rw (
       c.further.ensures,
-      name-good _ (sym d.before.before.before.before.read_name.ensures ∙ d.before.before.enum_told.given.1),
+      name_good _ (sym d.before.before.before.before.read_name.ensures ∙ d.before.before.enum_told.given.1),
       ← d.bits.ensures,
       ne_eqb _ _ c.before.if1.true,
     )
@@ -51,8 +51,8 @@ enum-known-c c = search rules
 
 finish-requires : tie.Need-finish-requires
 finish-requires c κs =
-    let g = tables-good _ _ (sym c.before.before.before.read-tables.ensures ∙ c.before.c.given.1) in
-    (search rules, rw g.1 (few _ (stand-within _ g.0)))
+    let g = tables_good _ _ (sym c.before.before.before.read-tables.ensures ∙ c.before.c.given.1) in
+    (search rules, rw g.1 (few _ (stand_within _ g.0)))
 
 enum-known-f : tie.Need-enum-known-f
 enum-known-f c = search rules
@@ -60,9 +60,9 @@ enum-known-f c = search rules
 further-requires-2 : tie.Need-further-requires-2
 further-requires-2 c κs =
     let t = c.before.before.before in
-    let g = tables-bad _ _ (sym t.read-tables.ensures ∙ c.before.f.given.1) in
+    let g = tables_bad _ _ (sym t.read-tables.ensures ∙ c.before.f.given.1) in
     let b = t.before.before.before.before.before.before.before.before.before.before.args.block.now in
-    rw g.1 (omega (arith, table-few (tableWords b)))
+    rw g.1 (omega (arith, table_few (table_words b)))
 
 enum-known-f-2 : tie.Need-enum-known-f-2
 enum-known-f-2 c = search rules
@@ -72,9 +72,9 @@ unfolding label_of
 returns-2 c =
     let t = c.before.before.before.before in
     let d = t.before.before in
-    let g = tables-good _ _ (sym t.read-tables.ensures ∙ c.before.before.c.given.1) in
+    let g = tables_good _ _ (sym t.read-tables.ensures ∙ c.before.before.c.given.1) in
     rw (
-      name-good _ (sym d.before.before.before.before.read_name.ensures ∙ d.before.before.enum_told.given.1),
+      name_good _ (sym d.before.before.before.before.read_name.ensures ∙ d.before.before.enum_told.given.1),
       ← d.bits.ensures,
       eq-eqb _ _ t.before.if1.false,
       g.0,
@@ -87,10 +87,10 @@ unfolding label_of
 returns-3 c =
     let t = c.before.before.before.before in
     let d = t.before.before in
-    let g = tables-bad _ _ (sym t.read-tables.ensures ∙ c.before.before.f.given.1) in
+    let g = tables_bad _ _ (sym t.read-tables.ensures ∙ c.before.before.f.given.1) in
     rw (
       c.further2.ensures,
-      name-good _ (sym d.before.before.before.before.read_name.ensures ∙ d.before.before.enum_told.given.1),
+      name_good _ (sym d.before.before.before.before.read_name.ensures ∙ d.before.before.enum_told.given.1),
       ← d.bits.ensures,
       eq-eqb _ _ t.before.if1.false,
       g.0,
@@ -100,11 +100,11 @@ returns-3 c =
 returns-4 : tie.Need-returns-4
 unfolding label_of
 returns-4 c =
-    let g = name-bad _ _ (sym c.before.before.before.read_name.ensures ∙ c.before.f2.given.1) in
+    let g = name_bad _ _ (sym c.before.before.before.read_name.ensures ∙ c.before.f2.given.1) in
     rw (g.0, g.1)
 
-pub read-label-spec : {M : Type 1} → statement M
-read-label-spec =
+pub read-label_spec : {M : Type 1} → statement M
+read-label_spec =
     tie.close
     (tie.spec
     shared-slice-read-read-name

@@ -6,13 +6,13 @@ use native.Mathlib.Omega.{arith}
 use borrow.Author.Rules.{rules}
 use lib.ListN.{get_or}
 use Rattle.word.specs.Word.{bits}
-use Rattle.label.specs.Tables.{tableWords}
-use Rattle.label.proofs.TableTurns.{ReadTo, of-bad, read_none, word-short, word_more, word-bad, word-all}
+use Rattle.label.specs.Tables.{table_words}
+use Rattle.label.proofs.TableTurns.{ReadTo, of_bad, read_none, word_short, word_more, word_bad, word_all}
 use Rattle.label.proofs.read_tables.Statement.{statement}
 use Rattle.label.proofs.read_tables.Tie as tie
 
 abbrev invariant-loop : tie.invariant-loop
-invariant-loop block n c₀ least₀ i₀ c least i = (i ≤ bits 28 18 (get_or block 3 0)) × ReadTo (tableWords block) i least c
+invariant-loop block n c₀ least₀ i₀ c least i = (i ≤ bits 28 18 (get_or block 3 0)) × ReadTo (table_words block) i least c
 
 abbrev decreases-loop : tie.decreases-loop
 decreases-loop block n c₀ least₀ i₀ c least i = n - i
@@ -30,7 +30,7 @@ add-w : tie.Need-overflow-add-w invariant-loop decreases-loop
 add-w c =
     let l = c.before.loop in
     let b = c.before.before.before.before.before.args.block.now in
-    omega (arith, word-short b l.i l.least l.c l.invariant.1 l.invariant.0)
+    omega (arith, word_short b l.i l.least l.c l.invariant.1 l.invariant.0)
 
 mul-w : tie.Need-overflow-mul-w invariant-loop decreases-loop
 mul-w c = omega arith
@@ -39,7 +39,7 @@ shared-slice-read-w : tie.Need-shared-slice-read-w invariant-loop decreases-loop
 shared-slice-read-w c =
     let l = c.before.before.loop in
     let b = c.before.before.before.before.before.before.args.block.now in
-    omega (arith, word-short b l.i l.least l.c l.invariant.1 l.invariant.0)
+    omega (arith, word_short b l.i l.least l.c l.invariant.1 l.invariant.0)
 
 read-table-requires : tie.Need-read-table-requires invariant-loop decreases-loop
 read-table-requires c κs = c.before.before.loop.invariant.1.within
@@ -72,7 +72,7 @@ enum-known-f c = search rules
 
 further-requires : tie.Need-further-requires invariant-loop decreases-loop
 further-requires c κs =
-    let e = of-bad _ _ _ _ (sym c.before.before.before.read_table.ensures ∙ c.before.f.given.1) in
+    let e = of_bad _ _ _ _ (sym c.before.before.before.read_table.ensures ∙ c.before.f.given.1) in
     rw e.1 (omega arith)
 
 returns : tie.Need-returns invariant-loop decreases-loop
@@ -80,16 +80,16 @@ returns c =
     let d = c.before.before.before.before in
     let l = d.before.before.before.loop in
     rw c.further.ensures
-    (word-bad _ l.i l.least l.c l.invariant.1 _ (omega arith)
+    (word_bad _ l.i l.least l.c l.invariant.1 _ (omega arith)
     (sym d.read_table.ensures ∙ c.before.before.f.given.1))
 
 returns-2 : tie.Need-returns-2 invariant-loop decreases-loop
 returns-2 c =
     let l = c.before.loop in
-    word-all _ l.i l.least l.c l.invariant.1 (omega arith)
+    word_all _ l.i l.least l.c l.invariant.1 (omega arith)
 
-pub read-tables-spec : {M : Type 1} → statement M
-read-tables-spec =
+pub read-tables_spec : {M : Type 1} → statement M
+read-tables_spec =
     tie.close
     (tie.spec
     invariant-loop

@@ -28,8 +28,8 @@ returns-2 : tie.Need-returns-2
 unfolding holds
 returns-2 c = search tests
 
-pub holds-place-spec : {M : Type 1} → statement M
-holds-place-spec =
+pub holds-place_spec : {M : Type 1} → statement M
+holds-place_spec =
     tie.close
     (tie.spec
     returns

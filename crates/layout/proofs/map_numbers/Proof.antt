@@ -1,6 +1,6 @@
 -- `layout::map_numbers` meets its contract: each return by the tests that led to it.
 use Rattle.word.proofs.Lists.{range-lent}
-use Rattle.layout.specs.Layout.{mapNumbers}
+use Rattle.layout.specs.Layout.{map_numbers}
 use borrow.Author.Rules.{rules}
 use Rattle.layout.proofs.map_numbers.Statement.{statement}
 use Rattle.layout.proofs.map_numbers.Tie as tie
@@ -15,8 +15,8 @@ part-result-end : tie.Need-slice-bounds-result-end
 part-result-end c = search rules
 
 returns : tie.Need-returns
-unfolding mapNumbers
+unfolding map_numbers
 returns c = range-lent c.before.args.desk.now 1 16
 
-pub map-numbers-spec : {M : Type 1} → statement M
-map-numbers-spec = tie.close (tie.spec sub-result part-result-start part-result-end returns)
+pub map-numbers_spec : {M : Type 1} → statement M
+map-numbers_spec = tie.close (tie.spec sub-result part-result-start part-result-end returns)

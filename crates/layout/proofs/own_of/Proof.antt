@@ -27,8 +27,8 @@ returns : tie.Need-returns
 unfolding own_of
 returns c = refl
 
-pub own-of-spec : {M : Type 1} → statement M
-own-of-spec =
+pub own_of_spec : {M : Type 1} → statement M
+own_of_spec =
     tie.close
     (tie.spec
     shared-slice-read-t3

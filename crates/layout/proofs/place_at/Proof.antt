@@ -1,7 +1,7 @@
 -- `layout::place_at` meets its contract: each return by the tests that led to it.
 use Rattle.word.proofs.Lists.{range-lent}
 use Prim.Native.Nat.{◌+◌, ◌*◌}
-use Rattle.layout.specs.Layout.{placeWords, place_in}
+use Rattle.layout.specs.Layout.{place_words, place_in}
 use borrow.Author.Rules.{rules}
 use Rattle.layout.proofs.place_at.Statement.{statement}
 use Rattle.layout.proofs.place_at.Tie as tie
@@ -29,10 +29,10 @@ part-result-end c = search rules
 
 returns : tie.Need-returns
 unfolding place_in
-returns c = let a = c.before.args in range-lent a.desk.now (17 + a.p * placeWords) placeWords
+returns c = let a = c.before.args in range-lent a.desk.now (17 + a.p * place_words) place_words
 
-pub place-at-spec : {M : Type 1} → statement M
-place-at-spec =
+pub place-at_spec : {M : Type 1} → statement M
+place-at_spec =
     tie.close
     (tie.spec
     mul-b

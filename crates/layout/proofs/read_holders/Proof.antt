@@ -3,17 +3,17 @@ use Prim.Native.Nat.{◌≤◌, ◌-◌}
 use mathlib.Core.Path.{◌≡◌, refl}
 use native.Mathlib.Omega.{arith}
 use lib.ListN.{length, length-set}
-use Rattle.word.specs.Limits.{placeCount}
+use Rattle.word.specs.Limits.{place_count}
 use Rattle.word.proofs.Fill.{filled, filled_none, filled_more, filled-all}
-use Rattle.layout.specs.Layout.{holderIn, holders}
+use Rattle.layout.specs.Layout.{holder_in, holders}
 use Rattle.layout.proofs.read_holders.Statement.{statement}
 use Rattle.layout.proofs.read_holders.Tie as tie
 
 abbrev invariant-loop : tie.invariant-loop
-invariant-loop desk h₀ p₀ h p = (p ≤ placeCount) × (length h ≡ placeCount) × (h ≡ filled (holderIn desk) h₀ p)
+invariant-loop desk h₀ p₀ h p = (p ≤ place_count) × (length h ≡ place_count) × (h ≡ filled (holder_in desk) h₀ p)
 
 abbrev decreases-loop : tie.decreases-loop
-decreases-loop desk h₀ p₀ h p = placeCount - p
+decreases-loop desk h₀ p₀ h p = place_count - p
 
 loop-holds : tie.Need-loop-init invariant-loop decreases-loop
 loop-holds c = (omega arith, refl, filled_none _ _)
@@ -48,10 +48,10 @@ loop-again c =
 
 returns : tie.Need-returns invariant-loop decreases-loop
 unfolding holders
-returns c = filled-all _ _ placeCount _ _ (omega arith) refl c.before.loop.invariant.2
+returns c = filled-all _ _ place_count _ _ (omega arith) refl c.before.loop.invariant.2
 
-pub read-holders-spec : {M : Type 1} → statement M
-read-holders-spec =
+pub read-holders_spec : {M : Type 1} → statement M
+read-holders_spec =
     tie.close
     (tie.spec
     invariant-loop

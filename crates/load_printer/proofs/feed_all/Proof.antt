@@ -46,8 +46,8 @@ same-length-4 c = omega arith
 returns-2 : tie.Need-returns-2 invariant-loop decreases-loop
 returns-2 c = search rules
 
-pub feed-all-spec : {M : Type 1} → statement M
-feed-all-spec =
+pub feed-all_spec : {M : Type 1} → statement M
+feed-all_spec =
     tie.close
     (tie.spec
     invariant-loop

@@ -1,14 +1,14 @@
 -- `map::all_in_core` meets its contract: the stretches not yet looked at decide.
 use Rattle.std.proofs.Common.{◌≡◌, ◌-◌, ◌≤◌, drop, refl, arith}
-use borrow.Author.Tests.{not-true, not-false}
+use borrow.Author.Tests.{not_true, not-false}
 use Rattle.word.specs.Lists.{every}
-use Rattle.word.proofs.Lists.{every_more, every-fails, every-ends}
-use Rattle.map.specs.Map.{inCore, none}
+use Rattle.word.proofs.Lists.{every_more, every_fails, every-ends}
+use Rattle.map.specs.Map.{in_core, none}
 use Rattle.map.proofs.all_in_core.Statement.{statement}
 use Rattle.map.proofs.all_in_core.Tie as tie
 
 abbrev invariant-loop : tie.invariant-loop
-invariant-loop core m r₀ r = (r ≤ 8) × (every (inCore core) m ≡ every (inCore core) (drop r m))
+invariant-loop core m r₀ r = (r ≤ 8) × (every (in_core core) m ≡ every (in_core core) (drop r m))
 
 abbrev decreases-loop : tie.decreases-loop
 decreases-loop core m r₀ r = 8 - r
@@ -26,10 +26,10 @@ run-within-requires : tie.Need-run-within-requires invariant-loop decreases-loop
 run-within-requires c κs = omega arith
 
 returns : tie.Need-returns invariant-loop decreases-loop
-unfolding inCore
+unfolding in_core
 returns c =
     let l = c.before.before.before.before.loop in
-    every-fails _ none _ l.r _ (omega arith) (rw (← c.before.run-within.ensures) (not-true _ c.if1.true)) l.invariant.1
+    every_fails _ none _ l.r _ (omega arith) (rw (← c.before.run_within.ensures) (not_true _ c.if1.true)) l.invariant.1
 
 add_r : tie.Need-overflow-add-r invariant-loop decreases-loop
 add_r c = omega arith
@@ -38,20 +38,20 @@ loop-less : tie.Need-loop-smaller invariant-loop decreases-loop
 loop-less c = omega arith
 
 loop-again : tie.Need-loop-preserved invariant-loop decreases-loop
-unfolding inCore
+unfolding in_core
 loop-again c =
     let l = c.before.before.before.before.loop in
     let m = c.before.before.before.before.before.args.t2 in (
       omega arith,
-      every_more _ none m l.r _ (omega arith) (rw (← c.before.run-within.ensures) (not-false _ c.if1.false))
+      every_more _ none m l.r _ (omega arith) (rw (← c.before.run_within.ensures) (not-false _ c.if1.false))
           l.invariant.1,
     )
 
 returns-2 : tie.Need-returns-2 invariant-loop decreases-loop
 returns-2 c = every-ends _ none _ c.before.loop.r _ (omega arith) c.before.loop.invariant.1
 
-pub all-in-core-spec : {M : Type 1} → statement M
-all-in-core-spec =
+pub all_in_core_spec : {M : Type 1} → statement M
+all_in_core_spec =
     tie.close
     (tie.spec
     invariant-loop

@@ -1,15 +1,15 @@
 -- `map::apart_from_later` meets its contract: the later stretches not yet looked at decide.
 use Rattle.std.proofs.Common.{◌≡◌, ◌+◌, ◌-◌, ◌<◌, ◌≤◌, get_or, drop, refl, arith}
-use borrow.Author.Tests.{not-true, not-false}
+use borrow.Author.Tests.{not_true, not-false}
 use Rattle.word.specs.Lists.{every}
-use Rattle.word.proofs.Lists.{every_more, every-fails, every-ends}
-use Rattle.map.specs.Map.{stretchesApart, none}
+use Rattle.word.proofs.Lists.{every_more, every_fails, every-ends}
+use Rattle.map.specs.Map.{stretches_apart, none}
 use Rattle.map.proofs.apart_from_later.Statement.{statement}
 use Rattle.map.proofs.apart_from_later.Tie as tie
 
 abbrev invariant-loop : tie.invariant-loop
 invariant-loop r m s q₀ q = (r < q) × (q ≤ 8) × (s ≡ get_or m r none)
-    × (every (stretchesApart (get_or m r none)) (drop (r + 1) m) ≡ every (stretchesApart (get_or m r none)) (drop q m))
+    × (every (stretches_apart (get_or m r none)) (drop (r + 1) m) ≡ every (stretches_apart (get_or m r none)) (drop q m))
 
 abbrev decreases-loop : tie.decreases-loop
 decreases-loop r m s q₀ q = 8 - q
@@ -36,10 +36,10 @@ runs-apart-requires : tie.Need-runs-apart-requires invariant-loop decreases-loop
 runs-apart-requires c κs = omega arith
 
 returns : tie.Need-returns invariant-loop decreases-loop
-unfolding stretchesApart
+unfolding stretches_apart
 returns c =
     let l = c.before.before.before.before.loop in
-    every-fails _ none _ l.q _ (omega arith) (rw (← c.before.runs-apart.ensures) (not-true _ c.if1.true)) l.invariant.3
+    every_fails _ none _ l.q _ (omega arith) (rw (← c.before.runs-apart.ensures) (not_true _ c.if1.true)) l.invariant.3
 
 add-q-2 : tie.Need-overflow-add-q-2 invariant-loop decreases-loop
 add-q-2 c = omega arith
@@ -48,7 +48,7 @@ loop-less : tie.Need-loop-smaller invariant-loop decreases-loop
 loop-less c = omega arith
 
 loop-again : tie.Need-loop-preserved invariant-loop decreases-loop
-unfolding stretchesApart
+unfolding stretches_apart
 loop-again c =
     let l = c.before.before.before.before.loop in
     let m = c.before.before.before.before.before.before.args.t1 in (
@@ -62,8 +62,8 @@ loop-again c =
 returns-2 : tie.Need-returns-2 invariant-loop decreases-loop
 returns-2 c = every-ends _ none _ c.before.loop.q _ (omega arith) c.before.loop.invariant.3
 
-pub apart-from-later-spec : {M : Type 1} → statement M
-apart-from-later-spec =
+pub apart-from_later_spec : {M : Type 1} → statement M
+apart-from_later_spec =
     tie.close
     (tie.spec
     invariant-loop

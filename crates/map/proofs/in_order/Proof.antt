@@ -1,21 +1,21 @@
--- `map::in_order` meets its contract: what is left of the core and the stretches not yet looked at decide.
+-- `map::in_order_lem` meets its contract: what is left of the core and the stretches not yet looked at decide.
 use Rattle.std.proofs.Common.{◌≡◌, ◌-◌, ◌≤◌, drop, arith, rules}
-use Rattle.map.specs.Map.{mapOf}
-use Rattle.map.specs.HowOrder.{inOrder}
-use Rattle.map.proofs.Order.{order-past, order-away, order-skip, order-long, order-next, order-starts, order-fails}
-use Rattle.map.proofs.Order.{order-more, order-ends}
+use Rattle.map.specs.Map.{map_of}
+use Rattle.map.specs.HowOrder.{in_order}
+use Rattle.map.proofs.Order.{order_past, order_away, order_skip, order_long, order_next, order_starts, order_fails}
+use Rattle.map.proofs.Order.{order_more, order_ends}
 use Rattle.map.proofs.in_order.Statement.{statement}
 use Rattle.map.proofs.in_order.Tie as tie
 
 abbrev invariant-loop : tie.invariant-loop
 invariant-loop core numbers left₀ r₀ left r =
-    (r ≤ 8) × (left ≤ core) × (inOrder core 0 (mapOf numbers) ≡ inOrder core (core - left) (drop r (mapOf numbers)))
+    (r ≤ 8) × (left ≤ core) × (in_order core 0 (map_of numbers) ≡ in_order core (core - left) (drop r (map_of numbers)))
 
 abbrev decreases-loop : tie.decreases-loop
 decreases-loop core numbers left₀ r₀ left r = 8 - r
 
 loop-holds : tie.Need-loop-init invariant-loop decreases-loop
-loop-holds c = (omega arith, omega arith, order-starts _ _)
+loop-holds c = (omega arith, omega arith, order_starts _ _)
 
 mul-loop : tie.Need-overflow-mul-loop invariant-loop decreases-loop
 mul-loop c = omega arith
@@ -35,8 +35,8 @@ returns c =
     let a = c.before.before.before.before.stretch-at in
     let l = c.before.before.before.before.before.before.loop in
     let f = c.before.struct_known.given in
-    order-fails _ l.left _ l.r _ l.invariant.2 a.result (omega arith) a.ensures
-    (order-away _ l.left w.result _ _ l.invariant.1 w.ensures f.0.0.fits (omega arith) c.before.before.if1.true
+    order_fails _ l.left _ l.r _ l.invariant.2 a.result (omega arith) a.ensures
+    (order_away _ l.left w.result _ _ l.invariant.1 w.ensures f.0.0.fits (omega arith) c.before.before.if1.true
     c.if2.true)
 
 returns-2 : tie.Need-returns-2 invariant-loop decreases-loop
@@ -45,8 +45,8 @@ returns-2 c =
     let a = c.before.before.before.before.before.stretch-at in
     let l = c.before.before.before.before.before.before.before.loop in
     let f = c.before.before.struct_known.given in
-    order-fails _ l.left _ l.r _ l.invariant.2 a.result (omega arith) a.ensures
-    (order-past _ l.left w.result _ _ l.invariant.1 w.ensures f.0.0.fits (omega arith) c.if3.true)
+    order_fails _ l.left _ l.r _ l.invariant.2 a.result (omega arith) a.ensures
+    (order_past _ l.left w.result _ _ l.invariant.1 w.ensures f.0.0.fits (omega arith) c.if3.true)
 
 loop-less : tie.Need-loop-smaller invariant-loop decreases-loop
 loop-less c = omega arith
@@ -59,8 +59,8 @@ loop-again c =
     let f = c.before.before.struct_known.given in (
       omega arith,
       l.invariant.1,
-      order-more _ l.left _ l.r _ l.invariant.2 l.left a.result (omega arith) a.ensures
-          (order-skip _ l.left w.result _ _ l.invariant.1 w.ensures f.0.0.fits (omega arith)
+      order_more _ l.left _ l.r _ l.invariant.2 l.left a.result (omega arith) a.ensures
+          (order_skip _ l.left w.result _ _ l.invariant.1 w.ensures f.0.0.fits (omega arith)
           c.before.before.before.if1.true c.before.if2.false c.if3.false),
     )
 
@@ -70,8 +70,8 @@ returns-3 c =
     let a = c.before.before.before.before.stretch-at in
     let l = c.before.before.before.before.before.before.loop in
     let f = c.before.struct-known2.given in
-    order-fails _ l.left _ l.r _ l.invariant.2 a.result (omega arith) a.ensures
-    (order-long _ l.left w.result _ _ l.invariant.1 w.ensures f.0.0.fits (omega arith) c.before.before.if1.false
+    order_fails _ l.left _ l.r _ l.invariant.2 a.result (omega arith) a.ensures
+    (order_long _ l.left w.result _ _ l.invariant.1 w.ensures f.0.0.fits (omega arith) c.before.before.if1.false
     c.if4.true)
 
 loop-less-2 : tie.Need-loop-smaller-2 invariant-loop decreases-loop
@@ -86,15 +86,15 @@ loop-again-2 c =
     let e = c.before.before.before.if1.false in (
       omega arith,
       omega arith,
-      order-more _ l.left _ l.r _ l.invariant.2 _ a.result (omega arith) a.ensures
-          (order-next _ l.left w.result _ _ l.invariant.1 w.ensures f.0.0.fits (omega arith) e c.before.if4.false),
+      order_more _ l.left _ l.r _ l.invariant.2 _ a.result (omega arith) a.ensures
+          (order_next _ l.left w.result _ _ l.invariant.1 w.ensures f.0.0.fits (omega arith) e c.before.if4.false),
     )
 
 returns-4 : tie.Need-returns-4 invariant-loop decreases-loop
-returns-4 c = order-ends _ c.before.loop.left _ c.before.loop.r _ c.before.loop.invariant.2 (omega arith)
+returns-4 c = order_ends _ c.before.loop.left _ c.before.loop.r _ c.before.loop.invariant.2 (omega arith)
 
-pub in-order-spec : {M : Type 1} → statement M
-in-order-spec =
+pub in_order_spec : {M : Type 1} → statement M
+in_order_spec =
     tie.close
     (tie.spec
     invariant-loop

@@ -12,5 +12,5 @@ map-obeys-requires c κs = search rules
 returns : tie.Need-returns
 returns c = rw (← c.before.read-map.ensures) c.map-obeys.ensures
 
-pub pairs-fit-spec : {M : Type 1} → statement M
-pairs-fit-spec = tie.close (tie.spec read-map-requires map-obeys-requires returns)
+pub pairs_fit_spec : {M : Type 1} → statement M
+pairs_fit_spec = tie.close (tie.spec read-map-requires map-obeys-requires returns)

@@ -1,12 +1,12 @@
 -- `map::read_map` meets its contract: after r turns the first r stretches are those that the list tells.
 use Rattle.std.proofs.Common.{◌≡◌, ◌-◌, ◌≤◌, length, refl, arith, length-set}
-use Rattle.map.specs.Map.{stretchOf, mapOf}
+use Rattle.map.specs.Map.{stretch_of, map_of}
 use Rattle.word.proofs.Fill.{filled, filled_none, filled_more, filled-all}
 use Rattle.map.proofs.read_map.Statement.{statement}
 use Rattle.map.proofs.read_map.Tie as tie
 
 abbrev invariant-loop : tie.invariant-loop
-invariant-loop numbers m₀ r₀ m r = (r ≤ 8) × (length m ≡ 8) × (m ≡ filled (stretchOf numbers) m₀ r)
+invariant-loop numbers m₀ r₀ m r = (r ≤ 8) × (length m ≡ 8) × (m ≡ filled (stretch_of numbers) m₀ r)
 
 abbrev decreases-loop : tie.decreases-loop
 decreases-loop numbers m₀ r₀ m r = 8 - r
@@ -38,11 +38,11 @@ loop-again c = (
 )
 
 returns : tie.Need-returns invariant-loop decreases-loop
-unfolding mapOf
+unfolding map_of
 returns c = filled-all _ _ 8 _ _ (omega arith) refl c.before.loop.invariant.2
 
-pub read-map-spec : {M : Type 1} → statement M
-read-map-spec =
+pub read-map_spec : {M : Type 1} → statement M
+read-map_spec =
     tie.close
     (tie.spec
     invariant-loop

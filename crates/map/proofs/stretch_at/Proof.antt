@@ -1,6 +1,6 @@
 -- `map::stretch_at` meets its contract: the two numbers are read where they stand.
 use Rattle.std.proofs.Common.{refl, rules}
-use Rattle.map.specs.Map.{stretchOf}
+use Rattle.map.specs.Map.{stretch_of}
 use Rattle.map.proofs.stretch_at.Statement.{statement}
 use Rattle.map.proofs.stretch_at.Tie as tie
 
@@ -26,11 +26,11 @@ shared-slice-read-t12 : tie.Need-shared-slice-read-t12
 shared-slice-read-t12 c = search rules
 
 returns : tie.Need-returns
-unfolding stretchOf
+unfolding stretch_of
 returns c = refl
 
-pub stretch-at-spec : {M : Type 1} → statement M
-stretch-at-spec =
+pub stretch-at_spec : {M : Type 1} → statement M
+stretch-at_spec =
     tie.close
     (tie.spec
     mul-t3

@@ -4,10 +4,10 @@ use lib.ListN.{take, length-take}
 use borrow.Author.Tests.{eq-eqb}
 use Rattle.word.specs.Lists.{range}
 use Rattle.word.proofs.Tests.{tests}
-use Rattle.lists.specs.Load.{ioWords, iosIn, ioNumbers}
+use Rattle.lists.specs.Load.{io_words, ios_in, io_numbers}
 use Rattle.lists.proofs.Kept.{numbers-length}
 use Rattle.lists.proofs.Reading.{io-length}
-use Rattle.modification.specs.Assignments.{assignmentsFit}
+use Rattle.modification.specs.Assignments.{assignments_fit}
 use Rattle.modification.proofs.Channels.{take-numbers}
 use Prim.Native.Nat.{◌+◌}
 use borrow.Author.Rules.{rules}
@@ -21,11 +21,11 @@ add-if1-2 : tie.Need-overflow-add-if1-2
 add-if1-2 c = search rules
 
 returns : tie.Need-returns
-unfolding assignmentsFit
+unfolding assignments_fit
 returns c = search (tests, io-length)
 
 returns-2 : tie.Need-returns-2
-unfolding assignmentsFit
+unfolding assignments_fit
 returns-2 c = search (tests, io-length)
 
 slice-aggregate-channels-fit : tie.Need-slice-aggregate-channels-fit
@@ -38,10 +38,10 @@ channels-fit-requires : tie.Need-channels-fit-requires
 channels-fit-requires c κs = simp length-take (omega arith)
 
 returns-3 : tie.Need-returns-3
-unfolding assignmentsFit ioNumbers iosIn range
+unfolding assignments_fit io_numbers ios_in range
 returns-3 c =
     let a = c.before.before.before.before.before.before.before.before.before.before.before.args in
-    let ios = take ioWords a.lists.now in
+    let ios = take io_words a.lists.now in
     rw (
       numbers-length ios a.g.io,
       eq-eqb _ _ c.before.before.before.before.before.before.if1.false,
@@ -50,8 +50,8 @@ returns-3 c =
     )
     c.channels-fit.ensures
 
-pub assignments-fit-spec : {M : Type 1} → statement M
-assignments-fit-spec =
+pub assignments_fit_spec : {M : Type 1} → statement M
+assignments_fit_spec =
     tie.close
     (tie.spec
     add-if1

@@ -8,5 +8,5 @@ returns c = rw c.if1.true
 returns-2 : tie.Need-returns-2
 returns-2 c = rw c.if1.false
 
-pub length-fits-spec : {M : Type 1} → statement M
-length-fits-spec = tie.close (tie.spec returns returns-2)
+pub length-fits_spec : {M : Type 1} → statement M
+length-fits_spec = tie.close (tie.spec returns returns-2)

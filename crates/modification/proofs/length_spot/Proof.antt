@@ -18,5 +18,5 @@ spot-of-requires c κs = search rules
 returns : tie.Need-returns
 returns c = c.spot_of_lem.ensures ∙ ap (λ (k : ℕ). spot_of (k + 2)) c.before.core-entry.ensures
 
-pub length-spot-spec : {M : Type 1} → statement M
-length-spot-spec = tie.close (tie.spec core-entry-requires add-spot-of spot-of-requires returns)
+pub length_spot_spec : {M : Type 1} → statement M
+length_spot_spec = tie.close (tie.spec core-entry-requires add-spot-of spot-of-requires returns)

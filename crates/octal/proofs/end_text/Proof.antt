@@ -24,5 +24,5 @@ returns-3 : tie.Need-returns-3
 unfolding is_whole ended
 returns-3 c = search tests
 
-pub end-text-spec : {M : Type 1} → statement M
-end-text-spec = tie.close (tie.spec returns slice-write-text same_length returns-2 returns-3)
+pub end_text_spec : {M : Type 1} → statement M
+end_text_spec = tie.close (tie.spec returns slice-write-text same_length returns-2 returns-3)

@@ -4,7 +4,7 @@ use mathlib.Core.Path.{◌≡◌, sym, ◌∙◌}
 use native.Mathlib.Omega.{arith}
 use borrow.Author.Tests.{eq-eqb, ne_eqb}
 use Rattle.octal.specs.Lines.{line_at}
-use Rattle.octal.proofs.Digits.{rest, rest_all, rest_more, rest-low, rest-high, rest_end, below_more, below-most}
+use Rattle.octal.proofs.Digits.{rest, rest_all, rest_more, rest_low, rest_high, rest_end, below_more, below_most}
 use Rattle.octal.proofs.read_line.Statement.{statement}
 use Rattle.octal.proofs.read_line.Tie as tie
 
@@ -29,17 +29,17 @@ shared-slice-read-d c = omega arith
 returns : tie.Need-returns invariant-loop decreases-loop
 returns c =
     let l = c.before.before.before.loop in
-    rest-low _ _ l.i l.w _ l.invariant.3 (omega arith) (omega arith) (omega arith)
+    rest_low _ _ l.i l.w _ l.invariant.3 (omega arith) (omega arith) (omega arith)
 
 returns-2 : tie.Need-returns-2 invariant-loop decreases-loop
 returns-2 c =
     let l = c.before.before.before.before.loop in
-    rest-high _ _ l.i l.w _ l.invariant.3 (omega arith) (omega arith) (omega arith) (omega arith)
+    rest_high _ _ l.i l.w _ l.invariant.3 (omega arith) (omega arith) (omega arith) (omega arith)
 
 mul-w : tie.Need-overflow-mul-w invariant-loop decreases-loop
 mul-w c =
     let l = c.before.before.before.before.loop in
-    omega (arith, below-most 11 _ l.w (omega arith) l.invariant.2)
+    omega (arith, below_most 11 _ l.w (omega arith) l.invariant.2)
 
 cast-w : tie.Need-overflow-cast-w invariant-loop decreases-loop
 cast-w c = omega arith
@@ -47,7 +47,7 @@ cast-w c = omega arith
 add-w : tie.Need-overflow-add-w invariant-loop decreases-loop
 add-w c =
     let l = c.before.before.before.before.loop in
-    omega (arith, below-most 11 _ l.w (omega arith) l.invariant.2)
+    omega (arith, below_most 11 _ l.w (omega arith) l.invariant.2)
 
 add-i : tie.Need-overflow-add-i invariant-loop decreases-loop
 add-i c = omega arith
@@ -79,8 +79,8 @@ returns-4 c =
     let l = c.before.before.before.loop in
     sym (rest_end _ _ l.i l.w _ l.invariant.3 (omega arith) ∙ rw (eq-eqb _ _ c.if3.false))
 
-pub read-line-spec : {M : Type 1} → statement M
-read-line-spec =
+pub read-line_spec : {M : Type 1} → statement M
+read-line_spec =
     tie.close
     (tie.spec
     invariant-loop

@@ -4,22 +4,22 @@ use mathlib.Core.Path.{◌≡◌, ap, ◌∙◌}
 use native.Mathlib.Omega.{arith}
 use lib.ListN.{length, length-set}
 use borrow.Author.Rules.{rules}
-use Rattle.word.specs.Limits.{wordsInBlock}
+use Rattle.word.specs.Limits.{words_in_block}
 use Rattle.word.proofs.Fill.{filled, filled_none, filled_more, filled-all}
-use Rattle.octal.specs.Lines.{isGood, word_of, lineWord, isBlock, block_of}
-use Rattle.octal.proofs.Text.{goodFrom, good-all, good_more, good-end}
+use Rattle.octal.specs.Lines.{is_good, word_of, line_word, is_block, block_of}
+use Rattle.octal.proofs.Text.{good_from, good_all, good_more, good_end}
 use Rattle.octal.proofs.read_lines.Statement.{statement}
 use Rattle.octal.proofs.read_lines.Tie as tie
 
 abbrev invariant-loop : tie.invariant-loop
 invariant-loop text block₀ good₀ i₀ block good i =
-    (i ≤ 256) × (length block ≡ wordsInBlock) × (isBlock text ≡ goodFrom text good i) × (block ≡ filled (lineWord text) block₀ i)
+    (i ≤ 256) × (length block ≡ words_in_block) × (is_block text ≡ good_from text good i) × (block ≡ filled (line_word text) block₀ i)
 
 abbrev decreases-loop : tie.decreases-loop
 decreases-loop text block₀ good₀ i₀ block good i = 256 - i
 
 loop-holds : tie.Need-loop-init invariant-loop decreases-loop
-loop-holds c = (omega arith, omega arith, good-all _, filled_none _ _)
+loop-holds c = (omega arith, omega arith, good_all _, filled_none _ _)
 
 mul-read-line : tie.Need-overflow-mul-read-line invariant-loop decreases-loop
 mul-read-line c = omega arith
@@ -51,8 +51,8 @@ loop-again c =
     let e = c.before.before.read-line.ensures in (
       omega arith,
       simp length-set (omega arith),
-      good_more _ l.good l.i _ l.invariant.2 _ (omega arith) (c.is-good.ensures ∙ ap isGood e),
-      filled_more _ _ _ _ _ (omega arith) (c.before.word-of.ensures ∙ ap word_of e) l.invariant.3,
+      good_more _ l.good l.i _ l.invariant.2 _ (omega arith) (c.is-good.ensures ∙ ap is_good e),
+      filled_more _ _ _ _ _ (omega arith) (c.before.word_of_lem.ensures ∙ ap word_of e) l.invariant.3,
     )
 
 same_length : tie.Need-same-length invariant-loop decreases-loop
@@ -62,12 +62,12 @@ returns : tie.Need-returns invariant-loop decreases-loop
 unfolding block_of
 returns c =
     let l = c.before.loop in (
-      good-end _ l.good l.i _ l.invariant.2 (omega arith),
+      good_end _ l.good l.i _ l.invariant.2 (omega arith),
       filled-all _ _ 256 l.i _ (omega arith) (omega arith) l.invariant.3,
     )
 
-pub read-lines-spec : {M : Type 1} → statement M
-read-lines-spec =
+pub read_lines_spec : {M : Type 1} → statement M
+read_lines_spec =
     tie.close
     (tie.spec
     invariant-loop

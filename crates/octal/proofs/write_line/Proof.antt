@@ -5,7 +5,7 @@ use native.Mathlib.Omega.{arith}
 use lib.ListN.{length, length-set}
 use Rattle.word.proofs.Lists.{copied, copied_none}
 use Rattle.octal.specs.Text.{line_of}
-use Rattle.octal.proofs.Written.{line-more, line-end}
+use Rattle.octal.proofs.Written.{line_more, line_end}
 use Rattle.octal.proofs.write_line.Statement.{statement}
 use Rattle.octal.proofs.write_line.Tie as tie
 
@@ -38,7 +38,7 @@ loop-again c =
     let l = c.before.before.loop in (
       omega arith,
       simp length-set (omega arith),
-      line-more _ _ _ l.i _ (omega arith) l.invariant.2 _ (omega arith) c.digit_at.ensures,
+      line_more _ _ _ l.i _ (omega arith) l.invariant.2 _ (omega arith) c.digit_at.ensures,
     )
 
 add-text-2 : tie.Need-overflow-add-text-2 invariant-loop decreases-loop
@@ -53,10 +53,10 @@ same_length c = simp length-set (omega arith)
 returns : tie.Need-returns invariant-loop decreases-loop
 returns c =
     let l = c.before.loop in
-    line-end _ _ _ l.i _ (omega arith) l.invariant.2 (omega arith)
+    line_end _ _ _ l.i _ (omega arith) l.invariant.2 (omega arith)
 
-pub write-line-spec : {M : Type 1} → statement M
-write-line-spec =
+pub write_line_spec : {M : Type 1} → statement M
+write_line_spec =
     tie.close
     (tie.spec
     invariant-loop

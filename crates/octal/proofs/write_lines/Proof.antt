@@ -3,13 +3,13 @@ use Prim.Native.Nat.{◌≤◌, ◌-◌}
 use mathlib.Core.Path.{◌≡◌, ◌∙◌}
 use native.Mathlib.Omega.{arith}
 use lib.ListN.{length}
-use Rattle.octal.specs.Lines.{textBytes}
-use Rattle.octal.proofs.Written.{written, written_none, written-more, written_all}
+use Rattle.octal.specs.Lines.{text_bytes}
+use Rattle.octal.proofs.Written.{written, written_none, written_more, written_all}
 use Rattle.octal.proofs.write_lines.Statement.{statement}
 use Rattle.octal.proofs.write_lines.Tie as tie
 
 abbrev invariant-loop : tie.invariant-loop
-invariant-loop block text₀ i₀ text i = (i ≤ 256) × (length text ≡ textBytes) × (text ≡ written block text₀ i)
+invariant-loop block text₀ i₀ text i = (i ≤ 256) × (length text ≡ text_bytes) × (text ≡ written block text₀ i)
 
 abbrev decreases-loop : tie.decreases-loop
 decreases-loop block text₀ i₀ text i = 256 - i
@@ -40,7 +40,7 @@ loop-again c =
     let l = c.before.before.before.before.before.before.loop in (
       omega arith,
       omega arith,
-      c.before.before.write-line.ensures ∙ written-more _ _ l.i _ (omega arith) l.invariant.2,
+      c.before.before.write-line.ensures ∙ written_more _ _ l.i _ (omega arith) l.invariant.2,
     )
 
 same_length : tie.Need-same-length invariant-loop decreases-loop
@@ -51,8 +51,8 @@ returns c =
     let l = c.before.loop in
     written_all _ _ l.i _ (omega arith) (omega arith) l.invariant.2
 
-pub write-lines-spec : {M : Type 1} → statement M
-write-lines-spec =
+pub write_lines_spec : {M : Type 1} → statement M
+write_lines_spec =
     tie.close
     (tie.spec
     invariant-loop

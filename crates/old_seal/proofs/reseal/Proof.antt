@@ -2,14 +2,14 @@
 use Prim.Native.Nat.{ℕ, ◌<◌, ◌%◌, ◌^◌}
 use mathlib.Core.Path.{◌≡◌, sym, ap, ◌∙◌}
 use native.Mathlib.Omega.{arith}
-use Rattle.word.specs.Limits.{wordsInBlock}
+use Rattle.word.specs.Limits.{words_in_block}
 use Rattle.block.specs.Checksum.{folded, others}
-use Rattle.block.specs.Block.{sealedAnew}
-use Rattle.block.proofs.OnePass.{SumKnown, sum-known, none-refused, agreed-passed, differing-refused}
-use Rattle.old_seal.specs.OldRule.{oldChecksum}
-use Rattle.old_seal.specs.Reseal.{sealPlace, oldVerdict}
+use Rattle.block.specs.Block.{sealed_anew}
+use Rattle.block.proofs.OnePass.{SumKnown, sum_known, none-refused, agreed_passed, differing_refused}
+use Rattle.old_seal.specs.OldRule.{old_checksum}
+use Rattle.old_seal.specs.Reseal.{seal_place, old_verdict}
 use Rattle.old_seal.proofs.OldRule.{old-total}
-use Rattle.old_seal.proofs.Promises.{seal-place-small, refused-reseals, passed-reseals}
+use Rattle.old_seal.proofs.Promises.{seal_place_small, refused_reseals, passed_reseals}
 use borrow.Author.Rules.{rules}
 use Rattle.old_seal.proofs.reseal.Statement.{statement}
 use Rattle.old_seal.proofs.reseal.Tie as tie
@@ -27,19 +27,19 @@ enum-known-s : tie.Need-enum-known-s
 enum-known-s c = search rules
 
 -- what is known once the words are summed
-small : (c : tie.After-known-told) → c.before.before.before.before.before.seal-place.result < wordsInBlock
+small : (c : tie.After-known-told) → c.before.before.before.before.before.seal-place.result < words_in_block
 small c =
     rw c.before.before.before.before.before.seal-place.ensures
-    (seal-place-small c.before.before.before.before.before.before.before.args.index)
+    (seal_place_small c.before.before.before.before.before.before.before.args.index)
 
 known : (c : tie.After-known-told) →
     SumKnown c.before.before.before.before.before.before.before.args.words.now
     c.before.before.before.before.before.seal-place.result
     c.before.s.given.0.0
-known c = sum-known _ _ _ (small c) (sym c.before.before.before.sum-words.ensures ∙ c.before.s.given.1)
+known c = sum_known _ _ _ (small c) (sym c.before.before.before.sum-words.ensures ∙ c.before.s.given.1)
 
 -- the old rule's checksum of the others
-old : (c : tie.After-fold) → c.fold.result ≡ oldChecksum (others
+old : (c : tie.After-fold) → c.fold.result ≡ old_checksum (others
     c.before.before.before.before.before.before.before.seal-place.result
     c.before.before.before.before.before.before.before.before.before.args.words.now)
 old c =
@@ -61,11 +61,11 @@ same_length : tie.Need-same-length
 same_length c = search rules
 
 returns : tie.Need-returns
-unfolding oldVerdict
+unfolding old_verdict
 returns c =
-    refused-reseals _ _ 12
+    refused_reseals _ _ 12
     (rw (← c.before.before.before.before.before.before.before.before.seal-place.ensures)
-    (differing-refused oldChecksum _ _ (known c.before.before.before).whole (λ e. c.if1.true (old c.before ∙ e))))
+    (differing_refused old_checksum _ _ (known c.before.before.before).whole (λ e. c.if1.true (old c.before ∙ e))))
 
 seal-of-requires : tie.Need-seal-of-requires
 seal-of-requires c κs = search rules
@@ -81,27 +81,27 @@ same-length-2 : tie.Need-same-length-2
 same-length-2 c = search rules
 
 returns-2 : tie.Need-returns-2
-unfolding oldVerdict
+unfolding old_verdict
 returns-2 c =
     let a = c.before.before.before.before.before.before.args in
-    refused-reseals _ _ 11
-    (none-refused oldChecksum (sealPlace a.index) a.words.now (sym c.before.before.sum-words.ensures ∙ c.enum_told.given.1))
+    refused_reseals _ _ 11
+    (none-refused old_checksum (seal_place a.index) a.words.now (sym c.before.before.sum-words.ensures ∙ c.enum_told.given.1))
 
 same-length-3 : tie.Need-same-length-3
 same-length-3 c = search rules
 
 returns-3 : tie.Need-returns-3
-unfolding oldVerdict sealedAnew
+unfolding old_verdict sealed_anew
 returns-3 c =
     let k = known c.before.before.before.before in
-    passed-reseals _ _ _
+    passed_reseals _ _ _
     (rw (← c.before.before.before.before.before.before.before.before.before.seal-place.ensures)
-    (agreed-passed oldChecksum _ _ k.whole (sym (old c.before.before) ∙ c.before.if1.false)))
+    (agreed_passed old_checksum _ _ k.whole (sym (old c.before.before) ∙ c.before.if1.false)))
     (rw (← c.before.before.before.before.before.before.before.before.before.seal-place.ensures)
     (rw (c.seal-of.ensures, k.seal)))
 
-pub reseal-spec : {M : Type 1} → statement M
-reseal-spec =
+pub reseal_spec : {M : Type 1} → statement M
+reseal_spec =
     tie.close
     (tie.spec
     seal-place-requires

@@ -44,8 +44,8 @@ returns-3 c =
       ← c.before.before.before.before.before.before.before.bits.ensures,
     )
 
-pub read-group-spec : {M : Type 1} → statement M
-read-group-spec =
+pub read_group_spec : {M : Type 1} → statement M
+read_group_spec =
     tie.close
     (tie.spec
     bits-requires

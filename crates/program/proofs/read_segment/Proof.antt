@@ -1,7 +1,7 @@
 -- `program::read_segment` meets its contract: each return by the tests that led to it.
 use mathlib.Core.Path.{sym, ◌∙◌}
 use borrow.Author.Tests.{eq-eqb, ne_eqb}
-use Rattle.program.specs.Sections.{segmentOf}
+use Rattle.program.specs.Sections.{segment_of}
 use borrow.Author.Rules.{rules}
 use Rattle.program.proofs.read_segment.Statement.{statement}
 use Rattle.program.proofs.read_segment.Tie as tie
@@ -13,7 +13,7 @@ enum-known-ibank : tie.Need-enum-known-ibank
 enum-known-ibank c = search rules
 
 returns : tie.Need-returns
-unfolding segmentOf
+unfolding segment_of
 returns c =
     let b = c.before.before.before in
     rw (sym b.before.before.read-bank.ensures ∙ b.ibank.given.1, eq-eqb _ _ c.if1.true)
@@ -31,7 +31,7 @@ enum-known-f-2 : tie.Need-enum-known-f-2
 enum-known-f-2 c = search rules
 
 returns-2 : tie.Need-returns-2
-unfolding segmentOf
+unfolding segment_of
 returns-2 c =
     let d = c.before in
     let b = d.before.before.before.before.before.before in
@@ -44,7 +44,7 @@ returns-2 c =
     )
 
 returns-3 : tie.Need-returns-3
-unfolding segmentOf
+unfolding segment_of
 returns-3 c =
     let d = c.before in
     let b = d.before.before.before.before.before.before in
@@ -57,13 +57,13 @@ returns-3 c =
     )
 
 returns-4 : tie.Need-returns-4
-unfolding segmentOf
+unfolding segment_of
 returns-4 c =
     let b = c.before in
     rw (sym b.before.before.read-bank.ensures ∙ b.f2.given.1)
 
-pub read-segment-spec : {M : Type 1} → statement M
-read-segment-spec =
+pub read-segment_spec : {M : Type 1} → statement M
+read-segment_spec =
     tie.close
     (tie.spec
     read-bank-requires

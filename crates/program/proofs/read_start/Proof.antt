@@ -12,5 +12,5 @@ bits-requires c κs = search rules
 returns : tie.Need-returns
 returns c = rw (c.bits.ensures, c.before.word_at.ensures)
 
-pub read-start-spec : {M : Type 1} → statement M
-read-start-spec = tie.close (tie.spec word-at-requires bits-requires returns)
+pub read_start_spec : {M : Type 1} → statement M
+read_start_spec = tie.close (tie.spec word-at-requires bits-requires returns)

@@ -1,6 +1,6 @@
 -- `program::read_table_section` meets its contract: each return by the tests that led to it, of the bits read.
 use Rattle.word.proofs.Tests.{tests}
-use Rattle.program.specs.Sections.{tableSectionOf}
+use Rattle.program.specs.Sections.{table_section_of}
 use borrow.Author.Rules.{rules}
 use Rattle.program.proofs.read_table_section.Statement.{statement}
 use Rattle.program.proofs.read_table_section.Tie as tie
@@ -9,21 +9,21 @@ bits-requires : tie.Need-bits-requires
 bits-requires c κs = search rules
 
 returns : tie.Need-returns
-unfolding tableSectionOf
+unfolding table_section_of
 returns c = search (tests, ← c.before.bits.ensures)
 
 bits-requires-2 : tie.Need-bits-requires-2
 bits-requires-2 c κs = search rules
 
 returns-2 : tie.Need-returns-2
-unfolding tableSectionOf
+unfolding table_section_of
 returns-2 c = search (tests, ← c.before.bits2.ensures, ← c.before.before.before.bits.ensures)
 
 bits-requires-3 : tie.Need-bits-requires-3
 bits-requires-3 c κs = search rules
 
 returns-3 : tie.Need-returns-3
-unfolding tableSectionOf
+unfolding table_section_of
 returns-3 c =
     search (
       tests,
@@ -36,7 +36,7 @@ bits-requires-4 : tie.Need-bits-requires-4
 bits-requires-4 c κs = search rules
 
 returns-4 : tie.Need-returns-4
-unfolding tableSectionOf
+unfolding table_section_of
 returns-4 c =
     search (
       tests,
@@ -46,8 +46,8 @@ returns-4 c =
       ← c.before.before.before.before.before.before.bits.ensures,
     )
 
-pub read-table-section-spec : {M : Type 1} → statement M
-read-table-section-spec =
+pub read-table_section_spec : {M : Type 1} → statement M
+read-table_section_spec =
     tie.close
     (tie.spec
     bits-requires

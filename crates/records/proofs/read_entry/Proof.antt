@@ -1,10 +1,10 @@
 -- `records::read_entry` meets its contract: each return by the tests that led to it, at the spot of the entry's third word.
 use mathlib.Core.Path.{◌∙◌, ◌≡◌}
 use native.Mathlib.Omega.{arith}
-use Rattle.lists.specs.Load.{coreTables}
-use Rattle.records.specs.Entries.{entryFits}
-use Rattle.records.specs.HowEntries.{entryRead}
-use Rattle.records.proofs.Turns.{fits-elsewhere, fits-here}
+use Rattle.lists.specs.Load.{core_tables}
+use Rattle.records.specs.Entries.{entry_fits}
+use Rattle.records.specs.HowEntries.{entry_read}
+use Rattle.records.proofs.Turns.{fits_elsewhere, fits-here}
 use borrow.Author.Rules.{rules}
 use Rattle.records.proofs.read_entry.Statement.{statement}
 use Rattle.records.proofs.read_entry.Tie as tie
@@ -13,10 +13,10 @@ length-spot-requires : tie.Need-length-spot-requires
 length-spot-requires c κs = search rules
 
 returns : tie.Need-returns
-unfolding entryRead
+unfolding entry_read
 returns c =
     let z = c.before.before.before.before.before.args in
-    rw (fits-elsewhere z.g z.lists.now z.exact z.b z.block.now z.t _ c.before.before.length-spot.ensures
+    rw (fits_elsewhere z.g z.lists.now z.exact z.b z.block.now z.t _ c.before.before.length-spot.ensures
     c.if1.true)
 
 mul-minimum-length : tie.Need-overflow-mul-minimum-length
@@ -37,7 +37,7 @@ length-fits-requires c κs = search rules
 -- where the entry's third word stands in this block, the answer goes by whether the length fits
 told : (c : tie.After-length-fits)
     → let z = c.before.before.before.before.before.before.before.before.before in
-    entryFits z.args.g.io (coreTables z.args.g z.args.lists.now) z.args.exact z.args.b z.args.block.now
+    entry_fits z.args.g.io (core_tables z.args.g z.args.lists.now) z.args.exact z.args.b z.args.block.now
     z.args.t
     ≡ c.length-fits.result
 told c =
@@ -49,7 +49,7 @@ told c =
     c.before.core-table.ensures _ c.length-fits.ensures
 
 returns-2 : tie.Need-returns-2
-unfolding entryRead
+unfolding entry_read
 returns-2 c = rw (told c.before ∙ c.if2.true)
 
 further-requires : tie.Need-further-requires
@@ -58,7 +58,7 @@ further-requires c κs =
     rw s.length-spot.ensures (omega arith)
 
 returns-3 : tie.Need-returns-3
-unfolding entryRead
+unfolding entry_read
 returns-3 c =
     let d = c.before in
     rw (
@@ -67,8 +67,8 @@ returns-3 c =
       d.before.before.before.before.before.before.before.length-spot.ensures,
     )
 
-pub read-entry-spec : {M : Type 1} → statement M
-read-entry-spec =
+pub read_entry_spec : {M : Type 1} → statement M
+read_entry_spec =
     tie.close
     (tie.spec
     length-spot-requires

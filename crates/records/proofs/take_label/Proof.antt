@@ -1,9 +1,9 @@
 -- `records::take_label` meets its contract: each return by the tests that led to it.
 use mathlib.Core.Path.{sym, ◌∙◌}
 use native.Mathlib.Omega.{arith}
-use borrow.Author.Tests.{eq-eqb, ne_eqb, not-true, not-false}
+use borrow.Author.Tests.{eq-eqb, ne_eqb, not_true, not-false}
 use Rattle.lists.proofs.Reading.{io-length}
-use Rattle.records.specs.Label.{withLabel, afterLabel}
+use Rattle.records.specs.Label.{with_label, after_label}
 use borrow.Author.Rules.{rules}
 use Rattle.records.proofs.take_label.Statement.{statement}
 use Rattle.records.proofs.take_label.Tie as tie
@@ -15,12 +15,12 @@ further-requires : tie.Need-further-requires
 further-requires c κs = omega arith
 
 returns : tie.Need-returns
-unfolding withLabel
+unfolding with_label
 returns c =
     let d = c.before in
     rw (
       c.further.ensures,
-      sym d.before.assignments-fit.ensures ∙ not-true _ d.if1.true,
+      sym d.before.assignments-fit.ensures ∙ not_true _ d.if1.true,
     )
 
 add-if2 : tie.Need-overflow-add-if2
@@ -30,7 +30,7 @@ entry-blocks-requires : tie.Need-entry-blocks-requires
 entry-blocks-requires c κs = search rules
 
 returns-2 : tie.Need-returns-2
-unfolding withLabel afterLabel
+unfolding with_label after_label
 returns-2 c =
     let s = c.before.before.before in
     let a = s.before.before.before.args in
@@ -38,12 +38,12 @@ returns-2 c =
       sym s.before.assignments-fit.ensures
           ∙ not-false _ s.if1.false,
       io-length a.g a.lists.now,
-      ← c.before.entry-blocks.ensures,
+      ← c.before.entry_blocks_lem.ensures,
       eq-eqb _ _ c.if2.true,
     )
 
 returns-3 : tie.Need-returns-3
-unfolding withLabel afterLabel
+unfolding with_label after_label
 returns-3 c =
     let s = c.before.before.before in
     let a = s.before.before.before.args in
@@ -51,12 +51,12 @@ returns-3 c =
       sym s.before.assignments-fit.ensures
           ∙ not-false _ s.if1.false,
       io-length a.g a.lists.now,
-      ← c.before.entry-blocks.ensures,
+      ← c.before.entry_blocks_lem.ensures,
       ne_eqb _ _ c.if2.false,
     )
 
-pub take-label-spec : {M : Type 1} → statement M
-take-label-spec =
+pub take-label_spec : {M : Type 1} → statement M
+take-label_spec =
     tie.close
     (tie.spec
     assignments-fit-requires

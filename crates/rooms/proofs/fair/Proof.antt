@@ -3,8 +3,8 @@ use Prim.Native.Nat.{◌≤◌, ◌-◌}
 use mathlib.Core.Path.{◌≡◌, refl}
 use native.Mathlib.Omega.{arith}
 use lib.ListN.{length, length-set}
-use Rattle.rooms.proofs.Counted.{Counted, counted_none, counted-free, counted-held, counted-stranger, counted-third}
-use Rattle.rooms.proofs.Counted.{counted-end}
+use Rattle.rooms.proofs.Counted.{Counted, counted_none, counted-free, counted-held, counted_stranger, counted_third}
+use Rattle.rooms.proofs.Counted.{counted_end}
 use Rattle.rooms.proofs.fair.Statement.{statement}
 use Rattle.rooms.proofs.fair.Tie as tie
 
@@ -27,7 +27,7 @@ add-i : tie.Need-overflow-add-i invariant-loop decreases-loop
 add-i c = omega arith
 
 returns : tie.Need-returns invariant-loop decreases-loop
-returns c = let l = c.before.before.before.before.loop in counted-stranger _ _ l.i _ l.invariant.3 (omega arith)
+returns c = let l = c.before.before.before.before.loop in counted_stranger _ _ l.i _ l.invariant.3 (omega arith)
     c.if2.true
 
 sub-r : tie.Need-overflow-sub-r invariant-loop decreases-loop
@@ -42,7 +42,7 @@ array-read-k c = omega arith
 returns-2 : tie.Need-returns-2 invariant-loop decreases-loop
 returns-2 c =
     let l = c.before.before.before.before.before.loop in
-    counted-third _ _ l.i _ l.invariant.3 _ (omega arith) (omega arith) (omega arith) c.if3.true
+    counted_third _ _ l.i _ l.invariant.3 _ (omega arith) (omega arith) (omega arith) c.if3.true
 
 add-seconds : tie.Need-overflow-add-seconds invariant-loop decreases-loop
 add-seconds c = omega arith
@@ -81,10 +81,10 @@ add-result : tie.Need-overflow-add-result invariant-loop decreases-loop
 add-result c = omega arith
 
 returns-3 : tie.Need-returns-3 invariant-loop decreases-loop
-returns-3 c = let l = c.before.loop in counted-end _ _ l.i _ l.invariant.3 (omega arith)
+returns-3 c = let l = c.before.loop in counted_end _ _ l.i _ l.invariant.3 (omega arith)
 
-pub fair-spec : {M : Type 1} → statement M
-fair-spec =
+pub fair_spec : {M : Type 1} → statement M
+fair_spec =
     tie.close
     (tie.spec
     invariant-loop

@@ -11,5 +11,5 @@ returns : tie.Need-returns
 unfolding free
 returns c = c.how-many.ensures
 
-pub free-places-spec : {M : Type 1} → statement M
-free-places-spec = tie.close (tie.spec how-many-requires returns)
+pub free-places_spec : {M : Type 1} → statement M
+free-places_spec = tie.close (tie.spec how-many-requires returns)

@@ -1,4 +1,4 @@
--- `rooms::held_by` meets its contract, by what `how_many` ensures.
+-- `rooms::held_by_lem` meets its contract, by what `how_many` ensures.
 use Rattle.rooms.specs.Rooms.{held}
 use borrow.Author.Rules.{rules}
 use Rattle.rooms.proofs.held_by.Statement.{statement}
@@ -14,5 +14,5 @@ returns : tie.Need-returns
 unfolding held
 returns c = c.how-many.ensures
 
-pub held-by-spec : {M : Type 1} → statement M
-held-by-spec = tie.close (tie.spec add-how-many how-many-requires returns)
+pub held_by_spec : {M : Type 1} → statement M
+held_by_spec = tie.close (tie.spec add-how-many how-many-requires returns)

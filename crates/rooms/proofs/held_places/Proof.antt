@@ -5,15 +5,15 @@ use native.Mathlib.Omega.{arith}
 use native.Mathlib.Numerals.{add-one}
 use lib.ListN.{length, length-set, drop}
 use Rattle.word.proofs.Lists.{copied, copied_none, copied_next, copied_all}
-use Rattle.rooms.specs.Rooms.{heldPlaces}
-use Rattle.rooms.proofs.Held.{drop-first, drop-none, held-skip, held-here, held-past}
+use Rattle.rooms.specs.Rooms.{held_places}
+use Rattle.rooms.proofs.Held.{drop-first, drop-none, held_skip, held-here, held_past}
 use Rattle.rooms.proofs.held_places.Statement.{statement}
 use Rattle.rooms.proofs.held_places.Tie as tie
 
 abbrev invariant-loop : tie.invariant-loop
 invariant-loop holders out₀ n₀ i₀ out n i =
-    (i ≤ length holders) × (n ≤ i) × (length out ≡ length out₀) × (n ≤ length (heldPlaces 0 holders))
-    × (out ≡ copied out₀ 0 (heldPlaces 0 holders) n) × (drop n (heldPlaces 0 holders) ≡ heldPlaces i (drop i holders))
+    (i ≤ length holders) × (n ≤ i) × (length out ≡ length out₀) × (n ≤ length (held_places 0 holders))
+    × (out ≡ copied out₀ 0 (held_places 0 holders) n) × (drop n (held_places 0 holders) ≡ held_places i (drop i holders))
 
 abbrev decreases-loop : tie.decreases-loop
 decreases-loop holders out₀ n₀ i₀ out n i = length holders - i
@@ -49,7 +49,7 @@ loop-again : tie.Need-loop-preserved invariant-loop decreases-loop
 loop-again c =
     let l = c.before.before.before.loop in
     let hs = c.before.before.before.before.args.holders.now in
-    let f = drop-first (heldPlaces 0 hs) l.n l.i _ (l.invariant.5 ∙ held-here hs l.i (omega arith) (λ z. omega arith)) in (
+    let f = drop-first (held_places 0 hs) l.n l.i _ (l.invariant.5 ∙ held-here hs l.i (omega arith) (λ z. omega arith)) in (
       omega arith,
       omega arith,
       simp length-set (omega arith),
@@ -64,7 +64,7 @@ loop-less-2 c = omega arith
 loop-again-2 : tie.Need-loop-preserved-2 invariant-loop decreases-loop
 loop-again-2 c =
     let l = c.before.before.before.loop in
-    (omega arith, omega arith, omega arith, l.invariant.3, l.invariant.4, l.invariant.5 ∙ held-skip _ l.i (omega arith) (omega arith))
+    (omega arith, omega arith, omega arith, l.invariant.3, l.invariant.4, l.invariant.5 ∙ held_skip _ l.i (omega arith) (omega arith))
 
 same_length : tie.Need-same-length invariant-loop decreases-loop
 same_length c = omega arith
@@ -72,12 +72,12 @@ same_length c = omega arith
 returns : tie.Need-returns invariant-loop decreases-loop
 returns c =
     let l = c.before.loop in
-    let e = drop-none _ l.n (l.invariant.5 ∙ held-past _ l.i (omega arith)) in
-    let n : l.n ≡ length (heldPlaces 0 c.before.before.args.holders.now) = omega (arith, e, l.invariant.3) in
+    let e = drop-none _ l.n (l.invariant.5 ∙ held_past _ l.i (omega arith)) in
+    let n : l.n ≡ length (held_places 0 c.before.before.args.holders.now) = omega (arith, e, l.invariant.3) in
     (n, copied_all _ _ _ _ _ (sym n) l.invariant.4)
 
-pub held-places-spec : {M : Type 1} → statement M
-held-places-spec =
+pub held-places_spec : {M : Type 1} → statement M
+held-places_spec =
     tie.close
     (tie.spec
     invariant-loop

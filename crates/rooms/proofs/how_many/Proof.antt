@@ -4,7 +4,7 @@ use mathlib.Core.Path.{◌≡◌}
 use native.Mathlib.Omega.{arith}
 use lib.ListN.{length, drop, get_or}
 use Rattle.rooms.specs.Rooms.{count}
-use Rattle.rooms.proofs.Count.{hit-most, count-more, count-end}
+use Rattle.rooms.proofs.Count.{hit_most, count_more, count_end}
 use Rattle.rooms.proofs.how_many.Statement.{statement}
 use Rattle.rooms.proofs.how_many.Tie as tie
 
@@ -29,7 +29,7 @@ one-if-same-requires c κs = omega arith
 add-n : tie.Need-overflow-add-n invariant-loop decreases-loop
 add-n c = omega (
   arith,
-  hit-most
+  hit_most
       (get_or c.before.before.before.before.before.args.numbers.now c.before.before.before.loop.i 0)
       c.before.before.before.before.before.args.x,
 )
@@ -46,16 +46,16 @@ loop-again c =
     let l = c.before.before.before.loop in
     let e = c.one_if_same.ensures in (
       omega arith,
-      omega (arith, hit-most (get_or a.numbers.now l.i 0) a.x),
+      omega (arith, hit_most (get_or a.numbers.now l.i 0) a.x),
       rw e
-          (count-more a.x a.numbers.now l.i l.n _ (omega arith) l.invariant.2),
+          (count_more a.x a.numbers.now l.i l.n _ (omega arith) l.invariant.2),
     )
 
 returns : tie.Need-returns invariant-loop decreases-loop
-returns c = count-end _ _ c.before.loop.i _ _ (omega arith) c.before.loop.invariant.2
+returns c = count_end _ _ c.before.loop.i _ _ (omega arith) c.before.loop.invariant.2
 
-pub how-many-spec : {M : Type 1} → statement M
-how-many-spec =
+pub how_many_spec : {M : Type 1} → statement M
+how_many_spec =
     tie.close
     (tie.spec
     invariant-loop

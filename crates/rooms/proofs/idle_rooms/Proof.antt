@@ -1,6 +1,6 @@
 -- `rooms::idle_rooms` meets its contract: the zeros among the rooms' counts.
 use mathlib.Core.Path.{◌∙◌}
-use Rattle.rooms.proofs.Pass.{tally-idle}
+use Rattle.rooms.proofs.Pass.{tally_idle}
 use borrow.Author.Rules.{rules}
 use Rattle.rooms.proofs.idle_rooms.Statement.{statement}
 use Rattle.rooms.proofs.idle_rooms.Tie as tie
@@ -21,10 +21,10 @@ how-many-requires : tie.Need-how-many-requires
 how-many-requires c κs = search rules
 
 returns : tie.Need-returns
-returns c = c.how-many.ensures ∙ tally-idle _ _ c.before.before.before.tally.ensures
+returns c = c.how-many.ensures ∙ tally_idle _ _ c.before.before.before.tally.ensures
 
-pub idle-rooms-spec : {M : Type 1} → statement M
-idle-rooms-spec =
+pub idle_rooms_spec : {M : Type 1} → statement M
+idle_rooms_spec =
     tie.close
     (tie.spec
     tally-requires

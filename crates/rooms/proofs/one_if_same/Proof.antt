@@ -12,5 +12,5 @@ returns-2 : tie.Need-returns-2
 unfolding hit
 returns-2 c = search tests
 
-pub one-if-same-spec : {M : Type 1} → statement M
-one-if-same-spec = tie.close (tie.spec returns returns-2)
+pub one_if_same_spec : {M : Type 1} → statement M
+one_if_same_spec = tie.close (tie.spec returns returns-2)

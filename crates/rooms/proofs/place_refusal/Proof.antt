@@ -1,7 +1,7 @@
 -- `rooms::place_refusal` meets its contract: each way out by the tests on its way.
 use mathlib.Core.Path.{sym}
 use Rattle.word.proofs.Tests.{tests}
-use Rattle.rooms.specs.Rooms.{placeRefusal}
+use Rattle.rooms.specs.Rooms.{place_refusal}
 use borrow.Author.Rules.{rules}
 use Rattle.rooms.proofs.place_refusal.Statement.{statement}
 use Rattle.rooms.proofs.place_refusal.Tie as tie
@@ -10,7 +10,7 @@ held-by-requires : tie.Need-held-by-requires
 held-by-requires c κs = search rules
 
 returns : tie.Need-returns
-unfolding placeRefusal
+unfolding place_refusal
 returns c = search (tests, sym c.before.held_by.ensures)
 
 free-places-requires : tie.Need-free-places-requires
@@ -20,7 +20,7 @@ idle-rooms-requires : tie.Need-idle-rooms-requires
 idle-rooms-requires c κs = search rules
 
 returns-2 : tie.Need-returns-2
-unfolding placeRefusal
+unfolding place_refusal
 returns-2 c = search (
   tests,
   sym c.before.idle-rooms.ensures,
@@ -30,7 +30,7 @@ returns-2 c = search (
 )
 
 returns-3 : tie.Need-returns-3
-unfolding placeRefusal
+unfolding place_refusal
 returns-3 c = search (
   tests,
   sym c.before.idle-rooms.ensures,
@@ -40,11 +40,11 @@ returns-3 c = search (
 )
 
 returns-4 : tie.Need-returns-4
-unfolding placeRefusal
+unfolding place_refusal
 returns-4 c = search (tests, sym c.before.before.held_by.ensures)
 
-pub place-refusal-spec : {M : Type 1} → statement M
-place-refusal-spec =
+pub place-refusal_spec : {M : Type 1} → statement M
+place-refusal_spec =
     tie.close
     (tie.spec
     held-by-requires

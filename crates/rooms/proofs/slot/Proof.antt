@@ -12,5 +12,5 @@ returns-2 : tie.Need-returns-2
 unfolding slot_of
 returns-2 c = search tests
 
-pub slot-spec : {M : Type 1} → statement M
-slot-spec = tie.close (tie.spec returns returns-2)
+pub slot_spec : {M : Type 1} → statement M
+slot_spec = tie.close (tie.spec returns returns-2)

@@ -3,12 +3,12 @@ use Prim.Native.Nat.{◌≤◌, ◌<◌, ◌-◌}
 use mathlib.Core.Path.{◌≡◌, refl}
 use native.Mathlib.Omega.{arith}
 use lib.ListN.{length, length-set}
-use Rattle.rooms.proofs.Pass.{slot-below, talliedTo, tallied-none, tallied-most, tallied-more, tallied-end}
+use Rattle.rooms.proofs.Pass.{slot_below, tallied_to, tallied-none, tallied_most, tallied_more, tallied_end}
 use Rattle.rooms.proofs.tally.Statement.{statement}
 use Rattle.rooms.proofs.tally.Tie as tie
 
 abbrev invariant-loop : tie.invariant-loop
-invariant-loop holders n₀ i₀ n i = (i ≤ length holders) × (length n ≡ 10) × (n ≡ talliedTo holders i)
+invariant-loop holders n₀ i₀ n i = (i ≤ length holders) × (length n ≡ 10) × (n ≡ tallied_to holders i)
 
 abbrev decreases-loop : tie.decreases-loop
 decreases-loop holders n₀ i₀ n i = length holders - i
@@ -27,7 +27,7 @@ slot-requires c κs = omega arith
 
 -- the slot is one of the ten
 below : (c : tie.After-slot invariant-loop decreases-loop) → c.slot.result < 10
-below c = rw c.slot.ensures (slot-below _)
+below c = rw c.slot.ensures (slot_below _)
 
 mul-n : tie.Need-overflow-mul-n invariant-loop decreases-loop
 mul-n c = omega (arith, below c)
@@ -36,7 +36,7 @@ array-read-n : tie.Need-array-read-n invariant-loop decreases-loop
 array-read-n c = omega (arith, below c)
 
 add-n : tie.Need-overflow-add-n invariant-loop decreases-loop
-add-n c = omega (arith, tallied-most _ _ _ c.before.before.before.loop.invariant.2 c.slot.result (below c))
+add-n c = omega (arith, tallied_most _ _ _ c.before.before.before.loop.invariant.2 c.slot.result (below c))
 
 mul-n-2 : tie.Need-overflow-mul-n-2 invariant-loop decreases-loop
 mul-n-2 c = omega (arith, below c)
@@ -53,13 +53,13 @@ loop-less c = omega arith
 loop-again : tie.Need-loop-preserved invariant-loop decreases-loop
 loop-again c =
     let l = c.before.before.before.loop in
-    (omega arith, simp length-set (omega arith), tallied-more _ l.i _ l.invariant.2 _ (omega arith) c.slot.ensures)
+    (omega arith, simp length-set (omega arith), tallied_more _ l.i _ l.invariant.2 _ (omega arith) c.slot.ensures)
 
 returns : tie.Need-returns invariant-loop decreases-loop
-returns c = tallied-end _ c.before.loop.i _ c.before.loop.invariant.2 (omega arith)
+returns c = tallied_end _ c.before.loop.i _ c.before.loop.invariant.2 (omega arith)
 
-pub tally-spec : {M : Type 1} → statement M
-tally-spec =
+pub tally_spec : {M : Type 1} → statement M
+tally_spec =
     tie.close
     (tie.spec
     invariant-loop

@@ -1,29 +1,29 @@
 -- `source::head_fits` meets its contract: each return by the tests that led to it.
 use mathlib.Core.Path.{sym, ◌∙◌}
-use Rattle.source.specs.Fits.{headFits}
-use Rattle.source.proofs.Whole.{head-decides}
+use Rattle.source.specs.Fits.{head_fits}
+use Rattle.source.proofs.Whole.{head_decides}
 use borrow.Author.Rules.{rules}
 use Rattle.word.proofs.Tests.{tests}
-use borrow.Author.Tests.{not-true, not-false}
+use borrow.Author.Tests.{not_true, not-false}
 use Rattle.source.proofs.head_fits.Statement.{statement}
 use Rattle.source.proofs.head_fits.Tie as tie
 
 returns : tie.Need-returns
-unfolding headFits
+unfolding head_fits
 returns c = search tests
 
 shared-slice-read-if2 : tie.Need-shared-slice-read-if2
 shared-slice-read-if2 c = search rules
 
 returns-2 : tie.Need-returns-2
-unfolding headFits
+unfolding head_fits
 returns-2 c = search tests
 
 shared-slice-read-if3 : tie.Need-shared-slice-read-if3
 shared-slice-read-if3 c = search rules
 
 returns-3 : tie.Need-returns-3
-unfolding headFits
+unfolding head_fits
 returns-3 c = search tests
 
 shared-slice-read-is-name : tie.Need-shared-slice-read-is-name
@@ -36,14 +36,14 @@ is-name-requires : tie.Need-is-name-requires
 is-name-requires c κs = search rules
 
 returns-4 : tie.Need-returns-4
-unfolding headFits
-returns-4 c = search (tests, sym c.before.is_name.ensures ∙ not-true _ c.if4.true)
+unfolding head_fits
+returns-4 c = search (tests, sym c.before.is_name.ensures ∙ not_true _ c.if4.true)
 
 shared-slice-read-if5 : tie.Need-shared-slice-read-if5
 shared-slice-read-if5 c = search rules
 
 returns-5 : tie.Need-returns-5
-unfolding headFits
+unfolding head_fits
 returns-5 c =
     let d = c.before.before in
     search (tests, sym d.before.is_name.ensures ∙ not-false _ d.if4.false)
@@ -58,14 +58,14 @@ are-banks-requires : tie.Need-are-banks-requires
 are-banks-requires c κs = search rules
 
 returns-6 : tie.Need-returns-6
-unfolding headFits
+unfolding head_fits
 returns-6 c =
     let d = c.before.before in
     let e = d.before.before.before.before in
     search (
       tests,
       sym e.before.is_name.ensures ∙ not-false _ e.if4.false,
-      sym (rw (d.dbank.ensures, d.before.ibank.ensures) at c.before.are-banks.ensures) ∙ not-true _ c.if6.true,
+      sym (rw (d.dbank.ensures, d.before.ibank.ensures) at c.before.are-banks.ensures) ∙ not_true _ c.if6.true,
     )
 
 ibank-requires-2 : tie.Need-ibank-requires-2
@@ -83,14 +83,14 @@ returns-7 c =
     let e = d.before.before.before in
     let f = e.before.before.before in
     let g = f.before.before.before.before in
-    rw (c.before.start.ensures, c.before.before.ibank2.ensures) at c.in-bank.ensures
-    ∙ head-decides _ g.before.before.before.before.if1.false g.before.before.if2.false g.if3.false
+    rw (c.before.start.ensures, c.before.before.ibank2.ensures) at c.in_bank_lem.ensures
+    ∙ head_decides _ g.before.before.before.before.if1.false g.before.before.if2.false g.if3.false
     (sym f.before.is_name.ensures ∙ not-false _ f.if4.false) e.before.if5.false
     (sym (rw (d.before.before.dbank.ensures, e.ibank.ensures) at d.before.are-banks.ensures)
     ∙ not-false _ d.if6.false)
 
-pub head-fits-spec : {M : Type 1} → statement M
-head-fits-spec =
+pub head_fits_spec : {M : Type 1} → statement M
+head_fits_spec =
     tie.close
     (tie.spec
     returns

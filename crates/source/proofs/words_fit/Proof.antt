@@ -4,19 +4,19 @@ use Prim.Native.Nat.{◌≤◌, ◌-◌, ◌/◌}
 use native.Mathlib.Nat.{sub-zero}
 use lib.ListN.{length}
 use Rattle.word.specs.Lists.{every}
-use Rattle.source.specs.Source.{wantedFrom}
-use Rattle.source.specs.Fits.{wordFits}
-use Rattle.source.proofs.Listed.{every_more, every-fails, every-ends}
+use Rattle.source.specs.Source.{wanted_from}
+use Rattle.source.specs.Fits.{word_fits}
+use Rattle.source.proofs.Listed.{every_more, every_fails, every-ends}
 use native.Mathlib.Omega.{arith}
-use borrow.Author.Tests.{not-true, not-false}
+use borrow.Author.Tests.{not_true, not-false}
 use Rattle.source.proofs.words_fit.Statement.{statement}
 use Rattle.source.proofs.words_fit.Tie as tie
 
 abbrev invariant-loop : tie.invariant-loop
 invariant-loop c words n i₀ i =
     (i ≤ length words / 3)
-    × (every (wordFits c) (wantedFrom words 0 (length words / 3))
-    ≡ every (wordFits c) (wantedFrom words i (length words / 3 - i)))
+    × (every (word_fits c) (wanted_from words 0 (length words / 3))
+    ≡ every (word_fits c) (wanted_from words i (length words / 3 - i)))
 
 abbrev decreases-loop : tie.decreases-loop
 decreases-loop c words n i₀ i = length words / 3 - i
@@ -34,8 +34,8 @@ returns : tie.Need-returns invariant-loop decreases-loop
 returns c =
     let d = c.before.before in
     let e = d.before.before in
-    every-fails _ _ e.loop.i _ _ (omega arith)
-    (sym (rw d.wanted-at.ensures at c.before.word-fits.ensures) ∙ not-true _ c.if1.true) e.loop.invariant.1
+    every_fails _ _ e.loop.i _ _ (omega arith)
+    (sym (rw d.wanted-at.ensures at c.before.word-fits.ensures) ∙ not_true _ c.if1.true) e.loop.invariant.1
 
 add-i : tie.Need-overflow-add-i invariant-loop decreases-loop
 add-i c = omega arith
@@ -55,8 +55,8 @@ loop-again c =
 returns-2 : tie.Need-returns-2 invariant-loop decreases-loop
 returns-2 c = every-ends _ _ c.before.loop.i _ _ (omega arith) c.before.loop.invariant.1
 
-pub words-fit-spec : {M : Type 1} → statement M
-words-fit-spec =
+pub words_fit_spec : {M : Type 1} → statement M
+words_fit_spec =
     tie.close
     (tie.spec
     invariant-loop

@@ -1,7 +1,7 @@
 -- `stage::due_fits`: by what is due, and the tests of it.
 use mathlib.Core.Path.{sym, ◌∙◌}
-use borrow.Author.Tests.{not-true, not-false}
-use Rattle.stage.specs.Ranges.{dueFits}
+use borrow.Author.Tests.{not_true, not-false}
+use Rattle.stage.specs.Ranges.{due_fits}
 use borrow.Author.Rules.{rules}
 use Rattle.stage.proofs.due_fits.Statement.{statement}
 use Rattle.stage.proofs.due_fits.Tie as tie
@@ -16,8 +16,8 @@ bank-fits-requires : tie.Need-bank-fits-requires
 bank-fits-requires c κs = search rules
 
 returns : tie.Need-returns
-unfolding dueFits
-returns c = rw (c.before.before.before.before.due.given.1, sym c.before.bank-fits.ensures ∙ not-true _ c.if1.true)
+unfolding due_fits
+returns c = rw (c.before.before.before.before.due.given.1, sym c.before.bank-fits.ensures ∙ not_true _ c.if1.true)
 
 bank-fits-requires-2 : tie.Need-bank-fits-requires-2
 bank-fits-requires-2 c κs = search rules
@@ -35,18 +35,18 @@ section-fits-requires : tie.Need-section-fits-requires
 section-fits-requires c κs = search rules
 
 returns-2 : tie.Need-returns-2
-unfolding dueFits
-returns-2 c = rw (c.before.before.before.due3.given.1, sym c.before.section-fits.ensures ∙ not-true _ c.if2.true)
+unfolding due_fits
+returns-2 c = rw (c.before.before.before.due3.given.1, sym c.before.section_fits_lem.ensures ∙ not_true _ c.if2.true)
 
 bank-fits-requires-4 : tie.Need-bank-fits-requires-4
 bank-fits-requires-4 c κs = search rules
 
 returns-3 : tie.Need-returns-3
-unfolding dueFits
+unfolding due_fits
 returns-3 c = rw c.enum_told.given.1
 
 returns-4 : tie.Need-returns-4
-unfolding dueFits
+unfolding due_fits
 returns-4 c = rw (
   c.before.before.before.before.before.before.due.given.1,
   sym
@@ -54,19 +54,19 @@ returns-4 c = rw (
 ) c.bank-fits2.ensures
 
 returns-5 : tie.Need-returns-5
-unfolding dueFits
+unfolding due_fits
 returns-5 c = rw c.before.before.due2.given.1 c.bank-fits3.ensures
 
 returns-6 : tie.Need-returns-6
-unfolding dueFits
+unfolding due_fits
 returns-6 c = rw (
   c.before.before.before.before.due3.given.1,
-  sym c.before.before.section-fits.ensures
+  sym c.before.before.section_fits_lem.ensures
       ∙ not-false _ c.before.if2.false,
 ) c.bank-fits4.ensures
 
-pub due-fits-spec : {M : Type 1} → statement M
-due-fits-spec =
+pub due-fits_spec : {M : Type 1} → statement M
+due-fits_spec =
     tie.close
     (tie.spec
     enum_told

@@ -1,5 +1,5 @@
 -- `stage::due_numbers`: by what is due.
-use Rattle.stage.specs.Stage.{numbersOf}
+use Rattle.stage.specs.Stage.{numbers_of}
 use borrow.Author.Rules.{rules}
 use Rattle.stage.proofs.due_numbers.Statement.{statement}
 use Rattle.stage.proofs.due_numbers.Tie as tie
@@ -23,21 +23,21 @@ section-numbers-requires : tie.Need-section-numbers-requires
 section-numbers-requires c κs = search rules
 
 returns : tie.Need-returns
-unfolding numbersOf
+unfolding numbers_of
 returns c = rw c.enum_told.given.1
 
 returns-2 : tie.Need-returns-2
 returns-2 c = rw c.before.before.due.given.1 c.segment-numbers.ensures
 
 returns-3 : tie.Need-returns-3
-unfolding numbersOf
+unfolding numbers_of
 returns-3 c = rw c.before.due2.given.1
 
 returns-4 : tie.Need-returns-4
 returns-4 c = rw c.before.before.due3.given.1 c.section-numbers.ensures
 
-pub due-numbers-spec : {M : Type 1} → statement M
-due-numbers-spec =
+pub due-numbers_spec : {M : Type 1} → statement M
+due-numbers_spec =
     tie.close
     (tie.spec
     enum_told

@@ -46,8 +46,8 @@ returns-6 : tie.Need-returns-6
 unfolding is_over
 returns-6 c = rw c.enum-told6.given.1
 
-pub is-over-spec : {M : Type 1} → statement M
-is-over-spec =
+pub is_over_spec : {M : Type 1} → statement M
+is_over_spec =
     tie.close
     (tie.spec
     enum_told

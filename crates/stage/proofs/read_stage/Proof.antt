@@ -1,6 +1,6 @@
 -- `stage::read_stage` meets its contract: each return by the tests that led to it.
 use Rattle.word.proofs.Tests.{tests}
-use Rattle.stage.specs.Stage.{stageOf}
+use Rattle.stage.specs.Stage.{stage_of}
 use borrow.Author.Rules.{rules}
 use Rattle.stage.proofs.read_stage.Statement.{statement}
 use Rattle.stage.proofs.read_stage.Tie as tie
@@ -48,43 +48,43 @@ section-of-requires : tie.Need-section-of-requires
 section-of-requires c κs = search rules
 
 returns : tie.Need-returns
-unfolding stageOf
+unfolding stage_of
 returns c = rw c.match.keys1
 
 returns-2 : tie.Need-returns-2
-unfolding stageOf
+unfolding stage_of
 returns-2 c = rw c.before.before.match.keys2
 
 returns-3 : tie.Need-returns-3
-unfolding stageOf
+unfolding stage_of
 returns-3 c = rw c.match.keys3
 
 returns-4 : tie.Need-returns-4
-unfolding stageOf
+unfolding stage_of
 returns-4 c = rw (c.before.before.before.match.keys4, c.with-dbank.ensures)
 
 returns-5 : tie.Need-returns-5
-unfolding stageOf
+unfolding stage_of
 returns-5 c = rw c.before.match.keys5
 
 returns-6 : tie.Need-returns-6
-unfolding stageOf
+unfolding stage_of
 returns-6 c = rw (c.before.before.before.match.keys6, c.section-of.ensures)
 
 returns-7 : tie.Need-returns-7
-unfolding stageOf
+unfolding stage_of
 returns-7 c = rw c.match.keys7
 
 returns-8 : tie.Need-returns-8
-unfolding stageOf
+unfolding stage_of
 returns-8 c = rw c.match.keys8
 
 returns-9 : tie.Need-returns-9
-unfolding stageOf
+unfolding stage_of
 returns-9 c = search tests
 
-pub read-stage-spec : {M : Type 1} → statement M
-read-stage-spec =
+pub read-stage_spec : {M : Type 1} → statement M
+read-stage_spec =
     tie.close
     (tie.spec
     shared-slice-read-tag

@@ -1,5 +1,5 @@
 -- `stage::record_due`: by the stage.
-use Rattle.stage.specs.Record.{recordDue}
+use Rattle.stage.specs.Record.{record_due}
 use borrow.Author.Rules.{rules}
 use Rattle.stage.proofs.record_due.Statement.{statement}
 use Rattle.stage.proofs.record_due.Tie as tie
@@ -23,31 +23,31 @@ enum-told-6 : tie.Need-enum-told-6
 enum-told-6 c = search rules
 
 returns : tie.Need-returns
-unfolding recordDue
+unfolding record_due
 returns c = rw c.enum_told.given.1
 
 returns-2 : tie.Need-returns-2
-unfolding recordDue
+unfolding record_due
 returns-2 c = rw c.enum-told2.given.1
 
 returns-3 : tie.Need-returns-3
-unfolding recordDue
+unfolding record_due
 returns-3 c = rw c.enum-told3.given.1
 
 returns-4 : tie.Need-returns-4
-unfolding recordDue
+unfolding record_due
 returns-4 c = rw c.enum-told4.given.1
 
 returns-5 : tie.Need-returns-5
-unfolding recordDue
+unfolding record_due
 returns-5 c = rw c.enum-told5.given.1
 
 returns-6 : tie.Need-returns-6
-unfolding recordDue
+unfolding record_due
 returns-6 c = rw c.enum-told6.given.1
 
-pub record-due-spec : {M : Type 1} → statement M
-record-due-spec =
+pub record_due_spec : {M : Type 1} → statement M
+record_due_spec =
     tie.close
     (tie.spec
     enum_told

@@ -1,21 +1,21 @@
 -- `stage::section_fits` meets its contract: each return by the tests that led to it.
 use borrow.Author.Tests.{lt-ltb}
 use Rattle.word.proofs.Tests.{tests}
-use Rattle.lists.proofs.Reading.{core-length, core_at}
-use Rattle.stage.specs.Ranges.{sectionFits}
+use Rattle.lists.proofs.Reading.{core-length, core_at_lem}
+use Rattle.stage.specs.Ranges.{section_fits}
 use borrow.Author.Rules.{rules}
 use Rattle.stage.proofs.section_fits.Statement.{statement}
 use Rattle.stage.proofs.section_fits.Tie as tie
 
 returns : tie.Need-returns
-unfolding sectionFits
+unfolding section_fits
 returns c = search (tests, core-length)
 
 core-table-requires : tie.Need-core-table-requires
 core-table-requires c κs = search rules
 
 returns-2 : tie.Need-returns-2
-unfolding sectionFits
+unfolding section_fits
 returns-2 c =
     let s = c.before.before.before.before.before.before.before.before in
     let a = s.args in
@@ -23,10 +23,10 @@ returns-2 c =
     rw (
       core-length a.g a.lists.now s.requires,
       lt-ltb _ _ n,
-      core_at a.g a.lists.now
+      core_at_lem a.g a.lists.now
           s.requires _ _ n,
       ← c.before.before.core-table.ensures,
     )
 
-pub section-fits-spec : {M : Type 1} → statement M
-section-fits-spec = tie.close (tie.spec returns core-table-requires returns-2)
+pub section_fits_spec : {M : Type 1} → statement M
+section_fits_spec = tie.close (tie.spec returns core-table-requires returns-2)

@@ -1,10 +1,10 @@
 -- `stage::stage_fits`: by the stage, and the tests of it.
 use mathlib.Core.Path.{sym, ◌∙◌}
 use mathlib.Core.Bool.{and-false}
-use borrow.Author.Tests.{not-true, not-false}
-use Rattle.word.proofs.Cases.{and-true}
+use borrow.Author.Tests.{not_true, not-false}
+use Rattle.word.proofs.Cases.{and_true}
 use Rattle.lists.proofs.Reading.{core-length}
-use Rattle.stage.specs.Ranges.{labelCountsFit, stageFits}
+use Rattle.stage.specs.Ranges.{label_counts_fit, stage_fits}
 use borrow.Author.Rules.{rules}
 use Rattle.stage.proofs.stage_fits.Statement.{statement}
 use Rattle.stage.proofs.stage_fits.Tie as tie
@@ -19,10 +19,10 @@ label-counts-fit-requires : tie.Need-label-counts-fit-requires
 label-counts-fit-requires c κs = search rules
 
 returns : tie.Need-returns
-unfolding stageFits
+unfolding stage_fits
 returns c = let z = c.before.before.before.before.before.before.before in
     let e = core-length z.args.g z.args.lists.now z.requires in
-    rw (c.before.before.before.s.given.1, e, sym c.before.label-counts-fit.ensures ∙ not-true _ c.if1.true)
+    rw (c.before.before.before.s.given.1, e, sym c.before.label-counts_fit.ensures ∙ not_true _ c.if1.true)
 
 entry-blocks-requires : tie.Need-entry-blocks-requires
 entry-blocks-requires c κs = search rules
@@ -34,15 +34,15 @@ due-fits-requires : tie.Need-due-fits-requires
 due-fits-requires c κs = search rules
 
 returns-2 : tie.Need-returns-2
-unfolding stageFits
+unfolding stage_fits
 returns-2 c = let z = c.before.before.before.before.before.before.before in
     let e = core-length z.args.g z.args.lists.now z.requires in
     rw (
       c.before.before.before.s2.given.1,
       e,
       sym c.before.due-fits.ensures
-          ∙ not-true _ c.if2.true,
-      and-false (labelCountsFit z.args.g.io z.args.g.tables _),
+          ∙ not_true _ c.if2.true,
+      and-false (label_counts_fit z.args.g.io z.args.g.tables _),
     )
 
 label-counts-fit-requires-2 : tie.Need-label-counts-fit-requires-2
@@ -61,23 +61,23 @@ enum-told-3 : tie.Need-enum-told-3
 enum-told-3 c = search rules
 
 returns-3 : tie.Need-returns-3
-unfolding stageFits
+unfolding stage_fits
 returns-3 c = rw c.enum_told.given.1
 
 returns-4 : tie.Need-returns-4
-unfolding stageFits
+unfolding stage_fits
 returns-4 c = let z = c.before.before.before.before.before.before.before.before in
     let e = core-length z.args.g z.args.lists.now z.requires in
     rw (
       c.before.before.before.before.s.given.1,
       e,
-      sym c.before.before.label-counts-fit.ensures
+      sym c.before.before.label-counts_fit.ensures
           ∙ not-false _ c.before.if1.false,
-      ← c.entry-blocks.ensures,
+      ← c.entry_blocks_lem.ensures,
     )
 
 returns-5 : tie.Need-returns-5
-unfolding stageFits
+unfolding stage_fits
 returns-5 c = let z = c.before.before.before.before.before.before.before.before in
     let e = core-length z.args.g z.args.lists.now z.requires in
     rw (
@@ -85,22 +85,22 @@ returns-5 c = let z = c.before.before.before.before.before.before.before.before 
       e,
       sym c.before.before.due-fits.ensures
           ∙ not-false _ c.before.if2.false,
-    ) (c.label-counts-fit2.ensures ∙ sym (and-true _))
+    ) (c.label-counts-fit2.ensures ∙ sym (and_true _))
 
 returns-6 : tie.Need-returns-6
-unfolding stageFits
+unfolding stage_fits
 returns-6 c = rw c.before.before.s3.given.1 c.bank-fits.ensures
 
 returns-7 : tie.Need-returns-7
-unfolding stageFits
+unfolding stage_fits
 returns-7 c = rw c.enum-told2.given.1
 
 returns-8 : tie.Need-returns-8
-unfolding stageFits
+unfolding stage_fits
 returns-8 c = rw c.enum-told3.given.1
 
-pub stage-fits-spec : {M : Type 1} → statement M
-stage-fits-spec =
+pub stage-fits_spec : {M : Type 1} → statement M
+stage-fits_spec =
     tie.close
     (tie.spec
     enum_told

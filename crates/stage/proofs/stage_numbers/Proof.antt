@@ -1,5 +1,5 @@
 -- `stage::stage_numbers`: by the stage.
-use Rattle.stage.specs.Stage.{numbersOf}
+use Rattle.stage.specs.Stage.{numbers_of}
 use borrow.Author.Rules.{rules}
 use Rattle.stage.proofs.stage_numbers.Statement.{statement}
 use Rattle.stage.proofs.stage_numbers.Tie as tie
@@ -29,7 +29,7 @@ enum-told-3 : tie.Need-enum-told-3
 enum-told-3 c = search rules
 
 returns : tie.Need-returns
-unfolding numbersOf
+unfolding numbers_of
 returns c = rw c.enum_told.given.1
 
 returns-2 : tie.Need-returns-2
@@ -39,19 +39,19 @@ returns-3 : tie.Need-returns-3
 returns-3 c = rw c.before.before.s2.given.1 c.due-numbers.ensures
 
 returns-4 : tie.Need-returns-4
-unfolding numbersOf
+unfolding numbers_of
 returns-4 c = rw c.before.s3.given.1
 
 returns-5 : tie.Need-returns-5
-unfolding numbersOf
+unfolding numbers_of
 returns-5 c = rw c.enum-told2.given.1
 
 returns-6 : tie.Need-returns-6
-unfolding numbersOf
+unfolding numbers_of
 returns-6 c = rw c.enum-told3.given.1
 
-pub stage-numbers-spec : {M : Type 1} → statement M
-stage-numbers-spec =
+pub stage-numbers_spec : {M : Type 1} → statement M
+stage-numbers_spec =
     tie.close
     (tie.spec
     enum_told

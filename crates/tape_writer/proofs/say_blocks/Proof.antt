@@ -50,8 +50,8 @@ returns c = search rules
 returns-2 : tie.Need-returns-2 invariant-loop decreases-loop
 returns-2 c = search rules
 
-pub say-blocks-spec : {M : Type 1} → statement M
-say-blocks-spec =
+pub say_blocks_spec : {M : Type 1} → statement M
+say_blocks_spec =
     tie.close
     (tie.spec
     invariant-loop

@@ -32,5 +32,5 @@ rem-result c = rw (mask (c.args.high + 1 - c.args.low) (omega arith)) (pow_pos (
 returns : tie.Need-returns
 returns c = rw (mask (c.args.high + 1 - c.args.low) (omega arith))
 
-pub bits-spec : {M : Type 1} → statement M
-bits-spec = tie.close (tie.spec shr-result add-result sub-result shl-result rem-result returns)
+pub bits_spec : {M : Type 1} → statement M
+bits_spec = tie.close (tie.spec shr-result add-result sub-result shl-result rem-result returns)

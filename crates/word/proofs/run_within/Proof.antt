@@ -16,5 +16,5 @@ sub-result c = search rules
 returns-3 : tie.Need-returns-3
 returns-3 c = within-left _ _ _ _ c.before.if1.false c.if2.false
 
-pub run-within-spec : {M : Type 1} → statement M
-run-within-spec = tie.close (tie.spec returns returns-2 sub-result returns-3)
+pub run_within_spec : {M : Type 1} → statement M
+run_within_spec = tie.close (tie.spec returns returns-2 sub-result returns-3)

@@ -40,8 +40,8 @@ returns c = rw c.before.enum_told.given.1 (omega arith)
 returns-2 : tie.Need-returns-2
 returns-2 c = rw c.before.enum-told2.given.1 (omega arith)
 
-pub store-field-spec : {M : Type 1} → statement M
-store-field-spec =
+pub store_field_spec : {M : Type 1} → statement M
+store_field_spec =
     tie.close
     (tie.spec
     enum_told

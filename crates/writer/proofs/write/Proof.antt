@@ -1,7 +1,7 @@
 -- `writer::write` meets its contract: each refusal by the test that led to it, and the file in the part that is lent.
 use native.Mathlib.Omega.{arith}
-use Rattle.writer.proofs.Few.{entries_fit, body-carried}
-use Rattle.writer.proofs.Answers.{not_carried, carried, all-few, too_small, file-ready, all-written}
+use Rattle.writer.proofs.Few.{entries_fit_lem, body_carried}
+use Rattle.writer.proofs.Answers.{not_carried, carried, all_few, too_small, file_ready, all-written}
 use borrow.Author.Rules.{rules}
 use Rattle.writer.proofs.write.Statement.{statement}
 use Rattle.writer.proofs.write.Tie as tie
@@ -13,23 +13,23 @@ returns : tie.Need-returns
 returns c = not_carried _ _ _ c.before.can-carry.ensures c.if1.true
 
 count-entry-blocks-requires : tie.Need-count-entry-blocks-requires
-count-entry-blocks-requires c κs = entries_fit _ (carried _ _ c.before.can-carry.ensures c.if1.false)
+count-entry-blocks-requires c κs = entries_fit_lem _ (carried _ _ c.before.can-carry.ensures c.if1.false)
 
 count-blocks-requires : tie.Need-count-blocks-requires
-count-blocks-requires c κs = body-carried _ (carried _ _ c.before.before.can-carry.ensures c.before.if1.false)
+count-blocks-requires c κs = body_carried _ (carried _ _ c.before.before.can-carry.ensures c.before.if1.false)
 
 add-all : tie.Need-overflow-add-all
 add-all c =
     let d = c.before.before in
     let q = carried _ _ d.before.can-carry.ensures d.if1.false in
-    let f = all-few _ q _ _ c.before.count-entry-blocks.ensures c.count-blocks.ensures in
+    let f = all_few _ q _ _ c.before.count-entry-blocks.ensures c.count-blocks.ensures in
     omega arith
 
 add-all-2 : tie.Need-overflow-add-all-2
 add-all-2 c =
     let d = c.before.before in
     let q = carried _ _ d.before.can-carry.ensures d.if1.false in
-    let f = all-few _ q _ _ c.before.count-entry-blocks.ensures c.count-blocks.ensures in
+    let f = all_few _ q _ _ c.before.count-entry-blocks.ensures c.count-blocks.ensures in
     omega arith
 
 returns-2 : tie.Need-returns-2
@@ -55,7 +55,7 @@ write-file-requires c κs =
     let d = c.before.before.before.before in
     let q = carried _ _ d.before.can-carry.ensures d.if1.false in
     let k = c.before.before in
-    file-ready _ _ q _ _ k.before.count-entry-blocks.ensures k.count-blocks.ensures (omega arith)
+    file_ready _ _ q _ _ k.before.count-entry-blocks.ensures k.count-blocks.ensures (omega arith)
 
 same_length : tie.Need-same-length
 same_length c = search rules

@@ -2,7 +2,7 @@
 use Prim.Native.Nat.{◌-◌}
 use mathlib.Core.Path.{refl}
 use native.Mathlib.Omega.{arith}
-use Rattle.writer.proofs.EntryBlocks.{EntriesTo, entries-first, entries-ready, entries-more, entries-end}
+use Rattle.writer.proofs.EntryBlocks.{EntriesTo, entries-first, entries_ready, entries_more, entries_end}
 use Rattle.writer.proofs.write_entry_blocks.Statement.{statement}
 use Rattle.writer.proofs.write_entry_blocks.Tie as tie
 
@@ -36,7 +36,7 @@ part-write-entries-end c = omega arith
 write-entries-requires : tie.Need-write-entries-requires invariant-loop decreases-loop
 write-entries-requires c κs =
     let s = c.before.before.before.before.before.requires in
-    entries-ready _ _ _ s _ _ _ refl c.before.before.loop.invariant c.before.loop-test.true
+    entries_ready _ _ _ s _ _ _ refl c.before.before.loop.invariant c.before.loop-test.true
 
 add-b : tie.Need-overflow-add-b invariant-loop decreases-loop
 add-b c = omega arith
@@ -47,7 +47,7 @@ loop-less c = omega arith
 loop-again : tie.Need-loop-preserved invariant-loop decreases-loop
 loop-again c =
     let l = c.before.before.before.before.before in
-    entries-more _ _ _ l.before.before.before.requires _ _ _ refl l.loop.invariant
+    entries_more _ _ _ l.before.before.before.requires _ _ _ refl l.loop.invariant
     c.before.before.before.before.loop-test.true _ c.before.before.write_entries.ensures
 
 same_length : tie.Need-same-length invariant-loop decreases-loop
@@ -56,10 +56,10 @@ same_length c = omega arith
 returns : tie.Need-returns invariant-loop decreases-loop
 returns c =
     let l = c.before in
-    entries-end _ _ _ l.before.before.before.requires _ _ _ refl l.loop.invariant (omega arith)
+    entries_end _ _ _ l.before.before.before.requires _ _ _ refl l.loop.invariant (omega arith)
 
-pub write-entry-blocks-spec : {M : Type 1} → statement M
-write-entry-blocks-spec =
+pub write_entry_blocks_spec : {M : Type 1} → statement M
+write_entry_blocks_spec =
     tie.close
     (tie.spec
     invariant-loop

@@ -1,6 +1,6 @@
 -- `writer::write_file` meets its contract: its four parts are written, one behind the other.
 use native.Mathlib.Omega.{arith}
-use Rattle.writer.proofs.WholeFile.{room, label-ready, entry-blocks-ready, program-ready, termination-ready, file-written}
+use Rattle.writer.proofs.WholeFile.{room, label_ready, entry_blocks_ready, program_ready, termination_ready, file_written}
 use borrow.Author.Rules.{rules}
 use Rattle.writer.proofs.write_file.Statement.{statement}
 use Rattle.writer.proofs.write_file.Tie as tie
@@ -31,7 +31,7 @@ write-label-requires c κs =
     let n = c.before in
     let s = n.before.before.before.before.before.before.requires in
     let r = room _ _ _ s in
-    label-ready _ _ _ s _ _ n.count.ensures (omega arith)
+    label_ready _ _ _ s _ _ n.count.ensures (omega arith)
 
 sub-write-entry-blocks : tie.Need-overflow-sub-write-entry-blocks
 sub-write-entry-blocks c = search rules
@@ -50,7 +50,7 @@ write-entry-blocks-requires c κs =
     let n = c.before.before.before.before.before in
     let s = n.before.before.before.before.before.before.requires in
     let r = room _ _ _ s in
-    entry-blocks-ready _ _ _ s _ _ n.count.ensures (omega arith)
+    entry_blocks_ready _ _ _ s _ _ n.count.ensures (omega arith)
 
 mul-write-blocks : tie.Need-overflow-mul-write-blocks
 mul-write-blocks c =
@@ -78,7 +78,7 @@ write-blocks-requires c κs =
     let n = c.before.before.before.before.before.before.before.before.before in
     let s = n.before.before.before.before.before.before.requires in
     let r = room _ _ _ s in
-    program-ready _ _ _ s _ (omega arith)
+    program_ready _ _ _ s _ (omega arith)
 
 add-write-termination : tie.Need-overflow-add-write-termination
 add-write-termination c = search rules
@@ -103,7 +103,7 @@ write-termination-requires c κs =
     let n = c.before.before.before.before.before.before.before.before.before.before.before.before.before in
     let s = n.before.before.before.before.before.before.requires in
     let r = room _ _ _ s in
-    termination-ready _ _ _ s _ (omega arith)
+    termination_ready _ _ _ s _ (omega arith)
 
 same_length : tie.Need-same-length
 same_length c = search rules
@@ -117,12 +117,12 @@ returns c =
     let n = x.before.before in
     let s = n.before.before.before.before.before.before.requires in
     let r = room _ _ _ s in
-    file-written _ _ _ s _ n.count.ensures _ _ _ _ _ (omega arith)
+    file_written _ _ _ s _ n.count.ensures _ _ _ _ _ (omega arith)
     x.write-label.ensures y.write-entry-blocks.ensures z.write-blocks.ensures t.write-termination.ensures
     (omega arith) (omega arith) (omega arith)
 
-pub write-file-spec : {M : Type 1} → statement M
-write-file-spec =
+pub write_file_spec : {M : Type 1} → statement M
+write_file_spec =
     tie.close
     (tie.spec
     count-requires

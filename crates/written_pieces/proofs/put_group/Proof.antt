@@ -2,11 +2,11 @@
 use native.Mathlib.Omega.{arith}
 use lib.ListN.{set, length-set}
 use mathlib.Core.List.{map}
-use Rattle.source.specs.Source.{wantedFrom}
-use Rattle.forms.specs.Forms.{programWord, groupMarks, indicatorWords}
-use Rattle.written_pieces.specs.Heads.{identifier, groupWords}
+use Rattle.source.specs.Source.{wanted_from}
+use Rattle.forms.specs.Forms.{program_word, group_marks, indicator_words}
+use Rattle.written_pieces.specs.Heads.{identifier, group_words}
 use Rattle.written_pieces.proofs.Joined.{lent-long, joined}
-use Rattle.written_pieces.proofs.Putting.{length-words}
+use Rattle.written_pieces.proofs.Putting.{length_words}
 use borrow.Author.Rules.{rules}
 use Rattle.written_pieces.proofs.put_group.Statement.{statement}
 use Rattle.written_pieces.proofs.put_group.Tie as tie
@@ -65,7 +65,7 @@ same_length c =
     omega (arith, length-set b.before.before.before.args.out.now 0 b.identify.result)
 
 returns : tie.Need-returns
-unfolding groupWords
+unfolding group_words
 returns c =
     let w = c.before.before.before.before.before.before in
     let b = w.before.before in
@@ -73,14 +73,14 @@ returns c =
     let h = length-set z.args.out.now 0 b.identify.result in
     let l = set z.args.out.now 0 b.identify.result in
     let e = lent-long l 1 z.args.g.program (omega arith) in
-    let xs = wantedFrom z.args.words.now z.args.first z.args.g.program in
+    let xs = wanted_from z.args.words.now z.args.first z.args.g.program in
     rw (c.before.before.put-marks.ensures, w.put-words.ensures, e, b.identify.ensures)
-    (joined z.args.out.now (identifier z.args.g) z.args.g.program z.args.g.words (map programWord xs)
-    (indicatorWords (groupMarks xs)) z.requires.0
-    (length-words z.args.words.now z.args.first z.args.g.program) (omega arith))
+    (joined z.args.out.now (identifier z.args.g) z.args.g.program z.args.g.words (map program_word xs)
+    (indicator_words (group_marks xs)) z.requires.0
+    (length_words z.args.words.now z.args.first z.args.g.program) (omega arith))
 
-pub put-group-spec : {M : Type 1} → statement M
-put-group-spec =
+pub put_group_spec : {M : Type 1} → statement M
+put_group_spec =
     tie.close
     (tie.spec
     add-end

@@ -1,9 +1,9 @@
 -- `written_pieces::put_group_at` meets its contract: the part that is lent is all the group's.
 use Prim.Native.Nat.{◌+◌}
 use Rattle.word.proofs.Lists.{lent-whole}
-use Rattle.source.specs.Source.{wantedFrom}
-use Rattle.written_pieces.specs.Heads.{groupWords}
-use Rattle.written_pieces.proofs.Whole.{group-long}
+use Rattle.source.specs.Source.{wanted_from}
+use Rattle.written_pieces.specs.Heads.{group_words}
+use Rattle.written_pieces.proofs.Whole.{group_long}
 use borrow.Author.Rules.{rules}
 use Rattle.written_pieces.proofs.put_group_at.Statement.{statement}
 use Rattle.written_pieces.proofs.put_group_at.Tie as tie
@@ -35,13 +35,13 @@ same_length c = search rules
 returns : tie.Need-returns
 returns c =
     let z = c.before.before.before.before.before.before in
-    let xs = wantedFrom z.args.words.now z.args.first z.args.g.program in
-    rw c.before.before.put-group.ensures
-    (lent-whole z.args.out.now z.args.p (1 + z.args.g.words) (groupWords z.args.g xs) z.requires.0
-    (group-long z.args.words.now z.args.g z.args.first z.requires.1))
+    let xs = wanted_from z.args.words.now z.args.first z.args.g.program in
+    rw c.before.before.put_group.ensures
+    (lent-whole z.args.out.now z.args.p (1 + z.args.g.words) (group_words z.args.g xs) z.requires.0
+    (group_long z.args.words.now z.args.g z.args.first z.requires.1))
 
-pub put-group-at-spec : {M : Type 1} → statement M
-put-group-at-spec =
+pub put_group_at_spec : {M : Type 1} → statement M
+put_group_at_spec =
     tie.close
     (tie.spec
     add-n

@@ -1,5 +1,5 @@
 -- `written_pieces::put_piece` meets its contract: each piece by what writes it.
-use Rattle.written_pieces.specs.Heads.{pieceWords}
+use Rattle.written_pieces.specs.Heads.{piece_words}
 use borrow.Author.Rules.{rules}
 use Rattle.written_pieces.proofs.put_piece.Statement.{statement}
 use Rattle.written_pieces.proofs.put_piece.Tie as tie
@@ -32,25 +32,25 @@ same_length : tie.Need-same-length
 same_length c = search rules
 
 returns : tie.Need-returns
-unfolding pieceWords
+unfolding piece_words
 returns c = rw c.before.before.before.before.before.x.given.1 c.before.before.put-segment.ensures
 
 same-length-2 : tie.Need-same-length-2
 same-length-2 c = search rules
 
 returns-2 : tie.Need-returns-2
-unfolding pieceWords
-returns-2 c = rw c.before.before.before.before.before.x2.given.1 c.before.before.put-section.ensures
+unfolding piece_words
+returns-2 c = rw c.before.before.before.before.before.x2.given.1 c.before.before.put_section.ensures
 
 same-length-3 : tie.Need-same-length-3
 same-length-3 c = search rules
 
 returns-3 : tie.Need-returns-3
-unfolding pieceWords
+unfolding piece_words
 returns-3 c = rw c.before.before.before.before.before.x3.given.1 c.before.before.put-group-at.ensures
 
-pub put-piece-spec : {M : Type 1} → statement M
-put-piece-spec =
+pub put_piece_spec : {M : Type 1} → statement M
+put_piece_spec =
     tie.close
     (tie.spec
     enum-known-x

@@ -20,6 +20,6 @@ same_length c = search rules
 returns : tie.Need-returns
 returns c = rw c.section-word.ensures (set-splice _ _ _ (omega arith))
 
-pub put-section-spec : {M : Type 1} → statement M
-put-section-spec =
+pub put_section_spec : {M : Type 1} → statement M
+put_section_spec =
     tie.close (tie.spec section-word-requires mul-out slice-write-out same_length returns)

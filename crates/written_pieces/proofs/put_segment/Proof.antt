@@ -1,7 +1,7 @@
 -- `written_pieces::put_segment` meets its contract: its four words, one after another.
 use native.Mathlib.Omega.{arith}
 use lib.ListN.{length-set}
-use Rattle.written_pieces.proofs.Joined.{four-set}
+use Rattle.written_pieces.proofs.Joined.{four_set}
 use borrow.Author.Rules.{rules}
 use Rattle.written_pieces.proofs.put_segment.Statement.{statement}
 use Rattle.written_pieces.proofs.put_segment.Tie as tie
@@ -50,10 +50,10 @@ same_length c = search rules
 
 returns : tie.Need-returns
 returns c =
-    rw (c.bank-word2.ensures, c.before.bank-word.ensures) (four-set _ _ _ _ 0 0 c.before.before.before.requires.0)
+    rw (c.bank-word2.ensures, c.before.bank-word.ensures) (four_set _ _ _ _ 0 0 c.before.before.before.requires.0)
 
-pub put-segment-spec : {M : Type 1} → statement M
-put-segment-spec =
+pub put-segment_spec : {M : Type 1} → statement M
+put-segment_spec =
     tie.close
     (tie.spec
     bank-word-requires

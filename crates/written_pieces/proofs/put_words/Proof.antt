@@ -2,8 +2,8 @@
 use Prim.Native.Nat.{◌-◌}
 use mathlib.Core.Path.{refl, ap, ◌∙◌}
 use native.Mathlib.Omega.{arith}
-use Rattle.forms.specs.Forms.{programWord}
-use Rattle.written_pieces.proofs.Putting.{Placed, placed-none, placed-more, placed-all}
+use Rattle.forms.specs.Forms.{program_word}
+use Rattle.written_pieces.proofs.Putting.{Placed, placed-none, placed_more, placed-all}
 use Rattle.written_pieces.proofs.put_words.Statement.{statement}
 use Rattle.written_pieces.proofs.put_words.Tie as tie
 
@@ -41,8 +41,8 @@ loop-less c = omega arith
 loop-again : tie.Need-loop-preserved invariant-loop decreases-loop
 loop-again c =
     let l = c.before.before.before.loop in
-    placed-more _ _ _ _ l.out l.i l.invariant _ (omega arith)
-    (c.program-word.ensures ∙ ap programWord c.before.wanted-at.ensures)
+    placed_more _ _ _ _ l.out l.i l.invariant _ (omega arith)
+    (c.program_word_lem.ensures ∙ ap program_word c.before.wanted-at.ensures)
 
 same_length : tie.Need-same-length invariant-loop decreases-loop
 same_length c = omega arith
@@ -52,8 +52,8 @@ returns c =
     let l = c.before.loop in
     placed-all _ _ _ _ l.out l.i l.invariant (omega arith)
 
-pub put-words-spec : {M : Type 1} → statement M
-put-words-spec =
+pub put_words_spec : {M : Type 1} → statement M
+put_words_spec =
     tie.close
     (tie.spec
     invariant-loop

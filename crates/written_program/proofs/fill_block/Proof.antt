@@ -2,7 +2,7 @@
 use mathlib.Core.Path.{sym, ap, ◌∙◌}
 use lib.ListN.{length}
 use Rattle.written_program.proofs.Whole.{program-long}
-use Rattle.written_program.proofs.Filled.{begun-long, filled-whole, block-filled}
+use Rattle.written_program.proofs.Filled.{begun_long, filled-whole, block-filled}
 use borrow.Author.Rules.{rules}
 use Rattle.written_program.proofs.fill_block.Statement.{statement}
 use Rattle.written_program.proofs.fill_block.Tie as tie
@@ -17,7 +17,7 @@ fill-pieces-requires : tie.Need-fill-pieces-requires
 fill-pieces-requires c κs =
     let d = c.before.before.before in
     let s = d.before.before.before.before.before.before.requires in
-    record { far = s.far; long = begun-long _ _ s.long d.clear.ensures }
+    record { far = s.far; long = begun_long _ _ s.long d.clear.ensures }
 
 seal-requires : tie.Need-seal-requires
 seal-requires c κs =
@@ -40,8 +40,8 @@ same_length c =
     let s = d.before.before.before.before.before.before.requires in
     ap length (returns c).left ∙ program-long _ s.far.carried _ s.far.reached ∙ sym s.long
 
-pub fill-block-spec : {M : Type 1} → statement M
-fill-block-spec =
+pub fill_block_spec : {M : Type 1} → statement M
+fill_block_spec =
     tie.close
     (tie.spec
     clear-requires

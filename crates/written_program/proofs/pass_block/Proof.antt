@@ -1,6 +1,6 @@
 -- `written_program::pass_block` meets its contract: what is left of the block from here on is what there was at the start.
 use Prim.Native.Nat.{◌-◌}
-use Rattle.written_program.proofs.Turns.{PassTo, pass-first, pass-more, pass-over, put_next, put-room, closed, stopped, full}
+use Rattle.written_program.proofs.Turns.{PassTo, pass_first, pass_more, pass_over, put_next, put_room, closed, stopped, full}
 use borrow.Author.Rules.{rules}
 use native.Mathlib.Omega.{arith}
 use Rattle.written_program.proofs.pass_block.Statement.{statement}
@@ -13,7 +13,7 @@ abbrev decreases-loop : tie.decreases-loop
 decreases-loop head sections words c₀ p₀ c p = 255 - p
 
 loop-holds : tie.Need-loop-init invariant-loop decreases-loop
-loop-holds c = let s = c.before.before.before.requires in pass-first _ s.carried _ s.reached
+loop-holds c = let s = c.before.before.before.requires in pass_first _ s.carried _ s.reached
 
 next-at-requires : tie.Need-next-at-requires invariant-loop decreases-loop
 next-at-requires c κs =
@@ -26,24 +26,24 @@ enum-known-x c = search rules
 piece-size-requires : tie.Need-piece-size-requires invariant-loop decreases-loop
 piece-size-requires c κs =
     let d = c.before in
-    omega (arith, put-room _ _ _ _ d.before.before.next-at.ensures _ _ d.x.given.1)
+    omega (arith, put_room _ _ _ _ d.before.before.next_at_lem.ensures _ _ d.x.given.1)
 
 add-p : tie.Need-overflow-add-p invariant-loop decreases-loop
 add-p c =
     let d = c.before.before in
-    omega (arith, put-room _ _ _ _ d.before.before.next-at.ensures _ _ d.x.given.1)
+    omega (arith, put_room _ _ _ _ d.before.before.next_at_lem.ensures _ _ d.x.given.1)
 
 loop-less : tie.Need-loop-smaller invariant-loop decreases-loop
 loop-less c =
     let d = c.before.before in
-    omega (arith, put-room _ _ _ _ d.before.before.next-at.ensures _ _ d.x.given.1)
+    omega (arith, put_room _ _ _ _ d.before.before.next_at_lem.ensures _ _ d.x.given.1)
 
 loop-again : tie.Need-loop-preserved invariant-loop decreases-loop
 loop-again c =
     let d = c.before.before in
     let l = d.before.before.before.before.loop in
     let s = d.before.before.before.before.before.before.before.before.requires in
-    pass-more _ s.carried _ _ _ l.invariant _ _ _ (put_next _ _ _ _ d.before.before.next-at.ensures _ _ d.x.given.1)
+    pass_more _ s.carried _ _ _ l.invariant _ _ _ (put_next _ _ _ _ d.before.before.next_at_lem.ensures _ _ d.x.given.1)
     c.piece-size.ensures
 
 enum_told : tie.Need-enum-told invariant-loop decreases-loop
@@ -53,7 +53,7 @@ returns : tie.Need-returns invariant-loop decreases-loop
 returns c =
     let l = c.before.before.before.before.loop in
     let s = c.before.before.before.before.before.before.before.before.requires in
-    pass-over _ s.carried _ _ _ l.invariant (closed _ _ _ _ c.before.before.next-at.ensures c.enum_told.given.1)
+    pass_over _ s.carried _ _ _ l.invariant (closed _ _ _ _ c.before.before.next_at_lem.ensures c.enum_told.given.1)
 
 enum-told-2 : tie.Need-enum-told-2 invariant-loop decreases-loop
 enum-told-2 c = search rules
@@ -62,16 +62,16 @@ returns-2 : tie.Need-returns-2 invariant-loop decreases-loop
 returns-2 c =
     let l = c.before.before.before.before.loop in
     let s = c.before.before.before.before.before.before.before.before.requires in
-    pass-over _ s.carried _ _ _ l.invariant (stopped _ _ _ _ c.before.before.next-at.ensures c.enum-told2.given.1)
+    pass_over _ s.carried _ _ _ l.invariant (stopped _ _ _ _ c.before.before.next_at_lem.ensures c.enum-told2.given.1)
 
 returns-3 : tie.Need-returns-3 invariant-loop decreases-loop
 returns-3 c =
     let l = c.before.loop in
     let s = c.before.before.before.before.before.requires in
-    pass-over _ s.carried _ _ _ l.invariant (full _ _ _ (omega arith))
+    pass_over _ s.carried _ _ _ l.invariant (full _ _ _ (omega arith))
 
-pub pass-block-spec : {M : Type 1} → statement M
-pass-block-spec =
+pub pass_block_spec : {M : Type 1} → statement M
+pass_block_spec =
     tie.close
     (tie.spec
     invariant-loop

@@ -2,7 +2,7 @@
 use Prim.Native.Nat.{◌-◌}
 use lib.ListN.{length}
 use Rattle.cutting.specs.Cut.{cut}
-use Rattle.written_program.proofs.Blocks.{WriteTo, write-first, write-ready, write-more, write-end}
+use Rattle.written_program.proofs.Blocks.{WriteTo, write_first, write_ready, write_more, write_end}
 use native.Mathlib.Omega.{arith}
 use Rattle.written_program.proofs.write_blocks.Statement.{statement}
 use Rattle.written_program.proofs.write_blocks.Tie as tie
@@ -16,7 +16,7 @@ decreases-loop out₀ head sections words n c₀ k₀ out c k =
     length (cut (record { head = head; sections = sections; words = words })) - k
 
 loop-holds : tie.Need-loop-init invariant-loop decreases-loop
-loop-holds c = let s = c.before.before.before.before.requires in write-first _ s.carried _ s.long
+loop-holds c = let s = c.before.before.before.before.requires in write_first _ s.carried _ s.long
 
 mul-a : tie.Need-overflow-mul-a invariant-loop decreases-loop
 mul-a c = omega arith
@@ -40,7 +40,7 @@ fill-block-requires : tie.Need-fill-block-requires invariant-loop decreases-loop
 fill-block-requires c κs =
     let s = c.before.before.before.before.before.before.before.requires in
     let l = c.before.before.loop in
-    write-ready _ s.carried _ s.long _ _ _ l.invariant (omega arith)
+    write_ready _ s.carried _ s.long _ _ _ l.invariant (omega arith)
 
 add-k : tie.Need-overflow-add-k invariant-loop decreases-loop
 add-k c = omega arith
@@ -52,7 +52,7 @@ loop-again : tie.Need-loop-preserved invariant-loop decreases-loop
 loop-again c =
     let s = c.before.before.before.before.before.before.before.before.before.before.requires in
     let l = c.before.before.before.before.before.loop in
-    write-more _ s.carried _ s.long _ _ _ l.invariant (omega arith) _ _ c.before.before.fill-block.ensures
+    write_more _ s.carried _ s.long _ _ _ l.invariant (omega arith) _ _ c.before.before.fill-block.ensures
 
 same_length : tie.Need-same-length invariant-loop decreases-loop
 same_length c = omega arith
@@ -61,10 +61,10 @@ returns : tie.Need-returns invariant-loop decreases-loop
 returns c =
     let s = c.before.before.before.before.before.before.requires in
     let l = c.before.loop in
-    write-end _ s.carried _ s.long _ _ _ l.invariant (omega arith)
+    write_end _ s.carried _ s.long _ _ _ l.invariant (omega arith)
 
-pub write-blocks-spec : {M : Type 1} → statement M
-write-blocks-spec =
+pub write_blocks_spec : {M : Type 1} → statement M
+write_blocks_spec =
     tie.close
     (tie.spec
     invariant-loop

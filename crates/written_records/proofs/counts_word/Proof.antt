@@ -1,5 +1,5 @@
 -- `written_records::counts_word` meets its contract: the counts are small.
-use Rattle.written_records.proofs.Words.{tables-most}
+use Rattle.written_records.proofs.Words.{tables_most_lem}
 use Rattle.label.proofs.Tables.{few}
 use native.Mathlib.Omega.{arith}
 use borrow.Author.Rules.{rules}
@@ -16,43 +16,43 @@ mul-result-2 : tie.Need-overflow-mul-result-2
 mul-result-2 c =
     let s = c.before in
     let f = few s.args.c s.requires.1 in
-    omega (arith, tables-most s.args.c)
+    omega (arith, tables_most_lem s.args.c)
 
 add-result : tie.Need-overflow-add-result
 add-result c =
     let s = c.before in
     let f = few s.args.c s.requires.1 in
-    omega (arith, tables-most s.args.c)
+    omega (arith, tables_most_lem s.args.c)
 
 add-result-2 : tie.Need-overflow-add-result-2
 add-result-2 c =
     let s = c.before.before in
     let f = few s.args.c s.requires.1 in
-    omega (arith, tables-most s.args.c)
+    omega (arith, tables_most_lem s.args.c)
 
 add-result-3 : tie.Need-overflow-add-result-3
 add-result-3 c =
     let s = c.before.before.before in
     let f = few s.args.c s.requires.1 in
-    omega (arith, tables-most s.args.c)
+    omega (arith, tables_most_lem s.args.c)
 
 add-result-4 : tie.Need-overflow-add-result-4
 add-result-4 c =
     let s = c.before.before.before.before in
     let f = few s.args.c s.requires.1 in
-    omega (arith, tables-most s.args.c)
+    omega (arith, tables_most_lem s.args.c)
 
 add-result-5 : tie.Need-overflow-add-result-5
 add-result-5 c =
     let s = c.before.before.before.before in
     let f = few s.args.c s.requires.1 in
-    omega (arith, tables-most s.args.c)
+    omega (arith, tables_most_lem s.args.c)
 
 returns : tie.Need-returns
 returns c = search rules
 
-pub counts-word-spec : {M : Type 1} → statement M
-counts-word-spec =
+pub counts_word_spec : {M : Type 1} → statement M
+counts_word_spec =
     tie.close
     (tie.spec
     mul-result

@@ -1,7 +1,7 @@
 -- `written_records::entry_word` meets its contract: the entry is one with two words, or one of those behind them.
 use Prim.Native.Nat.{◌*◌}
 use borrow.Author.Tests.{lt-ltb, le-ltb}
-use Rattle.written_records.specs.Records.{entryWordAt}
+use Rattle.written_records.specs.Records.{entry_word_at}
 use native.Mathlib.Omega.{arith}
 use borrow.Author.Rules.{rules}
 use Rattle.written_records.proofs.entry_word.Statement.{statement}
@@ -17,10 +17,10 @@ word-of-requires : tie.Need-word-of-requires
 word-of-requires c κs = search rules
 
 returns : tie.Need-returns
-unfolding entryWordAt
+unfolding entry_word_at
 returns c =
     let a = c.before.before.before.before.args in
-    rw (lt-ltb a.k (2 * a.io) c.before.before.if1.true, c.word-of.ensures, c.before.entry_at.ensures)
+    rw (lt-ltb a.k (2 * a.io) c.before.before.if1.true, c.word_of_lem.ensures, c.before.entry_at.ensures)
 
 mul-m : tie.Need-overflow-mul-m
 mul-m c = search rules
@@ -38,13 +38,13 @@ word-of-requires-2 : tie.Need-word-of-requires-2
 word-of-requires-2 c κs = search rules
 
 returns-2 : tie.Need-returns-2
-unfolding entryWordAt
+unfolding entry_word_at
 returns-2 c =
     let a = c.before.before.before.before.args in
     rw (le-ltb a.k (2 * a.io) (omega arith), c.word-of2.ensures, c.before.entry-at2.ensures)
 
-pub entry-word-spec : {M : Type 1} → statement M
-entry-word-spec =
+pub entry_word_spec : {M : Type 1} → statement M
+entry_word_spec =
     tie.close
     (tie.spec
     mul-if1

@@ -9,5 +9,5 @@ returns c = search tests
 returns-2 : tie.Need-returns-2
 returns-2 c = search tests
 
-pub one-if-spec : {M : Type 1} → statement M
-one-if-spec = tie.close (tie.spec returns returns-2)
+pub one_if_spec : {M : Type 1} → statement M
+one_if_spec = tie.close (tie.spec returns returns-2)

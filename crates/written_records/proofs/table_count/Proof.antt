@@ -1,5 +1,5 @@
 -- `written_records::table_count` meets its contract: the table words are counted one by one.
-use Rattle.written_records.proofs.Words.{one-most, tables-counted}
+use Rattle.written_records.proofs.Words.{one_most, tables-counted}
 use native.Mathlib.Omega.{arith}
 use borrow.Author.Rules.{rules}
 use Rattle.written_records.proofs.table_count.Statement.{statement}
@@ -12,7 +12,7 @@ one-if-requires-2 : tie.Need-one-if-requires-2
 one-if-requires-2 c κs = search rules
 
 add-result : tie.Need-overflow-add-result
-add-result c = let n = c.before.before.args.c in omega (arith, one-most 0 n.switches, one-most 0 n.channels)
+add-result c = let n = c.before.before.args.c in omega (arith, one_most 0 n.switches, one_most 0 n.channels)
 
 one-if-requires-3 : tie.Need-one-if-requires-3
 one-if-requires-3 c κs = search rules
@@ -20,7 +20,7 @@ one-if-requires-3 c κs = search rules
 add-result-2 : tie.Need-overflow-add-result-2
 add-result-2 c =
     let n = c.before.before.before.args.c in
-    omega (arith, one-most 0 n.switches, one-most 0 n.channels, one-most 0 n.units)
+    omega (arith, one_most 0 n.switches, one_most 0 n.channels, one_most 0 n.units)
 
 one-if-requires-4 : tie.Need-one-if-requires-4
 one-if-requires-4 c κs = search rules
@@ -28,13 +28,13 @@ one-if-requires-4 c κs = search rules
 add-result-3 : tie.Need-overflow-add-result-3
 add-result-3 c =
     let n = c.before.before.before.before.args.c in
-    omega (arith, one-most 0 n.switches, one-most 0 n.channels, one-most 0 n.units, one-most 0 n.tables)
+    omega (arith, one_most 0 n.switches, one_most 0 n.channels, one_most 0 n.units, one_most 0 n.tables)
 
 returns : tie.Need-returns
 returns c = omega (arith, tables-counted c.before.before.before.before.args.c)
 
-pub table-count-spec : {M : Type 1} → statement M
-table-count-spec =
+pub table-count_spec : {M : Type 1} → statement M
+table-count_spec =
     tie.close
     (tie.spec
     one-if-requires

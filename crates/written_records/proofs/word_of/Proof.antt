@@ -12,5 +12,5 @@ returns-2 c = search tests
 returns-3 : tie.Need-returns-3
 returns-3 c = search tests
 
-pub word-of-spec : {M : Type 1} → statement M
-word-of-spec = tie.close (tie.spec returns returns-2 returns-3)
+pub word_of_spec : {M : Type 1} → statement M
+word_of_spec = tie.close (tie.spec returns returns-2 returns-3)

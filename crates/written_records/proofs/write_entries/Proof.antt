@@ -2,21 +2,21 @@
 use Prim.Native.Nat.{◌≤◌, ◌-◌}
 use mathlib.Core.Path.{◌≡◌, sym, ap, ◌∙◌}
 use lib.ListN.{length, length-set}
-use Rattle.word.specs.Limits.{wordsInBlock}
-use Rattle.block.specs.Block.{wholeBlock, sealedAnew}
-use Rattle.modification.specs.Entries.{entryWordsInBlock}
-use Rattle.written_records.specs.Records.{entriesFor}
-use Rattle.written_records.proofs.Steps.{entriesTo, entries_none, entries-more, entries-all}
+use Rattle.word.specs.Limits.{words_in_block}
+use Rattle.block.specs.Block.{whole_block, sealed_anew}
+use Rattle.modification.specs.Entries.{entry_words_in_block}
+use Rattle.written_records.specs.Records.{entries_for}
+use Rattle.written_records.proofs.Steps.{entries_to, entries_none, entries_more, entries-all}
 use Rattle.written_records.proofs.Blocks.{entries-whole, entries-long}
 use native.Mathlib.Omega.{arith}
 use Rattle.written_records.proofs.write_entries.Statement.{statement}
 use Rattle.written_records.proofs.write_entries.Tie as tie
 
 abbrev invariant-loop : tie.invariant-loop
-invariant-loop out₀ entries c b i₀ out i = (i ≤ entryWordsInBlock) × (length out ≡ wordsInBlock) × (out ≡ entriesTo entries c b i)
+invariant-loop out₀ entries c b i₀ out i = (i ≤ entry_words_in_block) × (length out ≡ words_in_block) × (out ≡ entries_to entries c b i)
 
 abbrev decreases-loop : tie.decreases-loop
-decreases-loop out₀ entries c b i₀ out i = entryWordsInBlock - i
+decreases-loop out₀ entries c b i₀ out i = entry_words_in_block - i
 
 clear-requires : tie.Need-clear-requires invariant-loop decreases-loop
 clear-requires c κs = omega arith
@@ -63,29 +63,29 @@ loop-again c =
     let l = c.before.before.loop in (
       omega arith,
       simp length-set (omega arith),
-      entries-more _ _ _ l.i _ _ (omega arith) c.entry-word-or.ensures l.invariant.2,
+      entries_more _ _ _ l.i _ _ (omega arith) c.entry-word-or.ensures l.invariant.2,
     )
 
 seal-requires : tie.Need-seal-requires invariant-loop decreases-loop
 seal-requires c κs =
     let s = c.before.before.before.before.before.before.before.before.before in
     let l = c.before.before.loop in
-    ap wholeBlock (entries-all _ _ _ l.i _ (omega arith) l.invariant.2)
+    ap whole_block (entries-all _ _ _ l.i _ (omega arith) l.invariant.2)
     ∙ entries-whole _ _ _ s.requires.entries_fit s.requires.counts
 
 returns : tie.Need-returns invariant-loop decreases-loop
-unfolding entriesFor
+unfolding entries_for
 returns c =
     let l = c.before.before.before.before.before.loop in
-    c.before.before.seal.ensures ∙ ap (sealedAnew 255) (entries-all _ _ _ l.i _ (omega arith) l.invariant.2)
+    c.before.before.seal.ensures ∙ ap (sealed_anew 255) (entries-all _ _ _ l.i _ (omega arith) l.invariant.2)
 
 same_length : tie.Need-same-length invariant-loop decreases-loop
 same_length c =
     let s = c.before.before.before.before.before.before.before.before.before.before.before.before in
     ap length (returns c) ∙ entries-long _ _ _ s.requires.entries_fit s.requires.counts ∙ sym s.requires.long
 
-pub write-entries-spec : {M : Type 1} → statement M
-write-entries-spec =
+pub write_entries_spec : {M : Type 1} → statement M
+write_entries_spec =
     tie.close
     (tie.spec
     invariant-loop

@@ -2,8 +2,8 @@
 use mathlib.Core.Path.{sym, ap, ◌∙◌}
 use lib.ListN.{length, length-set}
 use Rattle.block.proofs.OnePass.{whole_long}
-use Rattle.source.proofs.Whole.{head-long}
-use Rattle.written_records.proofs.Words.{exact-most}
+use Rattle.source.proofs.Whole.{head_long}
+use Rattle.written_records.proofs.Words.{exact_most}
 use Rattle.written_records.proofs.Steps.{front-written}
 use Rattle.written_records.proofs.Blocks.{front-whole}
 use native.Mathlib.Omega.{arith}
@@ -16,14 +16,14 @@ clear-requires c κs = search rules
 
 shared-slice-read-out : tie.Need-shared-slice-read-out
 shared-slice-read-out c =
-    omega (arith, head-long _ c.before.before.before.before.before.before.before.requires.head-fits)
+    omega (arith, head_long _ c.before.before.before.before.before.before.before.requires.head_fits_lem)
 
 slice-write-out : tie.Need-slice-write-out
 slice-write-out c = search rules
 
 shared-slice-read-out-2 : tie.Need-shared-slice-read-out-2
 shared-slice-read-out-2 c =
-    omega (arith, head-long _ c.before.before.before.before.before.before.before.before.requires.head-fits)
+    omega (arith, head_long _ c.before.before.before.before.before.before.before.before.requires.head_fits_lem)
 
 slice-write-out-2 : tie.Need-slice-write-out-2
 slice-write-out-2 c = simp length-set (omega arith)
@@ -34,12 +34,12 @@ slice-write-out-3 c = simp length-set (omega arith)
 shared-slice-read-counts-word : tie.Need-shared-slice-read-counts-word
 shared-slice-read-counts-word c =
     let s = c.before.before.before.before.before.before.before.before.before in
-    omega (arith, head-long _ s.requires.head-fits)
+    omega (arith, head_long _ s.requires.head_fits_lem)
 
 counts-word-requires : tie.Need-counts-word-requires
 counts-word-requires c κs =
     let s = c.before.before.before.before.before.before.before.before.before in
-    (exact-most _ s.requires.head-fits, s.requires.counts)
+    (exact_most _ s.requires.head_fits_lem, s.requires.counts)
 
 slice-write-out-4 : tie.Need-slice-write-out-4
 slice-write-out-4 c = simp length-set (omega arith)
@@ -60,11 +60,11 @@ same_length : tie.Need-same-length
 same_length c =
     let s = c.before.before.before.before.before.before.before.before.before.before.before.before.before.before in
     ap length (returns c)
-    ∙ whole_long _ (front-whole s.args.head.now s.args.c s.requires.head-fits s.requires.counts)
+    ∙ whole_long _ (front-whole s.args.head.now s.args.c s.requires.head_fits_lem s.requires.counts)
     ∙ sym s.requires.long
 
-pub write-front-spec : {M : Type 1} → statement M
-write-front-spec =
+pub write_front_spec : {M : Type 1} → statement M
+write_front_spec =
     tie.close
     (tie.spec
     clear-requires

@@ -1,5 +1,5 @@
 -- `written_records::write_table` meets its contract: no word, or one.
-use Rattle.written_records.proofs.Steps.{table_none, table-one}
+use Rattle.written_records.proofs.Steps.{table_none, table_one}
 use native.Mathlib.Omega.{arith}
 use borrow.Author.Rules.{rules}
 use Rattle.written_records.proofs.write_table.Statement.{statement}
@@ -27,9 +27,9 @@ same_length : tie.Need-same-length
 same_length c = search rules
 
 returns-2 : tie.Need-returns-2
-returns-2 c = table-one _ _ c.before.args.t _ c.if1.false (omega arith)
+returns-2 c = table_one _ _ c.before.args.t _ c.if1.false (omega arith)
 
-pub write-table-spec : {M : Type 1} → statement M
-write-table-spec =
+pub write_table_spec : {M : Type 1} → statement M
+write_table_spec =
     tie.close
     (tie.spec returns mul-out add-out mul-out-2 slice-write-out add-result same_length returns-2)

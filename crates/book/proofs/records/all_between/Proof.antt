@@ -5,7 +5,7 @@ use native.Mathlib.Omega.{arith}
 use lib.ListN.{length, drop}
 use Rattle.word.specs.Lists.{every}
 use Rattle.book.specs.Book.{between}
-use Rattle.book.proofs.Record.{between_more, between-low, between-high, between_ends}
+use Rattle.book.proofs.Record.{between_more, between_low, between_high, between_ends}
 use Rattle.book.proofs.records.all_between.Statement.{statement}
 use Rattle.book.proofs.records.all_between.Tie as tie
 
@@ -24,12 +24,12 @@ shared-slice-read-b c = omega arith
 returns : tie.Need-returns invariant-loop decreases-loop
 returns c =
     let l = c.before.before.before.loop in
-    between-low _ _ _ l.i _ (omega arith) (omega arith) l.invariant.1
+    between_low _ _ _ l.i _ (omega arith) (omega arith) l.invariant.1
 
 returns-2 : tie.Need-returns-2 invariant-loop decreases-loop
 returns-2 c =
     let l = c.before.before.before.before.loop in
-    between-high _ _ _ l.i _ (omega arith) (omega arith) (omega arith) l.invariant.1
+    between_high _ _ _ l.i _ (omega arith) (omega arith) (omega arith) l.invariant.1
 
 add-i : tie.Need-overflow-add-i invariant-loop decreases-loop
 add-i c = omega arith
@@ -45,8 +45,8 @@ loop-again c =
 returns-3 : tie.Need-returns-3 invariant-loop decreases-loop
 returns-3 c = let l = c.before.loop in between_ends _ _ _ l.i _ (omega arith) l.invariant.1
 
-pub all-between-spec : {M : Type 1} → statement M
-all-between-spec =
+pub all-between_spec : {M : Type 1} → statement M
+all-between_spec =
     tie.close
     (tie.spec
     invariant-loop

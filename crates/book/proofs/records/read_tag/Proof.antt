@@ -2,7 +2,7 @@
 use native.Mathlib.Omega.{arith}
 use borrow.Author.Rules.{rules}
 use Rattle.block.specs.Fieldata.{spelt}
-use Rattle.book.proofs.Record.{codes-are}
+use Rattle.book.proofs.Record.{codes_are}
 use Rattle.book.proofs.records.read_tag.Statement.{statement}
 use Rattle.book.proofs.records.read_tag.Tie as tie
 
@@ -95,10 +95,10 @@ add-result-2 c = let g = c.shared-slice-known6.given in omega (arith, g 1, g 2, 
 
 returns : tie.Need-returns
 unfolding spelt
-returns c = rw (codes-are _ c.before.before.before.before.before.before.requires)
+returns c = rw (codes_are _ c.before.before.before.before.before.before.requires)
 
-pub read-tag-spec : {M : Type 1} → statement M
-read-tag-spec =
+pub read-tag_spec : {M : Type 1} → statement M
+read-tag_spec =
     tie.close
     (tie.spec
     mul-w

@@ -2,7 +2,7 @@
 use Prim.Native.Nat.{◌*◌}
 use borrow.Author.Rules.{rules}
 use Rattle.word.proofs.Lists.{range-lent}
-use Rattle.book.specs.Book.{recordBytes, recordAt}
+use Rattle.book.specs.Book.{record_bytes, record_at}
 use Rattle.book.proofs.records.record_at.Statement.{statement}
 use Rattle.book.proofs.records.record_at.Tie as tie
 
@@ -22,9 +22,9 @@ part-result-end : tie.Need-slice-bounds-result-end
 part-result-end c = search rules
 
 returns : tie.Need-returns
-unfolding recordAt
-returns c = let a = c.before.args in range-lent a.book.now (a.i * recordBytes) recordBytes
+unfolding record_at
+returns c = let a = c.before.args in range-lent a.book.now (a.i * record_bytes) record_bytes
 
-pub record-at-spec : {M : Type 1} → statement M
-record-at-spec =
+pub record_at_spec : {M : Type 1} → statement M
+record_at_spec =
     tie.close (tie.spec mul-a add-result sub-result part-result-start part-result-end returns)

@@ -1,5 +1,5 @@
 -- `book::tags::read_tags` meets its contract: kind after kind.
-use Rattle.book.specs.HowKept.{withAllTags}
+use Rattle.book.specs.HowKept.{with_all_tags}
 use borrow.Author.Rules.{rules}
 use Rattle.book.proofs.tags.read_tags.Statement.{statement}
 use Rattle.book.proofs.tags.read_tags.Tie as tie
@@ -17,7 +17,7 @@ same_length : tie.Need-same-length
 same_length c = search rules
 
 returns : tie.Need-returns
-unfolding withAllTags
+unfolding with_all_tags
 returns c =
     rw (
       c.before.before.read-kind3.ensures,
@@ -25,7 +25,7 @@ returns c =
       c.before.before.before.before.before.before.before.before.before.before.read-kind.ensures,
     )
 
-pub read-tags-spec : {M : Type 1} → statement M
-read-tags-spec =
+pub read_tags_spec : {M : Type 1} → statement M
+read_tags_spec =
     tie.close
     (tie.spec read-kind-requires read-kind-requires-2 read-kind-requires-3 same_length returns)

@@ -26,6 +26,6 @@ returns-2 c = sym (ap start_of c.enum-told2.given.1)
 returns-3 : tie.Need-returns-3
 returns-3 c = sym (ap start_of c.enum-told3.given.1)
 
-pub start-of-spec : {M : Type 1} → statement M
-start-of-spec =
+pub start_of_spec : {M : Type 1} → statement M
+start_of_spec =
     tie.close (tie.spec enum_told enum-told-2 enum-told-3 mul-result returns returns-2 returns-3)

@@ -1,7 +1,7 @@
 -- `book::tags::tag_of` meets its contract: each arm by its kind.
 use Prim.Native.Nat.{ℕ, ◌+◌}
 use mathlib.Core.Path.{ap, ◌∙◌}
-use Rattle.front.specs.Front.{entryWord}
+use Rattle.front.specs.Front.{entry_word}
 use Rattle.book.specs.Tags.{tag_of}
 use borrow.Author.Rules.{rules}
 use Rattle.book.proofs.tags.tag_of.Statement.{statement}
@@ -47,14 +47,14 @@ returns : tie.Need-returns
 unfolding tag_of
 returns c =
     rw c.before.before.enum_told.given.1
-    (c.entry-word.ensures ∙ ap (entryWord c.before.before.before.before.before.before.before.args.blocks.now)
+    (c.entry_word_lem.ensures ∙ ap (entry_word c.before.before.before.before.before.before.before.args.blocks.now)
     c.before.io-entry.ensures)
 
 returns-2 : tie.Need-returns-2
 unfolding tag_of
 returns-2 c =
     rw c.before.before.enum-told2.given.1
-    (c.entry-word2.ensures ∙ ap (entryWord c.before.before.before.before.before.before.before.args.blocks.now)
+    (c.entry-word2.ensures ∙ ap (entry_word c.before.before.before.before.before.before.before.args.blocks.now)
     c.before.core-entry.ensures)
 
 returns-3 : tie.Need-returns-3
@@ -62,11 +62,11 @@ unfolding tag_of
 returns-3 c =
     rw c.before.before.enum-told3.given.1
     (c.entry-word3.ensures ∙ ap
-    (λ (k : ℕ). entryWord c.before.before.before.before.before.before.before.args.blocks.now (k + 1))
+    (λ (k : ℕ). entry_word c.before.before.before.before.before.before.before.args.blocks.now (k + 1))
     c.before.core-entry2.ensures)
 
-pub tag-of-spec : {M : Type 1} → statement M
-tag-of-spec =
+pub tag_of_spec : {M : Type 1} → statement M
+tag_of_spec =
     tie.close
     (tie.spec
     add-io

@@ -55,8 +55,8 @@ returns-4 c = rw c.before.a3.given.1
 returns-5 : tie.Need-returns-5
 returns-5 c = rw c.enum-told2.given.1
 
-pub pack-file-spec : {M : Type 1} → statement M
-pack-file-spec =
+pub pack_file_spec : {M : Type 1} → statement M
+pack_file_spec =
     tie.close
     (tie.spec
     enum-known-a

@@ -4,7 +4,7 @@ use mathlib.Core.Path.{◌≡◌}
 use native.Mathlib.Omega.{arith}
 use lib.ListN.{length, length-set}
 use Rattle.calls.specs.Make.{freed}
-use Rattle.calls.proofs.Made.{freed-none, freed-more}
+use Rattle.calls.proofs.Made.{freed-none, freed_more}
 use Rattle.calls.proofs.make.clear_places.Statement.{statement}
 use Rattle.calls.proofs.make.clear_places.Tie as tie
 
@@ -36,7 +36,7 @@ loop-less : tie.Need-loop-smaller invariant-loop decreases-loop
 loop-less c = omega arith
 
 loop-again : tie.Need-loop-preserved invariant-loop decreases-loop
-loop-again c = (omega arith, simp length-set (omega arith), freed-more _ _ _ c.before.loop.invariant.2)
+loop-again c = (omega arith, simp length-set (omega arith), freed_more _ _ _ c.before.loop.invariant.2)
 
 same_length : tie.Need-same-length invariant-loop decreases-loop
 same_length c = omega arith
@@ -44,8 +44,8 @@ same_length c = omega arith
 returns : tie.Need-returns invariant-loop decreases-loop
 returns c = let e : c.before.loop.p ≡ 12 = omega arith in rw e at c.before.loop.invariant.2
 
-pub clear-places-spec : {M : Type 1} → statement M
-clear-places-spec =
+pub clear-places_spec : {M : Type 1} → statement M
+clear-places_spec =
     tie.close
     (tie.spec
     invariant-loop

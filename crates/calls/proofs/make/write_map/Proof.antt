@@ -28,8 +28,8 @@ returns c =
     ∙ ap (splice s.args.desk.now 1)
     (map-copied _ _ s.requires.1 c.before.before.before.before.before.before.copy-in.ensures)
 
-pub write-map-spec : {M : Type 1} → statement M
-write-map-spec =
+pub write_map_spec : {M : Type 1} → statement M
+write_map_spec =
     tie.close
     (tie.spec
     slice-aggregate-copy-in

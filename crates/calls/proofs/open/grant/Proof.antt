@@ -2,13 +2,13 @@
 use mathlib.Core.Path.{refl, sym, ap, ◌∙◌}
 use native.Mathlib.Omega.{arith}
 use lib.ListN.{length}
-use borrow.Author.Tests.{not-true, not-false}
-use Rattle.lists.proofs.Take.{taken-words, taken-nothing}
+use borrow.Author.Tests.{not_true, not-false}
+use Rattle.lists.proofs.Take.{taken_words, taken_nothing}
 use Rattle.layout.proofs.Places.{lists_length}
-use Rattle.rooms.specs.Rooms.{placeRefusal, lowestFree}
+use Rattle.rooms.specs.Rooms.{place_refusal, lowest_free}
 use Rattle.desk.proofs.Facts.{sound-long}
-use Rattle.calls.proofs.Grant.{area-in-core, area_small, none-due, place_inside, place-long, desk-written, words_inside}
-use Rattle.calls.proofs.Grant.{words-lent, grant-denied, grant-outside, grant-unlisted, grant-given}
+use Rattle.calls.proofs.Grant.{area_in_core, area_small, none-due, place_inside, place-long, desk_written, words_inside}
+use Rattle.calls.proofs.Grant.{words_lent, grant_denied, grant_outside, grant_unlisted, grant_given}
 use borrow.Author.Rules.{rules}
 use Rattle.calls.proofs.open.grant.Statement.{statement}
 use Rattle.calls.proofs.open.grant.Tie as tie
@@ -34,7 +34,7 @@ returns c =
     let s = i.before.before.before.before.before.before.before.before.before in
     let e = i.before.before.before.read-holders.ensures in
     rw c.fault-of.ensures
-    (grant-denied _ _ _ _ _ _ _ (i.before.place-refusal.ensures ∙ ap (placeRefusal s.args.room) e) i.if1.true)
+    (grant_denied _ _ _ _ _ _ _ (i.before.place-refusal.ensures ∙ ap (place_refusal s.args.room) e) i.if1.true)
 
 area-fits-requires : tie.Need-area-fits-requires
 area-fits-requires c κs =
@@ -49,8 +49,8 @@ returns-2 c =
     let i = c.before.before.before in
     let e = i.before.before.before.read-holders.ensures in
     let f = none-due _ _ e _ _ i.before.place-refusal.ensures i.if1.false in
-    grant-outside _ _ _ _ _ _ f
-    (sym c.before.area-fits.ensures ∙ not-true _ c.if2.true)
+    grant_outside _ _ _ _ _ _ f
+    (sym c.before.area-fits.ensures ∙ not_true _ c.if2.true)
 
 slice-aggregate-take-lists : tie.Need-slice-aggregate-take-lists
 slice-aggregate-take-lists c = search rules
@@ -107,7 +107,7 @@ slice-aggregate-write-place : tie.Need-slice-aggregate-write-place
 slice-aggregate-write-place c =
     let m = c.before.before.before.before.before in
     let k = rw m.n.given.1 at m.before.before.before.take-lists.ensures in
-    (taken-words _ _ _ _ _ _ k).1 ∙ sym (ap length (words-lent _ _ _ _ _ _ k refl))
+    (taken_words _ _ _ _ _ _ k).1 ∙ sym (ap length (words_lent _ _ _ _ _ _ k refl))
 
 write-place-requires : tie.Need-write-place-requires
 write-place-requires c κs =
@@ -124,8 +124,8 @@ write-place-requires c κs =
       lists = record {
         long = lists_length _ m;
         small = area_small _ s.requires.desk _ _ s.requires.room g;
-        obey = (taken-words _ _ _ _ _ _ k).0;
-        words = words-lent _ _ _ _ _ _ k refl;
+        obey = (taken_words _ _ _ _ _ _ k).0;
+        words = words_lent _ _ _ _ _ _ k refl;
       };
     }
 
@@ -134,7 +134,7 @@ clear-requires c κs =
     let t = c.before.before.before.before.before.before.before.before.before.before.before.before in
     let s = t.before.before.before.before.before.before.before.before.before.before.before.before.before.before in
     let g = sym t.before.before.before.area-fits.ensures ∙ not-false _ t.before.before.if2.false in
-    omega (arith, s.requires.core, area-in-core s.args.desk.now s.requires.desk s.args.room s.args.area s.requires.room g)
+    omega (arith, s.requires.core, area_in_core s.args.desk.now s.requires.desk s.args.room s.args.area s.requires.room g)
 
 enum_told : tie.Need-enum-told
 enum_told c = search rules
@@ -155,10 +155,10 @@ returns-3 c =
     let e = i.before.before.before.read-holders.ensures in
     let f = none-due _ _ e _ _ i.before.place-refusal.ensures i.if1.false in
     let g = sym t.before.before.before.area-fits.ensures ∙ not-false _ t.before.before.if2.false in
-    let o = (taken-words _ _ _ _ _ _ k).0 in
+    let o = (taken_words _ _ _ _ _ _ k).0 in
     let n = sound-long _ s.requires.desk in
-    grant-given _ _ _ _ _ _ f g _ _ _ o (l.lowest-free.ensures ∙ ap lowestFree e)
-    (desk-written _ _ _ _ _ _ _ _ n (omega (arith, part-write-place-end l)) refl
+    grant_given _ _ _ _ _ _ f g _ _ _ o (l.lowest-free.ensures ∙ ap lowest_free e)
+    (desk_written _ _ _ _ _ _ _ _ n (omega (arith, part-write-place-end l)) refl
     (area_small _ s.requires.desk _ _ s.requires.room g) o
     c.before.before.before.before.before.before.write-place.ensures)
     c.before.before.clear.ensures
@@ -170,13 +170,13 @@ returns-4 : tie.Need-returns-4
 returns-4 c =
     let t = c.before.before.before in
     let i = t.before.before.before.before.before in
-    grant-unlisted _ _ _ _ _ _
+    grant_unlisted _ _ _ _ _ _
     (none-due _ _ i.before.before.before.read-holders.ensures _ _ i.before.place-refusal.ensures i.if1.false)
     (sym t.before.before.before.area-fits.ensures ∙ not-false _ t.before.before.if2.false)
-    (taken-nothing _ _ _ _ _ (rw c.enum_told.given.1 at t.take-lists.ensures))
+    (taken_nothing _ _ _ _ _ (rw c.enum_told.given.1 at t.take-lists.ensures))
 
-pub grant-spec : {M : Type 1} → statement M
-grant-spec =
+pub grant_spec : {M : Type 1} → statement M
+grant_spec =
     tie.close
     (tie.spec
     read-holders-requires

@@ -34,8 +34,8 @@ returns c =
     let s = w.before.before.before.before.before.before.before in
     place-written _ _ _ _ _ s.requires.long _ _ _ s.requires.lists w.copy-in.ensures c.before.before.keep-lists.ensures
 
-pub write-place-spec : {M : Type 1} → statement M
-write-place-spec =
+pub write_place_spec : {M : Type 1} → statement M
+write_place_spec =
     tie.close
     (tie.spec
     add-t10

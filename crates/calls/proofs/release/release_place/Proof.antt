@@ -1,11 +1,11 @@
 -- `calls::release::release_place` meets its contract: refusals 1, 2 and 4, refusal 9, or the place freed.
 use mathlib.Core.Path.{refl, sym, ◌∙◌}
 use native.Mathlib.Omega.{arith}
-use borrow.Author.Tests.{not-true, not-false}
+use borrow.Author.Tests.{not_true, not-false}
 use Rattle.layout.proofs.Places.{holds-inside}
 use Rattle.desk.proofs.Facts.{sound-long}
-use Rattle.calls.specs.Release.{releaseOf}
-use Rattle.calls.proofs.Entry.{entry-shows, entered-refused, entered_on}
+use Rattle.calls.specs.Release.{release_of}
+use Rattle.calls.proofs.Entry.{entry_shows, entered-refused, entered_on}
 use borrow.Author.Rules.{rules}
 use Rattle.calls.proofs.release.release_place.Statement.{statement}
 use Rattle.calls.proofs.release.release_place.Tie as tie
@@ -20,24 +20,24 @@ same_length : tie.Need-same-length
 same_length c = search rules
 
 returns : tie.Need-returns
-unfolding releaseOf
+unfolding release_of
 returns c = rw c.fault-of.ensures (entered-refused _ _ _ _ _ _ c.before.before.entry-refusal.ensures c.before.if1.true)
 
 holds-place-requires : tie.Need-holds-place-requires
 holds-place-requires c κs =
-    let k = entry-shows _ _ _ _ c.before.before.entry-refusal.ensures c.before.if1.false in
+    let k = entry_shows _ _ _ _ c.before.before.entry-refusal.ensures c.before.if1.false in
     (sound-long _ k.desk, k.room)
 
 same-length-2 : tie.Need-same-length-2
 same-length-2 c = search rules
 
 returns-2 : tie.Need-returns-2
-unfolding releaseOf
+unfolding release_of
 returns-2 c =
     let b = c.before.before.before in
-    let k = entry-shows _ _ _ _ b.before.entry-refusal.ensures b.if1.false in
-    rw (entered_on _ _ _ _ _ k, sym c.before.holds-place.ensures ∙ not-true _ c.if2.true)
-    (record { told = refl; desk-left = refl; core-left = refl })
+    let k = entry_shows _ _ _ _ b.before.entry-refusal.ensures b.if1.false in
+    rw (entered_on _ _ _ _ _ k, sym c.before.holds-place.ensures ∙ not_true _ c.if2.true)
+    (record { told = refl; desk_left = refl; core-left = refl })
 
 mul-desk : tie.Need-overflow-mul-desk
 mul-desk c = omega (arith, holds-inside _ _ _ (sym c.before.holds-place.ensures ∙ not-false _ c.if2.false))
@@ -51,22 +51,22 @@ mul-desk-2 c = omega (arith, holds-inside _ _ _ (sym c.before.holds-place.ensure
 slice-write-desk : tie.Need-slice-write-desk
 slice-write-desk c =
     let b = c.before.before.before in
-    let k = entry-shows _ _ _ _ b.before.entry-refusal.ensures b.if1.false in
+    let k = entry_shows _ _ _ _ b.before.entry-refusal.ensures b.if1.false in
     omega (arith, holds-inside _ _ _ (sym c.before.holds-place.ensures ∙ not-false _ c.if2.false), sound-long _ k.desk)
 
 same-length-3 : tie.Need-same-length-3
 same-length-3 c = search rules
 
 returns-3 : tie.Need-returns-3
-unfolding releaseOf
+unfolding release_of
 returns-3 c =
     let b = c.before.before.before in
-    let k = entry-shows _ _ _ _ b.before.entry-refusal.ensures b.if1.false in
+    let k = entry_shows _ _ _ _ b.before.entry-refusal.ensures b.if1.false in
     rw (entered_on _ _ _ _ _ k, sym c.before.holds-place.ensures ∙ not-false _ c.if2.false)
-    (record { told = refl; desk-left = refl; core-left = refl })
+    (record { told = refl; desk_left = refl; core-left = refl })
 
-pub release-place-spec : {M : Type 1} → statement M
-release-place-spec =
+pub release_place_spec : {M : Type 1} → statement M
+release_place_spec =
     tie.close
     (tie.spec
     entry-refusal-requires

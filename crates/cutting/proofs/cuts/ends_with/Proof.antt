@@ -9,5 +9,5 @@ returns c = rw c.before.if1.true
 returns-2 : tie.Need-returns-2
 returns-2 c = search rules
 
-pub ends-with-spec : {M : Type 1} → statement M
-ends-with-spec = tie.close (tie.spec returns returns-2)
+pub ends_with_spec : {M : Type 1} → statement M
+ends_with_spec = tie.close (tie.spec returns returns-2)

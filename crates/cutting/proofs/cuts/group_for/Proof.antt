@@ -21,6 +21,6 @@ add-t11 c = search rules
 returns : tie.Need-returns
 returns c = rw (c.before.before.ends_with.ensures, c.before.before.before.before.before.words-for.ensures)
 
-pub group-for-spec : {M : Type 1} → statement M
-group-for-spec =
+pub group_for_spec : {M : Type 1} → statement M
+group_for_spec =
     tie.close (tie.spec words-for-requires add-t5 add-ends-with ends-with-requires add-t11 returns)

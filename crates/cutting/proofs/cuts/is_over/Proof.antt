@@ -30,8 +30,8 @@ returns-3 c = rw (← c.before.before.item-at.ensures, c.enum-told3.given.1)
 returns-4 : tie.Need-returns-4
 returns-4 c = rw (← c.before.before.item-at.ensures, c.enum-told4.given.1)
 
-pub is-over-spec : {M : Type 1} → statement M
-is-over-spec =
+pub is_over_spec : {M : Type 1} → statement M
+is_over_spec =
     tie.close
     (tie.spec
     item-at-requires

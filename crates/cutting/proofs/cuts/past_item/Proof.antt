@@ -13,5 +13,5 @@ add-t5 c = search rules
 returns : tie.Need-returns
 returns c = search (tests, ← c.before.item-after.ensures)
 
-pub past-item-spec : {M : Type 1} → statement M
-past-item-spec = tie.close (tie.spec item-after-requires add-t5 returns)
+pub past_item_spec : {M : Type 1} → statement M
+past_item_spec = tie.close (tie.spec item-after-requires add-t5 returns)

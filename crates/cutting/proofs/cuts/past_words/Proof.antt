@@ -1,4 +1,4 @@
--- `cutting::cuts::past_words` meets its contract: by whether the run is at its end.
+-- `cutting::cuts::past_words_lem` meets its contract: by whether the run is at its end.
 use Rattle.word.proofs.Tests.{tests}
 use borrow.Author.Rules.{rules}
 use Rattle.cutting.proofs.cuts.past_words.Statement.{statement}
@@ -22,5 +22,5 @@ add-t8 c = search rules
 returns-2 : tie.Need-returns-2
 returns-2 c = search tests
 
-pub past-words-spec : {M : Type 1} → statement M
-past-words-spec = tie.close (tie.spec add-if1 past-item-requires returns add-t6 add-t8 returns-2)
+pub past_words_spec : {M : Type 1} → statement M
+past_words_spec = tie.close (tie.spec add-if1 past-item-requires returns add-t6 add-t8 returns-2)

@@ -25,6 +25,6 @@ returns-2 c = search rules
 returns-3 : tie.Need-returns-3
 returns-3 c = rw c.before.x.given.1
 
-pub piece-size-spec : {M : Type 1} → statement M
-piece-size-spec =
+pub piece_size_spec : {M : Type 1} → statement M
+piece_size_spec =
     tie.close (tie.spec enum_told enum-told-2 enum-known-x add-result returns returns-2 returns-3)

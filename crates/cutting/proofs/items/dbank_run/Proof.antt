@@ -9,5 +9,5 @@ dbank-requires c κs = search rules
 returns : tie.Need-returns
 returns c = rw c.before.dbank.ensures
 
-pub dbank-run-spec : {M : Type 1} → statement M
-dbank-run-spec = tie.close (tie.spec dbank-requires returns)
+pub dbank_run_spec : {M : Type 1} → statement M
+dbank_run_spec = tie.close (tie.spec dbank-requires returns)

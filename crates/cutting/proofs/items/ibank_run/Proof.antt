@@ -12,5 +12,5 @@ dbank-requires c κs = search rules
 returns : tie.Need-returns
 returns c = rw (c.before.dbank.ensures, c.before.before.before.ibank.ensures)
 
-pub ibank-run-spec : {M : Type 1} → statement M
-ibank-run-spec = tie.close (tie.spec ibank-requires dbank-requires returns)
+pub ibank_run_spec : {M : Type 1} → statement M
+ibank_run_spec = tie.close (tie.spec ibank-requires dbank-requires returns)

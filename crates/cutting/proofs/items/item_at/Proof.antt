@@ -42,8 +42,8 @@ returns-4 : tie.Need-returns-4
 unfolding item_at
 returns-4 c = search tests
 
-pub item-at-spec : {M : Type 1} → statement M
-item-at-spec =
+pub item_at_spec : {M : Type 1} → statement M
+item_at_spec =
     tie.close
     (tie.spec
     ibank-requires

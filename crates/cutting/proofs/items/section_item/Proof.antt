@@ -21,10 +21,10 @@ returns-3 : tie.Need-returns-3
 returns-3 c =
     let a = c.before.before.before.before.args in
     rw (
-      c.before.section-at.ensures,
+      c.before.section_at_lem.ensures,
       lt-ltb a.j (length a.sections.now / 2) (omega arith),
       ne_eqb a.part 0 c.if2.false,
     )
 
-pub section-item-spec : {M : Type 1} → statement M
-section-item-spec = tie.close (tie.spec returns section-at-requires returns-2 returns-3)
+pub section_item_spec : {M : Type 1} → statement M
+section_item_spec = tie.close (tie.spec returns section-at-requires returns-2 returns-3)

@@ -5,7 +5,7 @@ use native.Mathlib.Omega.{arith}
 use lib.ListN.{length, drop}
 use borrow.Author.Tests.{eq-eqb, ne_eqb}
 use Rattle.word.specs.Lists.{every}
-use Rattle.word.proofs.Lists.{every_more, every-fails, every-ends}
+use Rattle.word.proofs.Lists.{every_more, every_fails, every-ends}
 use Rattle.group.specs.HowWords.{is_zero}
 use Rattle.group.proofs.changes.all_zero.Statement.{statement}
 use Rattle.group.proofs.changes.all_zero.Tie as tie
@@ -27,7 +27,7 @@ shared-slice-read-if1 c = omega arith
 
 returns : tie.Need-returns invariant-loop decreases-loop
 returns c = let l = c.before.before.before.loop in
-    every-fails is_zero 0 _ l.i _ (omega arith) (ne_eqb _ _ c.if1.true) l.invariant.1
+    every_fails is_zero 0 _ l.i _ (omega arith) (ne_eqb _ _ c.if1.true) l.invariant.1
 
 add-i : tie.Need-overflow-add-i invariant-loop decreases-loop
 add-i c = omega arith
@@ -45,8 +45,8 @@ loop-again c = let l = c.before.before.before.loop in (
 returns-2 : tie.Need-returns-2 invariant-loop decreases-loop
 returns-2 c = every-ends is_zero 0 _ c.before.loop.i _ (omega arith) c.before.loop.invariant.1
 
-pub all-zero-spec : {M : Type 1} → statement M
-all-zero-spec =
+pub all-zero_spec : {M : Type 1} → statement M
+all-zero_spec =
     tie.close
     (tie.spec
     invariant-loop

@@ -54,8 +54,8 @@ same-length-2 c = search rules
 returns-2 : tie.Need-returns-2
 returns-2 c = c.before.before.change-words.ensures
 
-pub change-group-spec : {M : Type 1} → statement M
-change-group-spec =
+pub change_group_spec : {M : Type 1} → statement M
+change_group_spec =
     tie.close
     (tie.spec
     mul-all-zero

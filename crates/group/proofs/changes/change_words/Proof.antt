@@ -1,17 +1,17 @@
 -- `changes::change_words`: what is left to do after some words is what there was to do.
 use Prim.Native.Nat.{◌-◌}
 use native.Mathlib.Omega.{arith}
-use Rattle.field.specs.Field.{assignedBy}
+use Rattle.field.specs.Field.{assigned_by}
 use Rattle.group.specs.HowLoop.{Reached}
-use Rattle.group.specs.HowWords.{programIn}
-use Rattle.group.proofs.Loop.{reached-end}
-use Rattle.group.proofs.LoopTurn.{many, first-here, turn-refills, turn-place, turn-ready, turn-stops}
+use Rattle.group.specs.HowWords.{program_in}
+use Rattle.group.proofs.Loop.{reached_end}
+use Rattle.group.proofs.LoopTurn.{many, first-here, turn_refills, turn_place, turn_ready, turn_stops}
 use borrow.Author.Rules.{rules}
 use Rattle.group.proofs.changes.change_words.Statement.{statement}
 use Rattle.group.proofs.changes.change_words.Tie as tie
 
 abbrev invariant-loop : tie.invariant-loop
-invariant-loop s lists words n out₀ end c₀ k₀ out c k = Reached (assignedBy s lists) words n (programIn words n) out c k
+invariant-loop s lists words n out₀ end c₀ k₀ out c k = Reached (assigned_by s lists) words n (program_in words n) out c k
 
 abbrev decreases-loop : tie.decreases-loop
 decreases-loop s lists words n out₀ end c₀ k₀ out c k = n - k
@@ -23,12 +23,12 @@ loop-holds : tie.Need-loop-init invariant-loop decreases-loop
 loop-holds c = rw c.start.ensures (first-here _ _ _ _ _ c.before.before.before.before.requires _)
 
 refill-requires : tie.Need-refill-requires invariant-loop decreases-loop
-refill-requires c κs = turn-refills _ _ _ _ _ c.before.before.before.before.before.before.requires _ _ _ _
+refill-requires c κs = turn_refills _ _ _ _ _ c.before.before.before.before.before.before.requires _ _ _ _
     c.before.loop.invariant
 
 change-next-requires : tie.Need-change-next-requires invariant-loop decreases-loop
 change-next-requires c κs = let up = c.before.before.before.before.before.before.before in
-    turn-ready _ _ _ _ _ up.before.requires _ _ _ _ c.before.before.before.loop.invariant c.before.before.loop-test.true _
+    turn_ready _ _ _ _ _ up.before.requires _ _ _ _ c.before.before.before.loop.invariant c.before.before.loop-test.true _
     c.before.refill.ensures
 
 enum-known-d : tie.Need-enum-known-d invariant-loop decreases-loop
@@ -58,11 +58,11 @@ same_length c = let up = c.before.before.before.before.before.before.before in
 
 returns : tie.Need-returns invariant-loop decreases-loop
 returns c = let up = c.before.before.before.before.before.before.before in
-    turn-stops _ _ _ _ _ _ up.before.before.before.before.before.before.requires.program
+    turn_stops _ _ _ _ _ _ up.before.before.before.before.before.before.requires.program
     c.before.before.before.before.change-next.ensures c.enum_told.given.1
 
 place-requires : tie.Need-place-requires invariant-loop decreases-loop
-place-requires c κs = turn-place _ _ _ _ _ c.before.before.before.before.before.before.requires _ _ _ _ c.before.loop.invariant
+place-requires c κs = turn_place _ _ _ _ _ c.before.before.before.before.before.before.requires _ _ _ _ c.before.loop.invariant
 
 same-length-2 : tie.Need-same-length-2 invariant-loop decreases-loop
 same-length-2 c = let up = c.before.before.before.before.before.before.before in
@@ -70,14 +70,14 @@ same-length-2 c = let up = c.before.before.before.before.before.before.before in
 
 returns-2 : tie.Need-returns-2 invariant-loop decreases-loop
 returns-2 c = let up = c.before.before.before.before.before.before.before in
-    rw c.place.ensures (reached-end _ _ _ _ _ _ _ c.before.before.loop.invariant (omega (
+    rw c.place.ensures (reached_end _ _ _ _ _ _ _ c.before.before.loop.invariant (omega (
       arith,
       many _ _ _ _ _ up.requires,
       c.before.loop-test.false,
     )))
 
-pub change-words-spec : {M : Type 1} → statement M
-change-words-spec =
+pub change_words_spec : {M : Type 1} → statement M
+change_words_spec =
     tie.close
     (tie.spec
     invariant-loop

@@ -4,10 +4,10 @@ use mathlib.Core.Path.{◌≡◌, refl, ◌∙◌}
 use native.Mathlib.Omega.{arith}
 use lib.ListN.{length-set}
 use Rattle.word.proofs.Cases.{by-lt}
-use Rattle.field.specs.Field.{assignedBy}
+use Rattle.field.specs.Field.{assigned_by}
 use Rattle.group.specs.HowLoop.{Reached}
-use Rattle.group.specs.HowWords.{programIn}
-use Rattle.group.proofs.LoopTurn.{turn_many, turn-word, run-goes, run-stops, run_at, run-stop, fewer-left}
+use Rattle.group.specs.HowWords.{program_in}
+use Rattle.group.proofs.LoopTurn.{turn_many, turn_word, run_goes, run_stops, run_at, run_stop, fewer_left}
 use borrow.Author.Rules.{rules}
 use Rattle.group.proofs.changes.move_words.Statement.{statement}
 use Rattle.group.proofs.changes.move_words.Tie as tie
@@ -17,7 +17,7 @@ invariant-loop s lists words n out₀ c₀ k₀ out c k =
     (k₀ ≤ k)
     × (28 < c.left)
     × (k ≡ k₀ → c ≡ c₀)
-    × (Reached (assignedBy s lists) words n (programIn words n) out c k)
+    × (Reached (assigned_by s lists) words n (program_in words n) out c k)
 
 abbrev decreases-loop : tie.decreases-loop
 decreases-loop s lists words n out₀ c₀ k₀ out c k = n - k
@@ -48,7 +48,7 @@ moved-word-requires : tie.Need-moved-word-requires invariant-loop decreases-loop
 moved-word-requires c κs = let up = c.before.before.before.before.before.before.before in
     record {
       inside = search rules;
-      word = turn-word _ _ _ _ _ _ _ up.before.before.before.requires.0 _ _ _
+      word = turn_word _ _ _ _ _ _ _ up.before.before.before.requires.0 _ _ _
           c.before.before.before.before.before.loop.invariant.3 (omega (arith, c.before.before.if2.false))
           c.before.before.before.before.before.loop.invariant.1;
       near = omega (arith, c.before.before.before.before.before.loop.invariant.1);
@@ -85,11 +85,11 @@ same-length-2 c = let up = c.before.before.before.before.before.before.before in
     )
 
 returns-2 : tie.Need-returns-2 invariant-loop decreases-loop
-unfolding assignedBy
+unfolding assigned_by
 returns-2 c = let up = c.before.before.before.before.before.before.before in
     let top = up.before.before.before.before.before.before.before in
     run_at _ _ _ _ _ _ _ top.before.before.requires.0.program (omega (arith, up.before.before.before.before.loop.invariant.0))
-    (run-goes _ _ _ _ _ _ _ top.before.before.requires.0 _ _ _ up.before.before.before.before.loop.invariant.3 (omega (
+    (run_goes _ _ _ _ _ _ _ top.before.before.requires.0 _ _ _ up.before.before.before.before.loop.invariant.3 (omega (
       arith,
       up.before.if2.false,
     )) up.before.before.before.before.loop.invariant.1 _
@@ -97,16 +97,16 @@ returns-2 c = let up = c.before.before.before.before.before.before.before in
     c.before.before.before.moved.given.1)
 
 loop-less : tie.Need-loop-smaller invariant-loop decreases-loop
-loop-less c = fewer-left _ _ (omega (arith, c.before.before.before.before.before.before.before.before.if2.false))
+loop-less c = fewer_left _ _ (omega (arith, c.before.before.before.before.before.before.before.before.if2.false))
 
 loop-again : tie.Need-loop-preserved invariant-loop decreases-loop
-unfolding assignedBy
+unfolding assigned_by
 loop-again c = let up = c.before.before.before.before.before.before.before in
     let top = up.before.before.before.before.before.before.before in (
       omega (arith, up.before.before.before.before.loop.invariant.0),
       omega (arith, c.if3.false),
       (λ e. absurd (omega (arith, up.before.before.before.before.loop.invariant.0))),
-      run-goes _ _ _ _ _ _ _ top.before.before.requires.0 _ _ _ up.before.before.before.before.loop.invariant.3 (omega (
+      run_goes _ _ _ _ _ _ _ top.before.before.requires.0 _ _ _ up.before.before.before.before.loop.invariant.3 (omega (
         arith,
         up.before.if2.false,
       )) up.before.before.before.before.loop.invariant.1 _
@@ -121,11 +121,11 @@ same-length-3 : tie.Need-same-length-3 invariant-loop decreases-loop
 same-length-3 c = search rules
 
 returns-3 : tie.Need-returns-3 invariant-loop decreases-loop
-unfolding assignedBy
+unfolding assigned_by
 returns-3 c = let up = c.before.before.before.before.before.before.before in
-    run-stop _ _ _ _ _ (up.before.loop.invariant.3.long ∙ turn_many _ _ _ _ _ _ _
+    run_stop _ _ _ _ _ (up.before.loop.invariant.3.long ∙ turn_many _ _ _ _ _ _ _
     up.before.before.before.before.before.before.requires.0)
-    (run-stops _ _ _ _ _ _ _ up.before.before.before.before.before.before.requires.0 _ _ _ up.before.loop.invariant.3 (omega
+    (run_stops _ _ _ _ _ _ _ up.before.before.before.before.before.before.requires.0 _ _ _ up.before.loop.invariant.3 (omega
     (arith, c.before.before.before.before.before.if2.false)) up.before.loop.invariant.1 _
     c.before.before.moved_word.ensures c.before.before.before.before.before.before.if1.true
     c.enum_told.given.1)
@@ -140,8 +140,8 @@ returns-4 c = let up = c.before.before.before.before.before.before.before in
     (by-lt _ _ (λ h. h) (λ h. absurd (c.if1.false (rw (l.invariant.2 (omega (arith, l.invariant.0))) up.requires.1))))
     l.invariant.3
 
-pub move-words-spec : {M : Type 1} → statement M
-move-words-spec =
+pub move_words_spec : {M : Type 1} → statement M
+move_words_spec =
     tie.close
     (tie.spec
     invariant-loop

@@ -1,7 +1,7 @@
 -- `changes::moved_word`: the test of the code is that of the definition.
 use native.Mathlib.Omega.{arith}
 use borrow.Author.Tests.{lt-ltb, le-ltb}
-use Rattle.group.specs.HowHalves.{movedWord}
+use Rattle.group.specs.HowHalves.{moved_word}
 use borrow.Author.Rules.{rules}
 use Rattle.group.proofs.changes.moved_word.Statement.{statement}
 use Rattle.group.proofs.changes.moved_word.Tie as tie
@@ -21,20 +21,20 @@ pass-bits-requires : tie.Need-pass-bits-requires
 pass-bits-requires c κs = search rules
 
 returns : tie.Need-returns
-unfolding movedWord
+unfolding moved_word
 returns c = let e = rw c.before.before.before.before.before.field.ensures at
     c.before.before.before.before.placed.ensures in
     let t = rw e at c.before.before.if1.true in
     rw (lt-ltb _ _ t, c.before.move-right.ensures, c.pass-bits.ensures)
 
 returns-2 : tie.Need-returns-2
-unfolding movedWord
+unfolding moved_word
 returns-2 c = let e = rw c.before.before.before.field.ensures at c.before.before.placed.ensures in
     let t = rw e at c.if1.false in
     rw (le-ltb _ _ t)
 
-pub moved-word-spec : {M : Type 1} → statement M
-moved-word-spec =
+pub moved_word_spec : {M : Type 1} → statement M
+moved_word_spec =
     tie.close
     (tie.spec
     field-requires

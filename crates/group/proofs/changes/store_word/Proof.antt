@@ -1,6 +1,6 @@
 -- `changes::store_word`: what became of the word is stored, or the refusal given on.
 use mathlib.Core.Path.{refl}
-use Rattle.group.specs.HowWords.{storedStep}
+use Rattle.group.specs.HowWords.{stored_step}
 use borrow.Author.Rules.{rules}
 use Rattle.group.proofs.changes.store_word.Statement.{statement}
 use Rattle.group.proofs.changes.store_word.Tie as tie
@@ -24,15 +24,15 @@ same_length : tie.Need-same-length
 same_length c = search rules
 
 returns : tie.Need-returns
-unfolding storedStep
+unfolding stored_step
 returns c = rw c.before.r.given.1 (record { told = refl; left = refl })
 
 returns-2 : tie.Need-returns-2
-unfolding storedStep
+unfolding stored_step
 returns-2 c = rw c.enum_told.given.1 (record { told = refl; left = refl })
 
-pub store-word-spec : {M : Type 1} → statement M
-store-word-spec =
+pub store_word_spec : {M : Type 1} → statement M
+store_word_spec =
     tie.close
     (tie.spec
     enum-known-r

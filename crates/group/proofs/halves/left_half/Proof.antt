@@ -2,8 +2,8 @@
 use mathlib.Core.Path.{◌∙◌}
 use native.Mathlib.Omega.{arith}
 use Rattle.word.specs.declared.Half.TheVariants.{Left}
-use Rattle.field.specs.Field.{assignedBy}
-use Rattle.group.proofs.Both.{half-same, half-steps}
+use Rattle.field.specs.Field.{assigned_by}
+use Rattle.group.proofs.Both.{half_same, half_steps}
 use borrow.Author.Rules.{rules}
 use Rattle.group.proofs.halves.left_half.Statement.{statement}
 use Rattle.group.proofs.halves.left_half.Tie as tie
@@ -13,7 +13,7 @@ pass-bits-requires c κs = search rules
 
 returns : tie.Need-returns
 returns c = let a = c.before.before.before.before.args in
-    rw (c.pass-bits.ensures, half-same (assignedBy a.s a.lists.now) Left a.w a.c c.before.if1.true)
+    rw (c.pass-bits.ensures, half_same (assigned_by a.s a.lists.now) Left a.w a.c c.before.if1.true)
 
 bits-requires : tie.Need-bits-requires
 bits-requires c κs = search rules
@@ -35,12 +35,12 @@ returns-2 : tie.Need-returns-2
 returns-2 c = let up = c.before.before.before.before.before.before.before in
     let a = up.before.args in
     c.passed.ensures
-    ∙ rw c.before.before.pass-bits2.ensures (half-steps (assignedBy a.s a.lists.now) Left a.w a.c _ _ _
+    ∙ rw c.before.before.pass-bits2.ensures (half_steps (assigned_by a.s a.lists.now) Left a.w a.c _ _ _
     c.before.before.before.before.before.if1.false c.before.before.before.before.bits.ensures
     c.before.before.before.bits2.ensures c.before.left_step.ensures)
 
-pub left-half-spec : {M : Type 1} → statement M
-left-half-spec =
+pub left_half_spec : {M : Type 1} → statement M
+left_half_spec =
     tie.close
     (tie.spec
     pass-bits-requires

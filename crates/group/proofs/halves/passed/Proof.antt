@@ -24,8 +24,8 @@ returns-2 c = rw (c.before.before.r2.given.1, c.pass-bits.ensures)
 returns-3 : tie.Need-returns-3
 returns-3 c = rw c.enum_told.given.1
 
-pub passed-spec : {M : Type 1} → statement M
-passed-spec =
+pub passed_spec : {M : Type 1} → statement M
+passed_spec =
     tie.close
     (tie.spec
     enum-known-r

@@ -1,7 +1,7 @@
 -- `refusals::group_fault`: the count, and then the first refusal.
 use native.Mathlib.Omega.{arith}
-use Rattle.field.specs.Field.{assignedBy}
-use Rattle.group.specs.HowFaults.{groupFault}
+use Rattle.field.specs.Field.{assigned_by}
+use Rattle.group.specs.HowFaults.{group_fault}
 use Rattle.group.proofs.FirstFault.{first_below}
 use borrow.Author.Rules.{rules}
 use Rattle.group.proofs.refusals.group_fault.Statement.{statement}
@@ -18,23 +18,23 @@ further-requires c κs = let z = c.before.before.before.before.before in
     let a = z.args in
     rw c.first-fault.ensures (omega (
       arith,
-      first_below (assignedBy a.s a.lists.now) a.words.now a.n
+      first_below (assigned_by a.s a.lists.now) a.words.now a.n
           z.requires.program,
       z.requires.program,
       z.requires.few,
     ))
 
 returns : tie.Need-returns
-unfolding groupFault
+unfolding group_fault
 returns c = rw (← c.before.before.before.count-fits.ensures, c.before.before.if1.true, ← c.before.first-fault.ensures)
     c.further.ensures
 
 returns-2 : tie.Need-returns-2
-unfolding groupFault
+unfolding group_fault
 returns-2 c = rw (← c.before.count-fits.ensures, c.if1.false)
 
-pub group-fault-spec : {M : Type 1} → statement M
-group-fault-spec =
+pub group_fault_spec : {M : Type 1} → statement M
+group_fault_spec =
     tie.close
     (tie.spec
     count-fits-requires

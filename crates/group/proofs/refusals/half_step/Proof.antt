@@ -1,5 +1,5 @@
 -- `refusals::half_step`: by its indicator.
-use Rattle.group.specs.Group.{halfStep}
+use Rattle.group.specs.Group.{half_step}
 use borrow.Author.Rules.{rules}
 use Rattle.group.proofs.refusals.half_step.Statement.{statement}
 use Rattle.group.proofs.refusals.half_step.Tie as tie
@@ -20,19 +20,19 @@ field-step-requires-2 : tie.Need-field-step-requires-2
 field-step-requires-2 c κs = search rules
 
 returns : tie.Need-returns
-unfolding halfStep
+unfolding half_step
 returns c = rw c.enum_told.given.1
 
 returns-2 : tie.Need-returns-2
-unfolding halfStep
+unfolding half_step
 returns-2 c = rw c.before.before.m.given.1 c.field_step.ensures
 
 returns-3 : tie.Need-returns-3
-unfolding halfStep
+unfolding half_step
 returns-3 c = rw c.before.before.m2.given.1 c.field-step2.ensures
 
-pub half-step-spec : {M : Type 1} → statement M
-half-step-spec =
+pub half_step_spec : {M : Type 1} → statement M
+half_step_spec =
     tie.close
     (tie.spec
     enum_told

@@ -2,10 +2,10 @@
 use mathlib.Core.Path.{sym, ap, ◌∙◌}
 use native.Mathlib.Omega.{arith}
 use Rattle.word.specs.declared.Half.TheVariants.{Left}
-use Rattle.field.specs.Field.{assignedBy}
+use Rattle.field.specs.Field.{assigned_by}
 use Rattle.indicator.specs.HowCursor.{look_of}
-use Rattle.indicator.proofs.Places.{width-most}
-use Rattle.group.proofs.Both.{half-word, word-goes, word-stops}
+use Rattle.indicator.proofs.Places.{width_most}
+use Rattle.group.proofs.Both.{half_word, word_goes, word_stops}
 use borrow.Author.Rules.{rules}
 use Rattle.group.proofs.refusals.word_step.Statement.{statement}
 use Rattle.group.proofs.refusals.word_step.Tie as tie
@@ -35,13 +35,13 @@ width-requires : tie.Need-width-requires
 width-requires c κs = search rules
 
 add-half-step : tie.Need-overflow-add-half-step
-add-half-step c = omega (arith, c.before.before.before.before.before.before.before.before.before.before.before.requires.1, c.width.ensures, width-most c.before.before.before.before.before.before.before.before.look.result)
+add-half-step c = omega (arith, c.before.before.before.before.before.before.before.before.before.before.before.requires.1, c.width.ensures, width_most c.before.before.before.before.before.before.before.before.look.result)
 
 half-step-requires-2 : tie.Need-half-step-requires-2
 half-step-requires-2 c κs = let z = c.before.before.before.before.before.before.before.before.before.before.before in
     let a = z.args in (
       z.requires.0.lists,
-      half-word (assignedBy a.s a.lists.now) Left _ _ a.w _ z.requires.0.word (sym
+      half_word (assigned_by a.s a.lists.now) Left _ _ a.w _ z.requires.0.word (sym
           c.before.before.before.before.before.before.half_step.ensures ∙ c.before.before.before.before.v.given.1),
     )
 
@@ -51,8 +51,8 @@ enum-known-f c = search rules
 returns : tie.Need-returns
 returns c = let up = c.before.before.before.before.before.before.before.before in
     let a = up.before.before.before.before.args in
-    let s = assignedBy a.s a.lists.now in
-    word-goes s a.bit a.w a.c _
+    let s = assigned_by a.s a.lists.now in
+    word_goes s a.bit a.w a.c _
     (up.before.look.ensures ∙ ap (look_of a.c.ahead) up.before.before.field.ensures) _ _ _ _ (sym
     c.before.before.before.before.before.before.before.half_step.ensures ∙ c.before.before.before.before.before.v.given.1)
     up.pass.ensures (c.before.before.look2.ensures ∙ ap (look_of _) c.before.before.before.field2.ensures)
@@ -60,12 +60,12 @@ returns c = let up = c.before.before.before.before.before.before.before.before i
 
 returns-2 : tie.Need-returns-2
 returns-2 c = let a = c.before.before.before.before.before.before.before.before.args in
-    word-stops (assignedBy a.s a.lists.now) a.bit a.w a.c _
+    word_stops (assigned_by a.s a.lists.now) a.bit a.w a.c _
     (c.before.before.before.before.before.look.ensures ∙ ap (look_of a.c.ahead) c.before.before.before.before.before.before.field.ensures) _
     (sym c.before.before.before.half_step.ensures ∙ c.before.f.given.1)
 
-pub word-step-spec : {M : Type 1} → statement M
-word-step-spec =
+pub word_step_spec : {M : Type 1} → statement M
+word_step_spec =
     tie.close
     (tie.spec
     field-requires

@@ -1,5 +1,5 @@
 -- `label::name::spell` meets its contract: each return by the tests that led to it.
-use Rattle.label.specs.HowSpelling.{nextSpelling}
+use Rattle.label.specs.HowSpelling.{next_spelling}
 use borrow.Author.Rules.{rules}
 use Rattle.label.proofs.name.spell.Statement.{statement}
 use Rattle.label.proofs.name.spell.Tie as tie
@@ -35,11 +35,11 @@ returns-3 : tie.Need-returns-3
 returns-3 c = rw c.before.enum-told3.given.1 c.spell-space.ensures
 
 returns-4 : tie.Need-returns-4
-unfolding nextSpelling
+unfolding next_spelling
 returns-4 c = rw c.enum-told4.given.1
 
-pub spell-spec : {M : Type 1} → statement M
-spell-spec =
+pub spell_spec : {M : Type 1} → statement M
+spell_spec =
     tie.close
     (tie.spec
     enum_told

@@ -5,7 +5,7 @@ use native.Mathlib.Omega.{arith}
 use borrow.Author.Rules.{rules}
 use Rattle.block.specs.Fieldata.{characters}
 use Rattle.label.specs.HowSpelling.{spelled}
-use Rattle.label.proofs.Spelt.{spelled-more, spelled-end}
+use Rattle.label.proofs.Spelt.{spelled_more, spelled_end}
 use Rattle.label.proofs.name.spell_word.Statement.{statement}
 use Rattle.label.proofs.name.spell_word.Tie as tie
 
@@ -36,15 +36,15 @@ loop-less c = omega arith
 loop-again : tie.Need-loop-preserved invariant-loop decreases-loop
 loop-again c =
     let l = c.before.before.loop in
-    (omega arith, spelled-more l.s _ l.n _ _ (omega arith) c.spell.ensures l.invariant.1)
+    (omega arith, spelled_more l.s _ l.n _ _ (omega arith) c.spell.ensures l.invariant.1)
 
 returns : tie.Need-returns invariant-loop decreases-loop
 returns c =
     let l = c.before.loop in
-    spelled-end l.s _ l.n _ (omega arith) l.invariant.1
+    spelled_end l.s _ l.n _ (omega arith) l.invariant.1
 
-pub spell-word-spec : {M : Type 1} → statement M
-spell-word-spec =
+pub spell_word_spec : {M : Type 1} → statement M
+spell_word_spec =
     tie.close
     (tie.spec
     invariant-loop

@@ -1,6 +1,6 @@
 -- `lists::load::core_table` meets its contract: the table that the load's kept words and ranks tell.
 use Rattle.word.proofs.Lists.{range-lent}
-use Rattle.lists.specs.Load.{coreTable, words_in, ranksIn}
+use Rattle.lists.specs.Load.{core_table, words_in, ranks_in}
 use Rattle.std.proofs.Common.{rules}
 use Rattle.lists.proofs.load.core_table.Statement.{statement}
 use Rattle.lists.proofs.load.core_table.Tie as tie
@@ -33,11 +33,11 @@ table-at-requires : tie.Need-table-at-requires
 table-at-requires c κs = search rules
 
 returns : tie.Need-returns
-unfolding coreTable words_in ranksIn
+unfolding core_table words_in ranks_in
 returns c = rw (range-lent, range-lent) at c.table-at.ensures
 
-pub core-table-spec : {M : Type 1} → statement M
-core-table-spec =
+pub core-table_spec : {M : Type 1} → statement M
+core-table_spec =
     tie.close
     (tie.spec
     add-table-at

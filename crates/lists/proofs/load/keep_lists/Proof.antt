@@ -1,11 +1,11 @@
--- `lists::load::keep_lists` meets its contract: the parts are written one after the other (`lists-written`).
+-- `lists::load::keep_lists` meets its contract: the parts are written one after the other (`lists_written`).
 use Rattle.std.proofs.Common.{ℕ, ◌+◌, ◌/◌, List, length, ap, ◌∙◌, arith, rules}
-use Rattle.lists.specs.HowKeep.{foursKept}
+use Rattle.lists.specs.HowKeep.{fours_kept}
 use Rattle.lists.specs.Obey.{tables_of}
-use Rattle.lists.proofs.Keep.{lists-obey, tables-ranking}
-use Rattle.lists.proofs.Numbers.{filled-fours}
-use Rattle.lists.proofs.Ranks.{words-few}
-use Rattle.lists.proofs.Back.{lists-written}
+use Rattle.lists.proofs.Keep.{lists_obey_lem, tables_ranking}
+use Rattle.lists.proofs.Numbers.{filled_fours}
+use Rattle.lists.proofs.Ranks.{words_few}
+use Rattle.lists.proofs.Back.{lists_written}
 use Rattle.lists.proofs.load.keep_lists.Statement.{statement}
 use Rattle.lists.proofs.load.keep_lists.Tie as tie
 
@@ -15,8 +15,8 @@ slice-aggregate-copy-in c = search rules
 copy-in-requires : tie.Need-copy-in-requires
 copy-in-requires c κs =
     let s = c.before.before.before.before.before in
-    let o = lists-obey s.args.area s.args.ios.now s.args.tables.now s.requires.obey in
-    omega (arith, o.ios-few)
+    let o = lists_obey_lem s.args.area s.args.ios.now s.args.tables.now s.requires.obey in
+    omega (arith, o.ios_few)
 
 slice-aggregate-keep-numbers : tie.Need-slice-aggregate-keep-numbers
 slice-aggregate-keep-numbers c = search rules
@@ -27,14 +27,14 @@ add-keep-numbers c = search rules
 keep-numbers-requires : tie.Need-keep-numbers-requires
 keep-numbers-requires c κs =
     let s = c.before.before.before.before.before.before.before.before.before in
-    let o = lists-obey s.args.area s.args.ios.now s.args.tables.now s.requires.obey in
-    (omega (arith, o.ios-few), omega (arith, o.ios-few, s.requires.long))
+    let o = lists_obey_lem s.args.area s.args.ios.now s.args.tables.now s.requires.obey in
+    (omega (arith, o.ios_few), omega (arith, o.ios_few, s.requires.long))
 
 copy-in-requires-2 : tie.Need-copy-in-requires-2
 copy-in-requires-2 c κs =
     let s = c.before.before.before.before.before.before.before.before.before.before.before.before.before in
-    let o = lists-obey s.args.area s.args.ios.now s.args.tables.now s.requires.obey in
-    omega (arith, words-few (tables_of s.args.tables.now), o.tables-few, ap length s.requires.words, s.requires.long)
+    let o = lists_obey_lem s.args.area s.args.ios.now s.args.tables.now s.requires.obey in
+    omega (arith, words_few (tables_of s.args.tables.now), o.tables_few, ap length s.requires.words, s.requires.long)
 
 sub-keep-ranks : tie.Need-overflow-sub-keep-ranks
 sub-keep-ranks c = search rules
@@ -48,7 +48,7 @@ part-keep-ranks-end c = search rules
 keep-ranks-requires : tie.Need-keep-ranks-requires
 keep-ranks-requires c κs =
     let s = c.before.before.before.before.before.before.before.before.before.before.before.before.before.before.before.before.before in
-    tables-ranking s.args.area s.args.ios.now s.args.tables.now s.requires.small s.requires.obey _ _ s.requires.words
+    tables_ranking s.args.area s.args.ios.now s.args.tables.now s.requires.small s.requires.obey _ _ s.requires.words
     (omega arith)
 
 same_length : tie.Need-same-length
@@ -58,16 +58,16 @@ returns : tie.Need-returns
 returns c =
     let s = c.before.before.before.before.before.before.before.before.before.before.before.before.before.before.before.before.before.before.before.before in
     let ios = s.args.ios.now in
-    let o = lists-obey s.args.area ios s.args.tables.now s.requires.obey in
-    lists-written s.args.area ios s.args.tables.now s.args.lists.now s.requires.small s.requires.obey
+    let o = lists_obey_lem s.args.area ios s.args.tables.now s.requires.obey in
+    lists_written s.args.area ios s.args.tables.now s.args.lists.now s.requires.small s.requires.obey
     s.requires.long _ _ _ _ _ s.requires.words
-    (ap (λ (l : List ℕ). foursKept l ((length ios + 3) / 4))
-    c.before.before.before.before.before.before.before.before.before.before.before.before.before.before.copy-in.ensures ∙ filled-fours 128 ios o.ios-few)
+    (ap (λ (l : List ℕ). fours_kept l ((length ios + 3) / 4))
+    c.before.before.before.before.before.before.before.before.before.before.before.before.before.before.copy-in.ensures ∙ filled_fours 128 ios o.ios_few)
     c.before.before.before.before.before.before.before.before.before.before.keep-numbers.ensures
     c.before.before.before.before.before.before.copy-in2.ensures c.before.before.keep-ranks.ensures
 
-pub keep-lists-spec : {M : Type 1} → statement M
-keep-lists-spec =
+pub keep_lists_spec : {M : Type 1} → statement M
+keep_lists_spec =
     tie.close
     (tie.spec
     slice-aggregate-copy-in

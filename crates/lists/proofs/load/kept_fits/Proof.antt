@@ -24,8 +24,8 @@ returns : tie.Need-returns
 unfolding words_in
 returns c = rw range-lent at c.chain-fits.ensures
 
-pub kept-fits-spec : {M : Type 1} → statement M
-kept-fits-spec =
+pub kept-fits_spec : {M : Type 1} → statement M
+kept-fits_spec =
     tie.close
     (tie.spec
     add-chain-fits

@@ -12,5 +12,5 @@ sub-t3 c = search rules
 returns-2 : tie.Need-returns-2
 returns-2 c = search rules
 
-pub one-fewer-spec : {M : Type 1} → statement M
-one-fewer-spec = tie.close (tie.spec returns sub-t3 returns-2)
+pub one_fewer_spec : {M : Type 1} → statement M
+one_fewer_spec = tie.close (tie.spec returns sub-t3 returns-2)

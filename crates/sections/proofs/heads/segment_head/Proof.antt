@@ -1,6 +1,6 @@
 -- `heads::segment_head` meets its contract: each return by the words read and the tests that led to it.
 use borrow.Author.Tests.{lt-leb, le-leb}
-use Rattle.sections.specs.Heads.{segmentStep, withSegment}
+use Rattle.sections.specs.Heads.{segment_step, with_segment}
 use borrow.Author.Rules.{rules}
 use Rattle.sections.proofs.heads.segment_head.Statement.{statement}
 use Rattle.sections.proofs.heads.segment_head.Tie as tie
@@ -9,7 +9,7 @@ add-if1 : tie.Need-overflow-add-if1
 add-if1 c = search rules
 
 returns : tie.Need-returns
-unfolding segmentStep withSegment
+unfolding segment_step with_segment
 returns c = rw (lt-leb _ _ c.if1.true)
 
 mul-read-segment : tie.Need-overflow-mul-read-segment
@@ -40,7 +40,7 @@ add-past : tie.Need-overflow-add-past
 add-past c = search rules
 
 returns-2 : tie.Need-returns-2
-unfolding segmentStep withSegment
+unfolding segment_step with_segment
 returns-2 c = let m = c.before.before.before in
     rw (le-leb _ _ m.before.before.before.before.before.if1.false, ← m.before.before.read-segment.ensures, m.segment.given.1, ← c.before.banks-fit.ensures, c.if2.true)
 
@@ -48,17 +48,17 @@ enum-known-f : tie.Need-enum-known-f
 enum-known-f c = search rules
 
 returns-3 : tie.Need-returns-3
-unfolding segmentStep withSegment
+unfolding segment_step with_segment
 returns-3 c = let m = c.before.before.before in
     rw (le-leb _ _ m.before.before.before.before.before.if1.false, ← m.before.before.read-segment.ensures, m.segment.given.1, ← c.before.banks-fit.ensures, c.if2.false)
 
 returns-4 : tie.Need-returns-4
-unfolding segmentStep withSegment
+unfolding segment_step with_segment
 returns-4 c = let m = c.before in
     rw (le-leb _ _ m.before.before.before.before.before.if1.false, ← m.before.before.read-segment.ensures, m.f.given.1)
 
-pub segment-head-spec : {M : Type 1} → statement M
-segment-head-spec =
+pub segment_head_spec : {M : Type 1} → statement M
+segment_head_spec =
     tie.close
     (tie.spec
     add-if1

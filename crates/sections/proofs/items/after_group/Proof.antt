@@ -21,7 +21,7 @@ returns-2 c = rw (c.before.before.r.given.1, c.if1.false)
 returns-3 : tie.Need-returns-3
 returns-3 c = rw c.before.r2.given.1
 
-pub after-group-spec : {M : Type 1} → statement M
-after-group-spec =
+pub after_group_spec : {M : Type 1} → statement M
+after_group_spec =
     tie.close
     (tie.spec enum-known-r after-last-requires returns enum-known-r-2 returns-2 returns-3)

@@ -7,22 +7,22 @@ use borrow.Author.Rules.{rules}
 use Rattle.stage.specs.declared.Stage.TheVariants.{Program}
 use Rattle.lists.specs.Load.{load_of}
 use Rattle.sections.specs.Waits.{Waits}
-use Rattle.sections.specs.Program.{programFrom, programStep}
+use Rattle.sections.specs.Program.{program_from, program_step}
 use Rattle.sections.specs.HowTurns.{item_of}
-use Rattle.sections.proofs.Turns.{turn-zero, turn_end, turn_on, turn_last, turn-refused, turn-place, turn-waits, turn-length}
+use Rattle.sections.proofs.Turns.{turn_zero, turn_end, turn_on, turn_last, turn_refused, turn_place, turn_waits, turn_length}
 use Rattle.sections.proofs.items.program_step.Statement.{statement}
 use Rattle.sections.proofs.items.program_step.Tie as tie
 
 abbrev invariant-loop : tie.invariant-loop
 invariant-loop g lists block core₀ counts₀ next₀ i₀ core counts next i =
     (i ≤ 255) × (length core ≡ length core₀) × (Waits (load_of g lists) (Program counts next) block core)
-    × (programStep (load_of g lists) counts₀ next₀ block core₀ ≡ programFrom (255 - i) (load_of g lists) counts next block i core)
+    × (program_step (load_of g lists) counts₀ next₀ block core₀ ≡ program_from (255 - i) (load_of g lists) counts next block i core)
 
 abbrev decreases-loop : tie.decreases-loop
 decreases-loop g lists block core₀ counts₀ next₀ i₀ core counts next i = 255 - i
 
 loop-holds : tie.Need-loop-init invariant-loop decreases-loop
-unfolding programStep
+unfolding program_step
 loop-holds c = (omega arith, refl, c.before.before.before.requires.waits, refl)
 
 mul-if1 : tie.Need-overflow-mul-if1 invariant-loop decreases-loop
@@ -36,7 +36,7 @@ same_length c = c.before.before.before.loop.invariant.1
 
 returns : tie.Need-returns invariant-loop decreases-loop
 returns c = let l = c.before.before.before.loop in
-    turn-zero _ _ l.counts l.next l.i l.core _ c.before.before.loop-test.true c.if1.true l.invariant.3
+    turn_zero _ _ l.counts l.next l.i l.core _ c.before.before.loop-test.true c.if1.true l.invariant.3
 
 item-step-requires : tie.Need-item-step-requires invariant-loop decreases-loop
 item-step-requires c κs = let l = c.before.before.before.before.loop in
@@ -60,9 +60,9 @@ loop-again c = let s = c.before.before.before.before.before in
     let l = b.before.before.before.loop in
     let o = turn_on _ _ l.counts l.next l.i l.core _ b.before.before.loop-test.true b.if1.false
     l.invariant.3 _ _ s.item-step.ensures _ _ _ (ap (item_of l.counts l.next) c.before.p.given.1) in
-    let w = turn-waits _ _ l.counts l.next l.i l.core _ b.before.before.loop-test.true b.if1.false
+    let w = turn_waits _ _ l.counts l.next l.i l.core _ b.before.before.loop-test.true b.if1.false
     l.invariant.3 _ _ s.item-step.ensures _ _ _ (ap (item_of l.counts l.next) c.before.p.given.1) l.invariant.2 in
-    let n = turn-length _ _ l.counts l.next l.i l.core _ b.before.before.loop-test.true b.if1.false
+    let n = turn_length _ _ l.counts l.next l.i l.core _ b.before.before.loop-test.true b.if1.false
     l.invariant.3 _ _ s.item-step.ensures l.invariant.2 in
     (o.1, n ∙ l.invariant.1, w, o.2)
 
@@ -83,9 +83,9 @@ loop-again-2 c = let s = c.before.before.before.before.before in
     let l = b.before.before.before.loop in
     let o = turn_on _ _ l.counts l.next l.i l.core _ b.before.before.loop-test.true b.if1.false
     l.invariant.3 _ _ s.item-step.ensures _ _ _ (ap (item_of l.counts l.next) c.before.d.given.1) in
-    let w = turn-waits _ _ l.counts l.next l.i l.core _ b.before.before.loop-test.true b.if1.false
+    let w = turn_waits _ _ l.counts l.next l.i l.core _ b.before.before.loop-test.true b.if1.false
     l.invariant.3 _ _ s.item-step.ensures _ _ _ (ap (item_of l.counts l.next) c.before.d.given.1) l.invariant.2 in
-    let n = turn-length _ _ l.counts l.next l.i l.core _ b.before.before.loop-test.true b.if1.false
+    let n = turn_length _ _ l.counts l.next l.i l.core _ b.before.before.loop-test.true b.if1.false
     l.invariant.3 _ _ s.item-step.ensures l.invariant.2 in
     (o.1, n ∙ l.invariant.1, w, o.2)
 
@@ -96,7 +96,7 @@ same-length-2 : tie.Need-same-length-2 invariant-loop decreases-loop
 same-length-2 c = let s = c.before.before.before.before.before in
     let b = s.before.before in
     let l = b.before.before.before.loop in
-    turn-length _ _ l.counts l.next l.i l.core _ b.before.before.loop-test.true b.if1.false l.invariant.3 _ _
+    turn_length _ _ l.counts l.next l.i l.core _ b.before.before.loop-test.true b.if1.false l.invariant.3 _ _
     s.item-step.ensures l.invariant.2 ∙ l.invariant.1
 
 returns-2 : tie.Need-returns-2 invariant-loop decreases-loop
@@ -115,7 +115,7 @@ further-requires c κs = let s = c.before.before.before.before.before in
     let l = b.before.before.before.loop in
     omega (
       arith,
-      turn-place _ _ l.counts l.next l.i l.core _ b.before.before.loop-test.true b.if1.false
+      turn_place _ _ l.counts l.next l.i l.core _ b.before.before.loop-test.true b.if1.false
           l.invariant.3 _ _ s.item-step.ensures _ (ap (item_of l.counts l.next) c.before.f.given.1),
     )
 
@@ -123,7 +123,7 @@ same-length-3 : tie.Need-same-length-3 invariant-loop decreases-loop
 same-length-3 c = let s = c.before.before.before.before.before.before in
     let b = s.before.before in
     let l = b.before.before.before.loop in
-    turn-length _ _ l.counts l.next l.i l.core _ b.before.before.loop-test.true b.if1.false l.invariant.3 _ _
+    turn_length _ _ l.counts l.next l.i l.core _ b.before.before.loop-test.true b.if1.false l.invariant.3 _ _
     s.item-step.ensures l.invariant.2 ∙ l.invariant.1
 
 returns-3 : tie.Need-returns-3 invariant-loop decreases-loop
@@ -131,7 +131,7 @@ returns-3 c = let s = c.before.before.before.before.before.before in
     let b = s.before.before in
     let l = b.before.before.before.loop in
     rw c.further.ensures
-    (turn-refused _ _ l.counts l.next l.i l.core _ b.before.before.loop-test.true b.if1.false l.invariant.3 _ _
+    (turn_refused _ _ l.counts l.next l.i l.core _ b.before.before.loop-test.true b.if1.false l.invariant.3 _ _
     s.item-step.ensures _ (ap (item_of l.counts l.next) c.before.before.f.given.1))
 
 same-length-4 : tie.Need-same-length-4 invariant-loop decreases-loop
@@ -140,8 +140,8 @@ same-length-4 c = c.before.loop.invariant.1
 returns-4 : tie.Need-returns-4 invariant-loop decreases-loop
 returns-4 c = let l = c.before.loop in turn_end _ _ l.counts l.next l.i l.core _ c.loop-test.false l.invariant.3
 
-pub program-step-spec : {M : Type 1} → statement M
-program-step-spec =
+pub program_step_spec : {M : Type 1} → statement M
+program_step_spec =
     tie.close
     (tie.spec
     invariant-loop

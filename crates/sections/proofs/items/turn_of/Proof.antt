@@ -21,6 +21,6 @@ returns-2 c = rw c.before.it2.given.1
 returns-3 : tie.Need-returns-3
 returns-3 c = rw c.before.it3.given.1
 
-pub turn-of-spec : {M : Type 1} → statement M
-turn-of-spec =
+pub turn_of_spec : {M : Type 1} → statement M
+turn_of_spec =
     tie.close (tie.spec enum-known-it enum-known-it-2 enum-known-it-3 returns returns-2 returns-3)

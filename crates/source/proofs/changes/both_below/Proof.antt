@@ -9,5 +9,5 @@ returns c = search tests
 returns-2 : tie.Need-returns-2
 returns-2 c = search tests
 
-pub both-below-spec : {M : Type 1} → statement M
-both-below-spec = tie.close (tie.spec returns returns-2)
+pub both_below_spec : {M : Type 1} → statement M
+both_below_spec = tie.close (tie.spec returns returns-2)

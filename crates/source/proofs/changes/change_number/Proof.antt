@@ -1,5 +1,5 @@
 -- `source::changes::change_number` meets its contract: no term of the sum is more than the number that it requires.
-use Rattle.source.specs.Change.{changeNumber}
+use Rattle.source.specs.Change.{change_number}
 use borrow.Author.Rules.{rules}
 use native.Mathlib.Omega.{arith}
 use Rattle.source.proofs.changes.change_number.Statement.{statement}
@@ -18,7 +18,7 @@ flag-of-requires : tie.Need-flag-of-requires
 flag-of-requires c κs = search rules
 
 mul-result : tie.Need-overflow-mul-result
-unfolding changeNumber
+unfolding change_number
 mul-result c =
     let d = c.before.before in
     let e = d.before.before in
@@ -26,7 +26,7 @@ mul-result c =
     omega arith
 
 add-result : tie.Need-overflow-add-result
-unfolding changeNumber
+unfolding change_number
 add-result c =
     let d = c.before.before in
     let e = d.before.before in
@@ -34,7 +34,7 @@ add-result c =
     omega arith
 
 mul-result-2 : tie.Need-overflow-mul-result-2
-unfolding changeNumber
+unfolding change_number
 mul-result-2 c =
     let d = c.before.before.before in
     let e = d.before.before in
@@ -42,7 +42,7 @@ mul-result-2 c =
     omega arith
 
 add-result-2 : tie.Need-overflow-add-result-2
-unfolding changeNumber
+unfolding change_number
 add-result-2 c =
     let d = c.before.before.before in
     let e = d.before.before in
@@ -50,7 +50,7 @@ add-result-2 c =
     omega arith
 
 mul-result-3 : tie.Need-overflow-mul-result-3
-unfolding changeNumber
+unfolding change_number
 mul-result-3 c =
     let d = c.before.before.before.before in
     let e = d.before.before in
@@ -58,7 +58,7 @@ mul-result-3 c =
     omega arith
 
 add-result-3 : tie.Need-overflow-add-result-3
-unfolding changeNumber
+unfolding change_number
 add-result-3 c =
     let d = c.before.before.before.before in
     let e = d.before.before in
@@ -72,7 +72,7 @@ flag-of-requires-2 : tie.Need-flag-of-requires-2
 flag-of-requires-2 c κs = search rules
 
 mul-result-4 : tie.Need-overflow-mul-result-4
-unfolding changeNumber
+unfolding change_number
 mul-result-4 c =
     let d = c.before.before in
     let e = d.before.before in
@@ -80,7 +80,7 @@ mul-result-4 c =
     omega arith
 
 add-result-4 : tie.Need-overflow-add-result-4
-unfolding changeNumber
+unfolding change_number
 add-result-4 c =
     let d = c.before.before in
     let e = d.before.before in
@@ -91,7 +91,7 @@ flag-of-requires-3 : tie.Need-flag-of-requires-3
 flag-of-requires-3 c κs = search rules
 
 mul-result-5 : tie.Need-overflow-mul-result-5
-unfolding changeNumber
+unfolding change_number
 mul-result-5 c =
     let d = c.before.before.before in
     let e = d.before.before in
@@ -99,7 +99,7 @@ mul-result-5 c =
     omega arith
 
 add-result-5 : tie.Need-overflow-add-result-5
-unfolding changeNumber
+unfolding change_number
 add-result-5 c =
     let d = c.before.before.before in
     let e = d.before.before in
@@ -107,7 +107,7 @@ add-result-5 c =
     omega arith
 
 mul-result-6 : tie.Need-overflow-mul-result-6
-unfolding changeNumber
+unfolding change_number
 mul-result-6 c =
     let d = c.before.before.before.before in
     let e = d.before.before in
@@ -115,7 +115,7 @@ mul-result-6 c =
     omega arith
 
 add-result-6 : tie.Need-overflow-add-result-6
-unfolding changeNumber
+unfolding change_number
 add-result-6 c =
     let d = c.before.before.before.before in
     let e = d.before.before in
@@ -123,7 +123,7 @@ add-result-6 c =
     omega arith
 
 mul-result-7 : tie.Need-overflow-mul-result-7
-unfolding changeNumber
+unfolding change_number
 mul-result-7 c =
     let d = c.before.before.before.before in
     let e = d.before.before in
@@ -131,7 +131,7 @@ mul-result-7 c =
     omega arith
 
 add-result-7 : tie.Need-overflow-add-result-7
-unfolding changeNumber
+unfolding change_number
 add-result-7 c =
     let d = c.before.before.before.before in
     let e = d.before.before in
@@ -142,7 +142,7 @@ enum-known-c-3 : tie.Need-enum-known-c-3
 enum-known-c-3 c = search rules
 
 mul-result-8 : tie.Need-overflow-mul-result-8
-unfolding changeNumber
+unfolding change_number
 mul-result-8 c =
     let d = c.before.before in
     let e = d.before.before in
@@ -150,7 +150,7 @@ mul-result-8 c =
     omega arith
 
 add-result-8 : tie.Need-overflow-add-result-8
-unfolding changeNumber
+unfolding change_number
 add-result-8 c =
     let d = c.before.before in
     let e = d.before.before in
@@ -161,7 +161,7 @@ enum-known-c-4 : tie.Need-enum-known-c-4
 enum-known-c-4 c = search rules
 
 mul-result-9 : tie.Need-overflow-mul-result-9
-unfolding changeNumber
+unfolding change_number
 mul-result-9 c =
     let d = c.before.before in
     let e = d.before.before in
@@ -169,7 +169,7 @@ mul-result-9 c =
     omega arith
 
 add-result-9 : tie.Need-overflow-add-result-9
-unfolding changeNumber
+unfolding change_number
 add-result-9 c =
     let d = c.before.before in
     let e = d.before.before in
@@ -177,35 +177,35 @@ add-result-9 c =
     omega arith
 
 returns : tie.Need-returns
-unfolding changeNumber
+unfolding change_number
 returns c = rw c.enum_told.given.1
 
 returns-2 : tie.Need-returns-2
-unfolding changeNumber
+unfolding change_number
 returns-2 c = rw c.enum-told2.given.1
 
 returns-3 : tie.Need-returns-3
-unfolding changeNumber
+unfolding change_number
 returns-3 c =
     let d = c.before.before.before.before in
     rw d.c.given.1 (omega arith)
 
 returns-4 : tie.Need-returns-4
-unfolding changeNumber
+unfolding change_number
 returns-4 c =
     let d = c.before.before.before.before in
     rw d.c2.given.1 (omega arith)
 
 returns-5 : tie.Need-returns-5
-unfolding changeNumber
+unfolding change_number
 returns-5 c = rw c.before.before.c3.given.1 (omega arith)
 
 returns-6 : tie.Need-returns-6
-unfolding changeNumber
+unfolding change_number
 returns-6 c = rw c.before.before.c4.given.1 (omega arith)
 
-pub change-number-spec : {M : Type 1} → statement M
-change-number-spec =
+pub change_number_spec : {M : Type 1} → statement M
+change_number_spec =
     tie.close
     (tie.spec
     enum_told

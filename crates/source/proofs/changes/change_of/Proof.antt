@@ -1,5 +1,5 @@
 -- `source::changes::change_of` meets its contract: each return by the tests that led to it.
-use Rattle.source.specs.Change.{changeIn}
+use Rattle.source.specs.Change.{change_in}
 use borrow.Author.Rules.{rules}
 use Rattle.word.proofs.Tests.{tests}
 use Rattle.source.proofs.changes.change_of.Statement.{statement}
@@ -15,7 +15,7 @@ bits-requires-3 : tie.Need-bits-requires-3
 bits-requires-3 c κs = search rules
 
 returns : tie.Need-returns
-unfolding changeIn
+unfolding change_in
 returns c =
     let d = c.before.before.before in
     search (tests, ← d.bits.ensures)
@@ -24,7 +24,7 @@ is-set-requires : tie.Need-is-set-requires
 is-set-requires c κs = search rules
 
 returns-2 : tie.Need-returns-2
-unfolding changeIn
+unfolding change_in
 returns-2 c =
     let d = c.before.before.before in
     let e = d.before.before in
@@ -37,7 +37,7 @@ is-set-requires-3 : tie.Need-is-set-requires-3
 is-set-requires-3 c κs = search rules
 
 returns-3 : tie.Need-returns-3
-unfolding changeIn
+unfolding change_in
 returns-3 c =
     let d = c.before.before.before.before.before in
     let e = d.before.before in
@@ -51,25 +51,25 @@ returns-3 c =
     )
 
 returns-4 : tie.Need-returns-4
-unfolding changeIn
+unfolding change_in
 returns-4 c =
     let d = c.before.before.before.before.before in
     search (tests, ← d.bits2.ensures, ← d.before.bits.ensures)
 
 returns-5 : tie.Need-returns-5
-unfolding changeIn
+unfolding change_in
 returns-5 c =
     let d = c.before.before.before.before.before.before in
     search (tests, ← d.bits2.ensures, ← d.before.bits.ensures)
 
 returns-6 : tie.Need-returns-6
-unfolding changeIn
+unfolding change_in
 returns-6 c =
     let d = c.before.before.before.before.before.before.before in
     search (tests, ← d.bits.ensures)
 
-pub change-of-spec : {M : Type 1} → statement M
-change-of-spec =
+pub change_of_spec : {M : Type 1} → statement M
+change_of_spec =
     tie.close
     (tie.spec
     bits-requires

@@ -1,6 +1,6 @@
 -- `source::changes::clear_for` meets its contract: a change by the bits that it fills.
 use Rattle.word.specs.Word.{lowest}
-use Rattle.source.specs.Change.{clearFor}
+use Rattle.source.specs.Change.{clear_for}
 use Rattle.source.proofs.Numbers.{none-set}
 use borrow.Author.Rules.{rules}
 use Rattle.source.proofs.changes.clear_for.Statement.{statement}
@@ -37,31 +37,31 @@ field-requires-3 : tie.Need-field-requires-3
 field-requires-3 c κs = search rules
 
 returns : tie.Need-returns
-unfolding clearFor
+unfolding clear_for
 returns c = rw c.enum_told.given.1 (none-set (lowest c.before.before.args.h) c.before.before.args.w)
 
 returns-2 : tie.Need-returns-2
-unfolding clearFor
+unfolding clear_for
 returns-2 c = rw c.enum-told2.given.1 (none-set (lowest c.before.before.args.h) c.before.before.args.w)
 
 returns-3 : tie.Need-returns-3
-unfolding clearFor
+unfolding clear_for
 returns-3 c = rw (c.before.enum-told3.given.1, c.field.ensures)
 
 returns-4 : tie.Need-returns-4
-unfolding clearFor
+unfolding clear_for
 returns-4 c = rw (c.before.enum-told4.given.1, c.field2.ensures)
 
 returns-5 : tie.Need-returns-5
-unfolding clearFor
+unfolding clear_for
 returns-5 c = rw (c.before.enum-told5.given.1, c.a-field.ensures)
 
 returns-6 : tie.Need-returns-6
-unfolding clearFor
+unfolding clear_for
 returns-6 c = rw (c.before.enum-told6.given.1, c.field3.ensures)
 
-pub clear-for-spec : {M : Type 1} → statement M
-clear-for-spec =
+pub clear_for_spec : {M : Type 1} → statement M
+clear_for_spec =
     tie.close
     (tie.spec
     enum_told

@@ -1,5 +1,5 @@
 -- `source::changes::stands_in` meets its contract: a change by its type.
-use Rattle.source.specs.Fits.{standsIn}
+use Rattle.source.specs.Fits.{stands_in}
 use borrow.Author.Rules.{rules}
 use Rattle.source.proofs.changes.stands_in.Statement.{statement}
 use Rattle.source.proofs.changes.stands_in.Tie as tie
@@ -35,31 +35,31 @@ unit-stands-requires : tie.Need-unit-stands-requires
 unit-stands-requires c κs = search rules
 
 returns : tie.Need-returns
-unfolding standsIn
+unfolding stands_in
 returns c = rw c.enum_told.given.1
 
 returns-2 : tie.Need-returns-2
-unfolding standsIn
+unfolding stands_in
 returns-2 c = rw c.enum-told2.given.1
 
 returns-3 : tie.Need-returns-3
-unfolding standsIn
+unfolding stands_in
 returns-3 c = rw c.before.before.c.given.1 c.both_below.ensures
 
 returns-4 : tie.Need-returns-4
-unfolding standsIn
+unfolding stands_in
 returns-4 c = rw c.before.before.c2.given.1 c.constant-stands.ensures
 
 returns-5 : tie.Need-returns-5
-unfolding standsIn
+unfolding stands_in
 returns-5 c = rw c.before.before.c3.given.1 c.channel-stands.ensures
 
 returns-6 : tie.Need-returns-6
-unfolding standsIn
+unfolding stands_in
 returns-6 c = rw c.before.before.c4.given.1 c.unit-stands.ensures
 
-pub stands-in-spec : {M : Type 1} → statement M
-stands-in-spec =
+pub stands_in_spec : {M : Type 1} → statement M
+stands_in_spec =
     tie.close
     (tie.spec
     enum_told

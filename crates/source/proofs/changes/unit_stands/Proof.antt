@@ -19,5 +19,5 @@ add-result-2 c = search rules
 returns-2 : tie.Need-returns-2
 returns-2 c = search tests
 
-pub unit-stands-spec : {M : Type 1} → statement M
-unit-stands-spec = tie.close (tie.spec add-if1 returns add-result add-result-2 returns-2)
+pub unit_stands_spec : {M : Type 1} → statement M
+unit_stands_spec = tie.close (tie.spec add-if1 returns add-result add-result-2 returns-2)

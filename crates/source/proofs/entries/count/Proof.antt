@@ -1,6 +1,6 @@
 -- `source::entries::count` meets its contract: each type by itself.
-use Rattle.label.specs.Tables.{countsOf}
-use Rattle.source.specs.Source.{countsIn}
+use Rattle.label.specs.Tables.{counts_of}
+use Rattle.source.specs.Source.{counts_in}
 use borrow.Author.Rules.{rules}
 use Rattle.source.proofs.entries.count.Statement.{statement}
 use Rattle.source.proofs.entries.count.Tie as tie
@@ -18,7 +18,7 @@ count-type-requires-4 : tie.Need-count-type-requires-4
 count-type-requires-4 c κs = search rules
 
 returns : tie.Need-returns
-unfolding countsIn countsOf
+unfolding counts_in counts_of
 returns c =
     let d = c.before.before in
     rw (d.before.count-type.ensures, d.count-type2.ensures, c.before.count-type3.ensures, c.count-type4.ensures)

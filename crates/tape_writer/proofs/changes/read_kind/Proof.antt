@@ -1,5 +1,5 @@
 -- `tape_writer::changes::read_kind` is safe: the number of `move` is 8.
-use Rattle.source.specs.Change.{changeNumber}
+use Rattle.source.specs.Change.{change_number}
 use native.Mathlib.Omega.{arith}
 use borrow.Author.Rules.{rules}
 use Rattle.tape_writer.proofs.changes.read_kind.Statement.{statement}
@@ -12,7 +12,7 @@ is-piece-requires : tie.Need-is-piece-requires
 is-piece-requires c κs = search rules
 
 change-number-requires : tie.Need-change-number-requires
-unfolding changeNumber
+unfolding change_number
 change-number-requires c κs = omega arith
 
 end-change-requires : tie.Need-end-change-requires
@@ -72,8 +72,8 @@ returns-5 c = search rules
 returns-6 : tie.Need-returns-6
 returns-6 c = search rules
 
-pub read-kind-spec : {M : Type 1} → statement M
-read-kind-spec =
+pub read-kind_spec : {M : Type 1} → statement M
+read-kind_spec =
     tie.close
     (tie.spec
     slice-aggregate-is-piece

@@ -1,16 +1,16 @@
 -- `tape_writer::changes::unit_number` is safe: the number has at most 33 bits.
-use Rattle.source.specs.Change.{changeNumber}
+use Rattle.source.specs.Change.{change_number}
 use native.Mathlib.Omega.{arith}
 use borrow.Author.Rules.{rules}
 use Rattle.tape_writer.proofs.changes.unit_number.Statement.{statement}
 use Rattle.tape_writer.proofs.changes.unit_number.Tie as tie
 
 change-number-requires : tie.Need-change-number-requires
-unfolding changeNumber
+unfolding change_number
 change-number-requires c κs = omega arith
 
 returns : tie.Need-returns
 returns c = search rules
 
-pub unit-number-spec : {M : Type 1} → statement M
-unit-number-spec = tie.close (tie.spec change-number-requires returns)
+pub unit_number_spec : {M : Type 1} → statement M
+unit_number_spec = tie.close (tie.spec change-number-requires returns)

@@ -50,8 +50,8 @@ loop-again c = search rules
 returns-5 : tie.Need-returns-5 invariant-loop decreases-loop
 returns-5 c = search rules
 
-pub decimal-spec : {M : Type 1} → statement M
-decimal-spec =
+pub decimal_spec : {M : Type 1} → statement M
+decimal_spec =
     tie.close
     (tie.spec
     invariant-loop

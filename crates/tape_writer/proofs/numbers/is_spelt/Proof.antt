@@ -38,8 +38,8 @@ loop-again c = search rules
 returns-3 : tie.Need-returns-3 invariant-loop decreases-loop
 returns-3 c = search rules
 
-pub is-spelt-spec : {M : Type 1} → statement M
-is-spelt-spec =
+pub is_spelt_spec : {M : Type 1} → statement M
+is_spelt_spec =
     tie.close
     (tie.spec
     invariant-loop

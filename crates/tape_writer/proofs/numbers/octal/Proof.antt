@@ -1,7 +1,7 @@
 -- `tape_writer::numbers::octal` is safe and ends: i digits come to less than 8 to the power of i.
 use Prim.Native.Nat.{◌-◌, ◌≤◌, ◌<◌, ◌^◌}
 use lib.ListN.{length}
-use Rattle.octal.proofs.Digits.{below_more, below-most}
+use Rattle.octal.proofs.Digits.{below_more, below_most}
 use native.Mathlib.Omega.{arith}
 use borrow.Author.Rules.{rules}
 use Rattle.tape_writer.proofs.numbers.octal.Statement.{statement}
@@ -34,7 +34,7 @@ returns-4 c = search rules
 mul-w : tie.Need-overflow-mul-w invariant-loop decreases-loop
 mul-w c =
     let l = c.before.before.before.before.loop in
-    omega (arith, below-most 11 _ l.w (omega arith) l.invariant.1)
+    omega (arith, below_most 11 _ l.w (omega arith) l.invariant.1)
 
 cast-w : tie.Need-overflow-cast-w invariant-loop decreases-loop
 cast-w c = search rules
@@ -42,7 +42,7 @@ cast-w c = search rules
 add-w : tie.Need-overflow-add-w invariant-loop decreases-loop
 add-w c =
     let l = c.before.before.before.before.loop in
-    omega (arith, below-most 11 _ l.w (omega arith) l.invariant.1)
+    omega (arith, below_most 11 _ l.w (omega arith) l.invariant.1)
 
 add-i : tie.Need-overflow-add-i invariant-loop decreases-loop
 add-i c = search rules
@@ -56,8 +56,8 @@ loop-again c = (omega arith, below_more _ _ _ c.before.before.before.before.loop
 returns-5 : tie.Need-returns-5 invariant-loop decreases-loop
 returns-5 c = search rules
 
-pub octal-spec : {M : Type 1} → statement M
-octal-spec =
+pub octal_spec : {M : Type 1} → statement M
+octal_spec =
     tie.close
     (tie.spec
     invariant-loop

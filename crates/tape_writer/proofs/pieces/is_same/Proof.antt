@@ -38,8 +38,8 @@ loop-again c = search rules
 returns-3 : tie.Need-returns-3 invariant-loop decreases-loop
 returns-3 c = search rules
 
-pub is-same-spec : {M : Type 1} → statement M
-is-same-spec =
+pub is_same_spec : {M : Type 1} → statement M
+is_same_spec =
     tie.close
     (tie.spec
     invariant-loop

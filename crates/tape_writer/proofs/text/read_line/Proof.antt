@@ -82,8 +82,8 @@ same-length-8 c = search rules
 returns-4 : tie.Need-returns-4 invariant-loop decreases-loop
 returns-4 c = search rules
 
-pub read-line-spec : {M : Type 1} → statement M
-read-line-spec =
+pub read-line_spec : {M : Type 1} → statement M
+read-line_spec =
     tie.close
     (tie.spec
     invariant-loop

@@ -163,8 +163,8 @@ returns c =
     (more 1 _ (omega arith)
     (copied-first l s k.args.i 8 k.requires.0 k.requires.1 (omega arith)))))))))
 
-pub copy-eight-spec : {M : Type 1} → statement M
-copy-eight-spec =
+pub copy_eight_spec : {M : Type 1} → statement M
+copy_eight_spec =
     tie.close
     (tie.spec
     mul-a

@@ -4,7 +4,7 @@ use mathlib.Core.Path.{◌≡◌, refl, ◌∙◌}
 use native.Mathlib.Omega.{arith}
 use lib.ListN.{length, take, length-take, length-drop}
 use Rattle.word.specs.Lists.{range}
-use Rattle.word.proofs.Lists.{alike-more, alike_all}
+use Rattle.word.proofs.Lists.{alike_more, alike_all}
 use Rattle.word.proofs.slices.copy_whole.Statement.{statement}
 use Rattle.word.proofs.slices.copy_whole.Tie as tie
 
@@ -36,7 +36,7 @@ loop-again c =
     let a = k.before.before.before.before.before.before.args in (
       omega arith,
       omega arith,
-      rw k.copy-eight.ensures (alike-more l.dst a.src.now l.i 8 (omega arith) (omega arith) l.invariant.2),
+      rw k.copy-eight.ensures (alike_more l.dst a.src.now l.i 8 (omega arith) (omega arith) l.invariant.2),
     )
 
 mul-copy-in : tie.Need-overflow-mul-copy-in invariant-loop decreases-loop
@@ -64,8 +64,8 @@ returns c =
     let l = k.before.before.before.before.loop in
     k.copy-in.ensures ∙ alike_all _ _ _ (omega arith) (omega arith) l.invariant.2
 
-pub copy-whole-spec : {M : Type 1} → statement M
-copy-whole-spec =
+pub copy_whole_spec : {M : Type 1} → statement M
+copy_whole_spec =
     tie.close
     (tie.spec
     invariant-loop
