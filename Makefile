@@ -1,6 +1,6 @@
 # make help lists the targets. What is proved already is not proved again: a target is made when a file of a crate that it needs is
 # newer.
-.PHONY: all help lib programs load deck reseal assign tape install test test-c fuzz check clean
+.PHONY: all help lib programs load deck reseal assign install test test-c fuzz check clean
 .DELETE_ON_ERROR:
 .NOTPARALLEL:
 
@@ -17,7 +17,6 @@ help:
 	@echo 'make deck      the load printer on the hand deck'
 	@echo 'make reseal <FILE       a file of octal lines whose blocks have the old checksum, with the checksum in force'
 	@echo 'make assign BOOK=FILE <FILE    the lists that a facility book gives a file of octal lines'
-	@echo 'make tape <TEXT         the octal lines of the program file that a text says, as examples/tape.txt does'
 	@echo 'make test      the tests outside Rattle: the library by programs in C, its stack, the header, the install, the programs'
 	@echo 'make fuzz SECONDS=60    the library and the second loader compared for this many seconds, with a seed from the clock'
 	@echo 'make check     the gate: every crate proved from nothing, every wrong loader refused, and the tests'
@@ -42,13 +41,12 @@ build/clamp.h: include/clamp.h
 	@mkdir -p build
 	@cp include/clamp.h build/
 
-programs: build/load_printer build/reseal build/assign build/tape_writer
+programs: build/load_printer build/reseal build/assign
 
 build/load_printer: $(call sources,load_printer)
 build/reseal: $(call sources,reseal)
 build/assign: $(call sources,assign)
-build/tape_writer: $(call sources,tape_writer)
-build/load_printer build/reseal build/assign build/tape_writer:
+build/load_printer build/reseal build/assign:
 	@tools/prove $(@F)
 	@mkdir -p build
 	@cp target/bin/$(@F) build/
@@ -69,9 +67,6 @@ reseal: build/reseal
 # make hands BOOK on in the environment; where there is none the program says how it is used
 assign: build/assign
 	$(run) $${BOOK:+"$$BOOK"}
-
-tape: build/tape_writer
-	$(run)
 
 deck:
 	@$(MAKE) -s load <crates/load_printer/stdin

@@ -1,7 +1,7 @@
 /* peer.h: a loader in C with the duties of the library and written for speed, to measure the library beside. Each call takes what
    the call of that name in clamp.h takes, and gives the same answer, over the same desk (docs/DESK.md): it tests the whole desk
-   first, and leaves desk and core as the library leaves them. Reseal, needs, assign and write have no desk, and leave the block, the
-   lists and the blocks so. */
+   first, and leaves desk and core as the library leaves them. Reseal, needs and assign have no desk, and leave the block and the
+   lists so. */
 
 #ifndef PEER_H
 #define PEER_H
@@ -24,8 +24,5 @@ uint64_t peer_needs(const uint64_t *label, uint64_t label_len);
 
 uint64_t peer_assign(const uint8_t *book, uint64_t book_len, const uint64_t *blocks, uint64_t blocks_len, uint64_t *io,
                      uint64_t io_len, uint64_t *tables, uint64_t tables_len);
-
-uint64_t peer_write(const uint64_t *head, uint64_t head_len, const uint64_t *entries, uint64_t entries_len, const uint64_t *sections,
-                    uint64_t sections_len, const uint64_t *words, uint64_t words_len, uint64_t *blocks, uint64_t blocks_len);
 
 #endif

@@ -6,9 +6,7 @@
 
 #include "block_layout.h"
 #include "books.h"
-#include "programs.h"
 #include "reader.h"
-#include "write_rules.h"
 
 enum { STACK_BYTES = 65536, STACK_ALIGNMENT = 64, PATTERN = 0xa5 };
 
@@ -22,8 +20,6 @@ static void (*called)(void);
 static uint64_t room, place, area, words_lent, number;
 static uint64_t front[FRONT_WORDS_MOST], front_words, book_bytes;
 static uint8_t book[BOOK_BYTES_MOST];
-static struct program program;
-static uint64_t blocks[PROGRAM_BLOCKS_MOST * WORDS_IN_BLOCK], blocks_len;
 
 static void make(void) { answer = clamp_make(desk, CLAMP_DESK_WORDS, CORE_MOST, map, MAP_LENGTH); }
 
@@ -38,11 +34,6 @@ static void words(void) { answer = clamp_desk_words(); }
 static void needs(void) { answer = clamp_needs(front, words_lent); }
 static void assign(void) {
   answer = clamp_assign(book, book_bytes, front, front_words, io, ENTRIES_MOST, tables, PAIRS_MOST);
-}
-
-static void write(void) {
-  answer = clamp_write(program.head, words_lent, program.entries, program.entries_len, program.sections, program.sections_len,
-                       program.words, program.words_len, blocks, blocks_len);
 }
 
 static void run(void) {
@@ -65,7 +56,7 @@ static unsigned depth(void (*call)(void)) {
   return (unsigned)(from - (stack + untouched));
 }
 
-enum { MAKE, OPEN, FEED, RELEASE, RESEAL, NEEDS_CALL, ASSIGN, WRITE, WORDS, CALLS };
+enum { MAKE, OPEN, FEED, RELEASE, RESEAL, NEEDS_CALL, ASSIGN, WORDS, CALLS };
 
 static unsigned most[CALLS];
 
@@ -247,63 +238,8 @@ static void assign_books(void) {
   refuse_fronts();
 }
 
-/* Every kind of change in a few words of the program; the bits that they fill are zero. */
-static void change_kinds(void) {
-  static const uint64_t changes[][2] = {{CLAMP_CHANGE_MOVE, CLAMP_CHANGE_NONE},
-                                        {CLAMP_CHANGE_PAIR(1, 2), CLAMP_CHANGE_PAIR(3, 4) + CLAMP_CHANGE_MINUS},
-                                        {CLAMP_CHANGE_LENGTH(1, CONSTANT_MOST), CLAMP_CHANGE_ADDRESS(1, CONSTANT_SHORT)},
-                                        {CLAMP_CHANGE_SWITCH(CHANNELS_MOST - 1), CLAMP_CHANGE_UNIT(ENTRIES_MOST - 1)},
-                                        {CLAMP_CHANGE_UNIT(CHANNELS_MOST), CLAMP_CHANGE_MOVE}};
-  for (unsigned i = 0; i < sizeof changes / sizeof changes[0]; i++) {
-    program.words[WORD_NUMBERS * i + WORD_WORD] = 0;
-    program.words[WORD_NUMBERS * i + WORD_LEFT] = changes[i][0];
-    program.words[WORD_NUMBERS * i + WORD_RIGHT] = changes[i][1];
-  }
-}
-
-/* One number of the program is changed for one call (28). */
-static void refuse_with(uint64_t *number, uint64_t value) {
-  uint64_t was = *number;
-  *number = value;
-  note(WRITE, write, CLAMP_REFUSED_SOURCE);
-  *number = was;
-}
-
-/* A program that is refused in each of its parts, and for want of blocks. */
-static void refuse_program(void) {
-  refuse_with(&words_lent, HEAD_NUMBERS - 1);
-  refuse_with(&program.head[HEAD_NAME], 0);
-  refuse_with(&program.head[HEAD_DCOUNT], 1);
-  refuse_with(&program.head[HEAD_START], VALUE_MOST);
-  refuse_with(&program.entries[program.entries_len - 1], CORE_MOST);
-  refuse_with(&program.entries[0], ENTRY_TABLE);
-  refuse_with(&program.sections[0], 1);
-  refuse_with(&program.words[program.words_len - 1], UINT64_MAX);
-  refuse_with(&program.words[WORD_WORD], UINT64_MAX);
-  refuse_with(&program.words_len, program.words_len - WORD_NUMBERS);
-  blocks_len = WORDS_IN_BLOCK;
-  note(WRITE, write, CLAMP_REFUSED_SPACE);
-}
-
-/* Programs of each mix, with all entries and sections that there can be. */
-static void write_programs(void) {
-  enum { PROGRAM_WORDS = 2000 };
-  for (enum mix mix = UNCHANGED_WORDS; mix < PROGRAM_MIXES; mix++) {
-    words_lent = HEAD_NUMBERS;
-    blocks_len = PROGRAM_BLOCKS_MOST * WORDS_IN_BLOCK;
-    make_program(&program, mix, PROGRAM_WORDS, full, ENTRIES_MOST);
-    note(WRITE, write, CLAMP_WRITTEN);
-    change_kinds();
-    note(WRITE, write, CLAMP_WRITTEN);
-    refuse_program();
-  }
-  make_program(&program, UNCHANGED_WORDS, 1, (struct entries){0, 0, 0}, 0);
-  blocks_len = PROGRAM_BLOCKS_MOST * WORDS_IN_BLOCK;
-  note(WRITE, write, CLAMP_WRITTEN);
-}
-
 int main(void) {
-  static const char *const names[CALLS] = {"make", "open", "feed", "release", "reseal", "needs", "assign", "write", "desk_words"};
+  static const char *const names[CALLS] = {"make", "open", "feed", "release", "reseal", "needs", "assign", "desk_words"};
   even_map(map);
   note(MAKE, make, CLAMP_MADE);
   for (unsigned load = 0; load < PLACES; load++) {
@@ -325,7 +261,6 @@ int main(void) {
   note(RELEASE, release, CLAMP_REFUSED_PLACE);
   reseal_blocks();
   assign_books();
-  write_programs();
   note(WORDS, words, CLAMP_CODE(CLAMP_DESK_WORDS));
   for (unsigned i = 0; i < CALLS; i++)
     printf("%s\t%u\n", names[i], most[i]);

@@ -37,7 +37,6 @@
      group          a run of program words with one address, and after them which of their fields are changed, and how.
      tag            a word of an entry: the name, in six characters of Fieldata, that the program's source had for it.
      book           a facility book: for tags, what is assigned to them (clamp_assign).
-     change         of a half of a program word, when a file is to be written: what is to be done to it (clamp_write).
 
 
    WHAT IS TAKEN ON TRUST
@@ -80,16 +79,16 @@
    loads, and bring both back together: a load that goes on over another core ends in another image, and no call can tell. A desk
    is for the library that made it: save CLAMP_VERSION_STRING beside it.
 
-   Stack. Measured, the most of many calls: ___ bytes in write, 6,368 in assign, 2,624 in open, 952 in feed, 336 in release, 176 in
-   needs, 64 in make, 16 in reseal (docs/PERFORMANCE.md). The tests fail where assign or write takes over 8,192, open over 3,072 or
-   another call over 1,024. The first call that copies or clears memory may take some 3 KB more, where the dynamic linker then looks
-   for memcpy or memset. No call is recursive.
+   Stack. Measured, the most of many calls: 6,368 bytes in assign, 2,624 in open, 952 in feed, 336 in release, 176 in needs, 64 in
+   make, 16 in reseal (docs/PERFORMANCE.md). The tests fail where assign takes over 8,192, open over 3,072 or another call over
+   1,024. The first call that copies or clears memory may take some 3 KB more, where the dynamic linker then looks for memcpy or
+   memset. No call is recursive.
 
    Cost. Open, feed and release test the whole desk: some 400 instructions with one load of few tables, 8,700 with twelve loads of
    128 tables each. To that a program block adds from 1,300 (no field changed) to 22,000 (every field), and open has the area to
    clear and the tables to sort. Reseal goes through the block once, some 510, and so does needs, some 830. Assign takes some
-   310,000 with a full file and its book of 384 records, 14,000 with an eighth of both. Write takes from ___ (no field changed) to
-   ___ (every field) for each program word. No call waits, calls the operating system or calls back.
+   310,000 with a full file and its book of 384 records, 14,000 with an eighth of both. No call waits, calls the operating system
+   or calls back.
 
    A call that does not return (longjmp out of a signal handler, a thread that is ended) may leave any desk and core: make the desk
    again. The library has no unwind tables, because the Rattle kit makes none: a debugger that stops inside a call may not find the
@@ -109,9 +108,9 @@ extern "C" {
    change, or a saved desk is of no use any more. */
 
 #define CLAMP_VERSION_MAJOR 1
-#define CLAMP_VERSION_MINOR 4
+#define CLAMP_VERSION_MINOR 3
 #define CLAMP_VERSION_PATCH 0
-#define CLAMP_VERSION_STRING "1.4.0"
+#define CLAMP_VERSION_STRING "1.3.0"
 #define CLAMP_VERSION_NUMBER (CLAMP_VERSION_MAJOR * 10000 + CLAMP_VERSION_MINOR * 100 + CLAMP_VERSION_PATCH)
 
 /* How many numbers a desk has, 29,224 bytes: what clamp_desk_words() answers. Where the two differ, the program was compiled with
@@ -125,7 +124,7 @@ extern "C" {
 #define CLAMP_CODE(answer) ((uint64_t)(answer) >> 32)
 #define CLAMP_VALUE(answer) ((uint64_t)(answer) & 0xffffffffu)
 
-/* Whether an answer is a refusal: a code from 1 to 63, which is the refusal's number. The value of refusals 1 to 12 and 24 to 29 is
+/* Whether an answer is a refusal: a code from 1 to 63, which is the refusal's number. The value of refusals 1 to 12 and 24 to 27 is
    0; that of 13 to 22 tells where the fault is. */
 
 #define CLAMP_IS_REFUSAL(answer) (CLAMP_CODE(answer) - 1u < 63u)
@@ -187,11 +186,6 @@ extern "C" {
 #define CLAMP_REFUSED_TAG_TWICE 26u   /* the book has a tag twice in one kind */
 #define CLAMP_REFUSED_TAG_MISSING 27u /* the file has a tag that the book does not have in its kind */
 
-/* Refusals 28 and 29 are write's alone. They change nothing; where both are due 28 is given. */
-
-#define CLAMP_REFUSED_SOURCE 28u      /* what is to be written is nothing that a file can carry */
-#define CLAMP_REFUSED_SPACE 29u       /* the file has more blocks than were lent */
-
 /* The codes from 64 on are the answers of a call that was accepted. The value is 0 except where noted. */
 
 #define CLAMP_MADE 64u     /* by make */
@@ -201,7 +195,6 @@ extern "C" {
 #define CLAMP_RELEASED 68u /* by release */
 #define CLAMP_ASSIGNED 69u /* by assign */
 #define CLAMP_NEEDS 70u    /* by needs; the value is what CLAMP_NEEDS_IO and the two after it tell */
-#define CLAMP_WRITTEN 71u  /* by write; the value is how many blocks were written */
 #define CLAMP_RESEALED 72u /* by reseal */
 
 /* A code in words, for a person to read: what was refused and why, or what was accepted. It is never NULL. */
@@ -234,8 +227,6 @@ static inline const char *clamp_text(uint64_t code) {
   case CLAMP_REFUSED_TAG_UNKNOWN: return "the book has a tag that the file does not have in its kind";
   case CLAMP_REFUSED_TAG_TWICE: return "the book has a tag twice in one kind";
   case CLAMP_REFUSED_TAG_MISSING: return "the file has a tag that the book does not have in its kind";
-  case CLAMP_REFUSED_SOURCE: return "what is to be written is nothing that a file can carry";
-  case CLAMP_REFUSED_SPACE: return "the file has more blocks than were lent";
   case CLAMP_MADE: return "made";
   case CLAMP_OPENED: return "opened";
   case CLAMP_MORE: return "more";
@@ -243,7 +234,6 @@ static inline const char *clamp_text(uint64_t code) {
   case CLAMP_RELEASED: return "released";
   case CLAMP_ASSIGNED: return "assigned";
   case CLAMP_NEEDS: return "needs";
-  case CLAMP_WRITTEN: return "written";
   case CLAMP_RESEALED: return "resealed";
   default: return "no answer of this version";
   }
@@ -484,101 +474,6 @@ uint64_t clamp_assign(const uint8_t *book, uint64_t book_len,
    Refused, the block is as it was. The program reseal does this for a file of octal lines (README.md). */
 
 uint64_t clamp_reseal(uint64_t *block, uint64_t block_len, uint64_t index);
-
-
-/* Write: the blocks of a program file, from its words and what is to be done to them. It needs no desk.
-
-     head, head_len           CLAMP_HEAD_NUMBERS numbers, about the whole program:
-                                0, 1   the name: twelve characters of Fieldata, six in a word, as the label has it
-                                2      1 where no table may be longer than its least length, else 0
-                                3, 4   the IBANK: its relative address, and how many words it has, at least 1
-                                5, 6   the DBANK: the same; it may have none, and has an address all the same
-                                7      the start, a relative address in the IBANK
-     entries, entries_len     CLAMP_ENTRY_NUMBERS numbers for each entry, in the file's order: all CLAMP_ENTRY_SWITCH, then all
-                              CLAMP_ENTRY_CHANNEL, CLAMP_ENTRY_UNIT and CLAMP_ENTRY_TABLE:
-                                0      its type
-                                1      its first word: the tag, of a table the tag of its address
-                                2      its second word: of a table the tag of its length, of others any word
-                                3      of a table its least length, at most 65,535; of others 0
-     sections, sections_len   CLAMP_SECTION_NUMBERS numbers for each table that has words in the file, the lowest table first:
-                                0      the table's number
-                                1      how many words of it there are, 1 to 65,535, from its first on
-     words, words_len         CLAMP_WORD_NUMBERS numbers for each program word: those of the IBANK, then those of the DBANK, then
-                              those of each section, just as many as the counts say:
-                                0      the word
-                                1      the change of its left half
-                                2      the change of its right half
-     blocks, blocks_len       where the file is to be: 256 numbers a block. CLAMP_BLOCKS_MOST says how many are always enough.
-
-   I/O references and tables are numbered by the entries, each from 0: the first CLAMP_ENTRY_TABLE is table 0; the first of the other
-   entries is I/O reference 0, whatever its type. A change is one number. Its low four bits say which, and the macros put it together:
-
-     CLAMP_CHANGE_NONE               the half is stored as it is
-     CLAMP_CHANGE_MOVE               its field has a relative address, and the area's address is added (type 000)
-     CLAMP_CHANGE_PAIR(k, l)         its field becomes the address of table k plus the length of table l (001)
-     CLAMP_CHANGE_ADDRESS(k, c)      its field becomes the address of table k plus c, at most 16,383 (010)
-     CLAMP_CHANGE_LENGTH(k, c)       its field becomes the length of table k plus c, at most 16,383 (010)
-     CLAMP_CHANGE_SWITCH(r)          bits 25-22 become the number of I/O reference r, a jump switch or a channel; left half only (100)
-     CLAMP_CHANGE_UNIT(r)            its field becomes the number of I/O reference r, a unit (111)
-
-   To PAIR, ADDRESS and LENGTH CLAMP_CHANGE_MINUS may be added: then the length or the constant is subtracted. A constant of 0 may not
-   be. The bits that a change fills are zero in the word: the field for PAIR, ADDRESS, LENGTH and UNIT, bits 25-22 for SWITCH. MOVE
-   moves the field that is there. The macros do not look at their arguments: a number over 255 would run into the constant.
-
-   Answers:
-
-     CLAMP_WRITTEN, count   the file stands in the first `count` blocks: label, modification blocks, program blocks, termination block,
-                            each sealed. What is lent behind them is as it was. Fed in their order to a load whose area and lists
-                            draw no 16, 17 or 21, each block is answered with CLAMP_MORE and the last with CLAMP_DONE, and the area
-                            then holds the words with their changes.
-     28, 0                  head_len is not 8, or another length not what the counts say;
-                            a word of the name, of an entry or of the program is 2^36 or more;
-                            the name is none that a label may have, or head number 2 is over 1;
-                            an entry has another type, stands before one of a lower type, or has a least length that it may not have;
-                            there are over 16 jump switches and channels, over 128 I/O references or over 128 tables;
-                            an address or count of a bank is over 65,535, the IBANK is empty, the banks share a word, or one ends past
-                            65,536;
-                            a section has no words or over 65,535, its table's number is not above the one before, or there is no such
-                            table;
-                            the start is not in the IBANK;
-                            a change is none of the above, names an entry that is not there or is not of its type, has a constant over
-                            16,383 or subtracts 0, or a bit that it fills is set
-     29, 0                  the file has more blocks than blocks_len / 256
-
-   Refused, the blocks are as they were. Whatever is not refused is written, also a program for which there can be no lists. The same
-   numbers always give the same blocks: a group is as long as its block allows, and a constant below 64 has the short form.
-   docs/WRITER.md has the blocks, and for each case of 28 what a loader would say of such a file. */
-
-#define CLAMP_HEAD_NUMBERS 8
-#define CLAMP_ENTRY_NUMBERS 4
-#define CLAMP_SECTION_NUMBERS 2
-#define CLAMP_WORD_NUMBERS 3
-
-#define CLAMP_ENTRY_SWITCH 0u
-#define CLAMP_ENTRY_CHANNEL 2u
-#define CLAMP_ENTRY_UNIT 3u
-#define CLAMP_ENTRY_TABLE 12u
-
-#define CLAMP_CHANGE_NONE ((uint64_t)0)
-#define CLAMP_CHANGE_MOVE ((uint64_t)8)
-#define CLAMP_CHANGE_PAIR(address, length) (9u + ((uint64_t)(address) << 8) + ((uint64_t)(length) << 16))
-#define CLAMP_CHANGE_ADDRESS(table, constant) (10u + ((uint64_t)(table) << 8) + ((uint64_t)(constant) << 16))
-#define CLAMP_CHANGE_LENGTH(table, constant) (42u + ((uint64_t)(table) << 8) + ((uint64_t)(constant) << 16))
-#define CLAMP_CHANGE_SWITCH(reference) (12u + ((uint64_t)(reference) << 8))
-#define CLAMP_CHANGE_UNIT(reference) (15u + ((uint64_t)(reference) << 8))
-#define CLAMP_CHANGE_MINUS ((uint64_t)16)
-
-/* No file with so many sections and so many program words has more blocks than this: lend 256 times as many numbers. With no change
-   in any word a block holds 239 words, with both halves changed in the longest form 146. A label, a termination block and at most
-   three modification blocks are among these blocks. */
-
-#define CLAMP_BLOCKS_MOST(sections, words) (7u + (2 * (uint64_t)(words) + 3 * (uint64_t)(sections)) / 250)
-
-uint64_t clamp_write(const uint64_t *head, uint64_t head_len,
-                     const uint64_t *entries, uint64_t entries_len,
-                     const uint64_t *sections, uint64_t sections_len,
-                     const uint64_t *words, uint64_t words_len,
-                     uint64_t *blocks, uint64_t blocks_len);
 
 
 /* An example: a core of 4,096 words, all of them room 0's; a load of 64 words at 512 with one I/O reference, which is assigned 3,

@@ -4,6 +4,8 @@ repository moved to rattle-kit-13f, right after the kit's port.py; it is kept so
 
 usage: python3 tools/spell.py [--list]      at the top of the repository; --list prints the new names and writes nothing
 
+spell.names beside it has the names as they were made that day, so that the same names come out in any older checkout.
+
 A definition or lemma in camel case becomes snake case (inHalf, in_half). A dash stays where it joins two names of definitions
 (part-put), and is an underscore elsewhere (flag-below, flag_below). A word whose value is a type begins with a capital. Names from
 Rattle source, and names that Rattle makes, keep their spelling. It reads crates/ (.rt, .antt, .edit), and turns names in
@@ -112,8 +114,22 @@ def settled():
     return names
 
 
+def foreign(text):
+    """The names that a file takes from std and the logic: they keep their spelling there."""
+    out = set()
+    for m in re.finditer(r"(?m)^\s*(?:ghost )?use (\S+?)\.\{([^}]*)\}", text):
+        if not m[1].startswith("Rattle.") or m[1].startswith("Rattle.std."):
+            out |= {x.split(" as ")[0].strip() for x in m[2].split(",")}
+    return out
+
+
 def main():
-    names = settled()
+    kept = os.path.join(os.path.dirname(os.path.realpath(__file__)), "spell.names")
+    if os.path.isfile(kept):
+        with open(kept, encoding="utf-8") as it:
+            names = dict(l.split() for l in it)
+    else:
+        names = settled()
     listing = "--list" in sys.argv
     if listing:
         for n, m in sorted(names.items()):
@@ -132,7 +148,8 @@ def main():
                 print(f"stands already: {m} for {n} in {os.path.relpath(p, ROOT)}")
                 found += 1
         if not listing:
-            new = turn(text, names, p.endswith(".rt"))
+            std = foreign(text)
+            new = turn(text, {n: m for n, m in names.items() if n not in std}, p.endswith(".rt"))
             if new != text:
                 with open(p, "w", encoding="utf-8") as it:
                     it.write(new)

@@ -67,11 +67,6 @@ sum_known l p s h e = by-test (whole_block l)
     })
     (λ q. absurd (no_sum s (rw q at e)))
 
--- a whole block is summed
-pub none-whole : (l : List ℕ) → summed l ≡ NoBlock → whole_block l ≡ true → ⊥
-unfolding summed
-none-whole l e w = no_sum (total l) (sym e ∙ rw w)
-
 no_pass : (n : ℕ) → Refused (fault n) ≡ Pass → ⊥
 no_pass n e = let z : ◌≡◌ {A = ℕ} 0 1 = cc in omega arith
 

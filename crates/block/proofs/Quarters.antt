@@ -22,7 +22,7 @@ and_past true b c = refl
 and_past false true c = refl
 and_past false false c = refl
 
-pub every_append : (xs ys : List ℕ) → every is_word (xs ++ ys) ≡ (every is_word xs && every is_word ys)
+every_append : (xs ys : List ℕ) → every is_word (xs ++ ys) ≡ (every is_word xs && every is_word ys)
 unfolding every
 every_append [] ys = refl
 every_append (x ∷ xs) ys = rw (every_append xs ys) (sym (and_assoc (is_word x) (every is_word xs) (every is_word ys)))

@@ -1,11 +1,11 @@
 -- Refusals 11 and 12: "block not 256 words, or a word of 2^36 or more"; "checksum word differs".
-use Rattle.std.specs.Prelude.{ℕ, ◌-◌, Bool, ◌&&◌, List, ◌++◌, length, replicate, ◌==◌, slice_set}
+use Rattle.std.specs.Prelude.{ℕ, Bool, ◌&&◌, List, length, ◌==◌}
 use Rattle.word.specs.Limits.{words_in_block}
 use Rattle.word.specs.Word.{is_word}
 use Rattle.word.specs.Lists.{every}
 use Rattle.word.specs.Fault.{fault, unless}
 use Rattle.block.specs.Records.{checksum_place}
-use Rattle.block.specs.Checksum.{checksum, others, agrees}
+use Rattle.block.specs.Checksum.{checksum, agrees}
 use Rattle.block.specs.declared.Record.{Record}
 use Rattle.block.specs.declared.Verdict.{Verdict}
 use Rattle.block.specs.declared.Verdict.TheVariants.{Pass, Refused}
@@ -23,11 +23,3 @@ seal_verdict checksumOf p block =
 -- of a block of record r, by the rule in force
 unfoldable pub verdict : Record → List ℕ → Verdict
 verdict r block = seal_verdict checksum (checksum_place r) block
-
--- a block with the checksum word at place p that the rule in force gives it, and no other word changed
-unfoldable pub sealed_anew : ℕ → List ℕ → List ℕ
-sealed_anew p block = slice_set block p (checksum (others p block))
-
--- a block that begins with these words, all others zero
-unfoldable pub padded : List ℕ → List ℕ
-padded ws = ws ++ replicate (words_in_block - length ws) 0

@@ -1,8 +1,8 @@
 // A block of a program file: whether it is one (11), whether its checksum word agrees (12), and which record it is of (13).
-ghost use Rattle.std.specs.Prelude.{◌≡◌, true};
+ghost use Rattle.std.specs.Prelude.{◌≡◌};
 ghost use Rattle.block.specs.Records.{checksum_place, of_record};
 ghost use Rattle.block.specs.Checksum.{carried_round, folded};
-ghost use Rattle.block.specs.Block.{whole_block, verdict, sealed_anew};
+ghost use Rattle.block.specs.Block.{verdict};
 ghost use Rattle.block.specs.HowChecksum.{summed, seal_of};
 
 use word::faults::{FAULT_11, FAULT_12};
@@ -24,11 +24,11 @@ pub const LABEL_CHECKSUM: usize = 254;
 pub const CHECKSUM: usize = 255;
 
 // The identifiers *MODRC, *PRORC and *TRMRC: the first word of a block of each record but the label.
-pub const MODRC: u64 = 0o502224112710;
+const MODRC: u64 = 0o502224112710;
 
-pub const PRORC: u64 = 0o502527242710;
+const PRORC: u64 = 0o502527242710;
 
-pub const TRMRC: u64 = 0o503127222710;
+const TRMRC: u64 = 0o503127222710;
 
 // The records of a program file, in the order of the file.
 #[derive(Drop)]
@@ -144,21 +144,6 @@ pub fn check_block(block: &[u64], r: Record) -> Verdict
             } else {
                 Verdict::Refused(FAULT_12)
             }
-        }
-    }
-}
-
-// Writes the checksum word of a block of record r, and no other.
-pub fn seal(words: &mut [u64], r: Record)
-    requires { whole_block words.old ≡ true }
-    ensures { words.new ≡ sealed_anew (checksum_place r) words.old }
-{
-    let p = checksum_place(r);
-    match sum_words(words) {
-        Summed::NoBlock => {}
-        Summed::Sum(s) => {
-            let old = words[p];
-            words[p] = seal_of(s - old);
         }
     }
 }

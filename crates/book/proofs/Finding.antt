@@ -7,7 +7,7 @@ use native.Mathlib.Omega.{arith}
 use native.Mathlib.Numerals.{add-one}
 use lib.ListN.{length, get_or}
 use lib.Dec.{eqb}
-use borrow.Author.Tests.{eqb-true, eq-eqb, ne_eqb, not_true, not-false}
+use borrow.Author.Tests.{eqb-true, eq-eqb, ne_eqb, not-true, not-false}
 use Rattle.word.proofs.First.{AllBelow, below_none, below_more, first_most, first-all, first-at, first-before, first_fails}
 use Rattle.book.specs.Assign.{place_of}
 
@@ -49,4 +49,4 @@ module _ (w : ℕ) (ws : List ℕ) where
   unfolding place_of
   place-first i h e =
       let q = first-before (λ j. not (eqb (get_or ws j 0) w)) (length ws) i h in
-      false≢true (sym (not_true (eqb (get_or ws i 0) w) q) ∙ eq-eqb (get_or ws i 0) w e)
+      false≢true (sym (not-true (eqb (get_or ws i 0) w) q) ∙ eq-eqb (get_or ws i 0) w e)

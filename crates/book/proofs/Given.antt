@@ -7,9 +7,9 @@ use mathlib.Core.List.{List}
 use native.Mathlib.Omega.{arith}
 use lib.ListN.{length, get_or, get_or-eq_default}
 use lib.Dec.{eqb}
-use borrow.Author.Tests.{ltb-true, ltb-false, ne_eqb, not_true, not-false}
+use borrow.Author.Tests.{ltb-true, ltb-false, ne_eqb, not-true, not-false}
 use Rattle.word.specs.Lists.{every}
-use Rattle.word.proofs.Cases.{by-test, by-lt, same_test}
+use Rattle.word.proofs.Cases.{by-test, by-lt}
 use Rattle.word.proofs.Every.{every-place, every_by}
 use Rattle.word.proofs.First.{AllBelow, first_most, first-before, first_fails}
 use Rattle.label.specs.Label.{Carried}
@@ -37,7 +37,7 @@ module _ (rs : List Assignment) (k : Kind) (w : ℕ) where
   unfolding mark_to
   none-marked zero a = refl
   none-marked (suc i) a =
-      mark_stays rs k w i (not_true (is_for k w (at i)) (a i (omega arith))) ∙ none-marked i (λ j h. a j (omega arith))
+      mark_stays rs k w i (not-true (is_for k w (at i)) (a i (omega arith))) ∙ none-marked i (λ j h. a j (omega arith))
 
   first-marked : (p i : ℕ) → p < i → AllBelow not_for p → is_for k w (at p) ≡ true → mark_to rs k w i ≡ suc (at p).number
   unfolding mark_to
@@ -83,6 +83,11 @@ module _ (rs : List Assignment) (k : Kind) (w : ℕ) where
       (λ g. let e = absent_mark g in let z = absent_number g in omega arith)
 
 -- ---- all marks of a kind
+same_test : (b c : Bool) → (b ≡ true → c ≡ true) → (c ≡ true → b ≡ true) → b ≡ c
+same_test b c f g = by-test b
+    (λ p. p ∙ sym (f p))
+    (λ p. by-test c (λ q. absurd (false≢true (sym p ∙ g q))) (λ q. p ∙ sym q))
+
 every_given : (rs : List Assignment) (k : Kind) (ws : List ℕ) → every is_mark (marks_to rs k ws (length rs)) ≡ every (is_given rs k) ws
 every_given rs k ws =
     let n = marks-long rs k ws (length rs) in

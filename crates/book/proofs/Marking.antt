@@ -9,7 +9,7 @@ use native.Mathlib.Numerals.{add-one}
 use lib.ListN.{length, get_or, set, take, drop, length-drop}
 use lib.Seq.{get_or-drop, drop-cons, append_snoc, take_all}
 use lib.Dec.{eqb}
-use borrow.Author.Tests.{lt-ltb, le-ltb, eqb-false, eq-eqb, ne_eqb, not_true}
+use borrow.Author.Tests.{lt-ltb, le-ltb, eqb-false, eq-eqb, ne_eqb, not-true}
 use Rattle.word.specs.Lists.{every, tab, splice}
 use Rattle.word.proofs.Every.{every-place}
 use Rattle.word.proofs.Fill.{filled, filled_none, filled_more, filled-all}
@@ -22,6 +22,10 @@ use Rattle.book.specs.HowKept.{kept_words, start_of, kept_of, kept_tags, marked,
 use Rattle.book.specs.declared.Assignment.{Assignment}
 use Rattle.book.proofs.Finding.{place_most, place_has, place-first}
 use Rattle.book.proofs.Kept.{kept_at, kept-long, kept-lent, stretch_in, in_kept}
+
+-- what a part lent as `&l[a..]` holds
+pub rest-lent : (l : List ℕ) (a : ℕ) → take (length l - a) (drop a l) ≡ drop a l
+rest-lent l a = let e = length-drop a l in take_all (length l - a) (drop a l) (omega arith)
 
 -- ---- a value at each place of a tag
 module _ (ws : List ℕ) (w v : ℕ) (ms : List ℕ) where
@@ -103,7 +107,7 @@ module _ (ms : List ℕ) (j : ℕ) (b : Bool) where
 
 pub mark_some : (ms : List ℕ) (j : ℕ) → every is_mark ms ≡ true → j < length ms → 1 ≤ get_or ms j 0
 mark_some ms j q h =
-    let k = eqb-false (get_or ms j 0) 0 (not_true (eqb (get_or ms j 0) 0) (every-place 0 is_mark ms j h q)) in
+    let k = eqb-false (get_or ms j 0) 0 (not-true (eqb (get_or ms j 0) 0) (every-place 0 is_mark ms j h q)) in
     omega arith
 
 -- ---- the numbers that marks stand for

@@ -8,7 +8,7 @@ use native.Mathlib.Omega.{arith}
 use lib.ListN.{length, get_or}
 use lib.Seq.{ext_get_or}
 use lib.Dec.{eqb}
-use borrow.Author.Tests.{ltb-true, ltb-false, eqb-true, eq-eqb, not_true, not-false}
+use borrow.Author.Tests.{ltb-true, ltb-false, eqb-true, eq-eqb, not-true, not-false}
 use Rattle.word.specs.Lists.{every_two}
 use Rattle.word.proofs.Cases.{by-test, by-eq, by-lt, and_left, and_right}
 use Rattle.word.proofs.First.{first-before, first_fails}
@@ -52,7 +52,7 @@ module _ (rs : List Assignment) (k : Kind) (w : ℕ) where
       let z = first-before (λ i. not (is_for k w (get_or rs i no_assignment))) (length rs) g.place (omega (arith, g.there)) in
       let u = is_for_lem k w (get_or rs g.place no_assignment) (ap (λ (r : Assignment). r.kind) g.says)
       (ap (λ (r : Assignment). r.tag) g.says) in
-      absurd (false≢true (sym (not_true (is_for k w (get_or rs g.place no_assignment)) z) ∙ u)))
+      absurd (false≢true (sym (not-true (is_for k w (get_or rs g.place no_assignment)) z) ∙ u)))
 
   -- and where no two records are for one tag, the first that is for it gives the number
   module _ (once : every_two apart_from rs ≡ true) (q : is_given rs k w ≡ true) where
@@ -75,7 +75,7 @@ module _ (rs : List Assignment) (k : Kind) (w : ℕ) where
         → is_for k w (get_or rs j no_assignment) ≡ true → ⊥
     unfolding apart_from
     clash i j h l a b =
-        let z = not_true (is_for (get_or rs i no_assignment).kind (get_or rs i no_assignment).tag (get_or rs j no_assignment))
+        let z = not-true (is_for (get_or rs i no_assignment).kind (get_or rs i no_assignment).tag (get_or rs j no_assignment))
         (apart-at i j h l) in
         let y = rw (for_kind k w (get_or rs i no_assignment) a, for_tag k w (get_or rs i no_assignment) a) at z in
         false≢true (sym y ∙ b)

@@ -7,7 +7,7 @@ use Rattle.calls.specs.Answer.{code_of, value_of, packed, SmallFault, Small, fil
 use Rattle.calls.specs.declared.Answer.{Answer}
 use Rattle.calls.specs.declared.Answer.TheVariants.{Refused, Made, Opened, More, Done, Released}
 use Rattle.calls.specs.declared.files.FileAnswer.{FileAnswer}
-use Rattle.calls.specs.declared.files.FileAnswer.TheVariants.{Refused as FileRefused, Assigned, Needs, Written, Resealed}
+use Rattle.calls.specs.declared.files.FileAnswer.TheVariants.{Refused as FileRefused, Assigned, Needs, Resealed}
 
 -- a refusal without a place fits
 pub small_fault : (n : ℕ) → n < 64 → SmallFault (fault n)
@@ -26,5 +26,4 @@ pub file_packed-apart : (a : FileAnswer) → FileSmall a
 file_packed-apart (FileRefused f) h = (omega arith, omega arith)
 file_packed-apart Assigned h = (omega arith, omega arith)
 file_packed-apart (Needs n) h = (omega arith, omega arith)
-file_packed-apart (Written n) h = (omega arith, omega arith)
 file_packed-apart Resealed h = (omega arith, omega arith)

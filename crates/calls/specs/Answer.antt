@@ -9,7 +9,7 @@ use Rattle.word.specs.declared.Fault.{Fault}
 use Rattle.word.specs.Fault.{place_value}
 use Rattle.calls.specs.declared.Answer.{Answer}
 use Rattle.calls.specs.declared.files.FileAnswer.{FileAnswer}
-use Rattle.calls.specs.declared.files.FileAnswer.TheVariants.{Refused as FileRefused, Assigned, Needs, Written, Resealed}
+use Rattle.calls.specs.declared.files.FileAnswer.TheVariants.{Refused as FileRefused, Assigned, Needs, Resealed}
 use Rattle.calls.specs.declared.Answer.TheVariants.{Refused, Made, Opened, More, Done, Released}
 
 abbrev pub code_of : Answer → ℕ
@@ -61,14 +61,12 @@ abbrev pub file_code_of : FileAnswer → ℕ
 file_code_of (FileRefused f) = f.number
 file_code_of Assigned = 69
 file_code_of (Needs n) = 70
-file_code_of (Written n) = 71
 file_code_of Resealed = 72
 
 abbrev pub file_value_of : FileAnswer → ℕ
 file_value_of (FileRefused f) = place_value f
 file_value_of Assigned = 0
 file_value_of (Needs n) = n
-file_value_of (Written n) = n
 file_value_of Resealed = 0
 
 abbrev pub file_packed : FileAnswer → ℕ
@@ -78,5 +76,4 @@ abbrev pub FileSmall : FileAnswer → Type 0
 FileSmall (FileRefused f) = SmallFault f
 FileSmall Assigned = Unit {0}
 FileSmall (Needs n) = n < 2 ^ 32
-FileSmall (Written n) = n < 2 ^ 32
 FileSmall Resealed = Unit {0}

@@ -5,13 +5,12 @@ ghost use Rattle.calls.specs.Answer.{file_packed, FileSmall};
 use crate::CODE;
 use word::Fault;
 
-// What such a call answers: a refusal; assigned; needs, with what is needed as one number; written, with how many blocks; resealed.
+// What such a call answers: a refusal; assigned; needs, with what is needed as one number; resealed.
 #[derive(Drop)]
 pub enum FileAnswer {
     Refused(Fault),
     Assigned,
     Needs(u64),
-    Written(u64),
     Resealed,
 }
 
@@ -24,7 +23,6 @@ pub fn pack_file(a: FileAnswer) -> u64
         FileAnswer::Refused(f) => crate::pack_fault(f),
         FileAnswer::Assigned => 69 * CODE,
         FileAnswer::Needs(n) => 70 * CODE + n,
-        FileAnswer::Written(n) => 71 * CODE + n,
         FileAnswer::Resealed => 72 * CODE,
     }
 }

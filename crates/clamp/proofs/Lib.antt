@@ -1,4 +1,3 @@
 pub mod Returned
 pub mod Resealed
 pub mod Assigned
-pub mod Written

@@ -6,15 +6,10 @@ use Rattle.calls.specs.Answer.{packed, file_packed}
 use Rattle.calls.specs.Outcome.{Outcome}
 use Rattle.calls.specs.declared.files.FileAnswer.{FileAnswer}
 use Rattle.calls.specs.declared.files.FileAnswer.TheVariants.{Refused, Assigned, Needs, Resealed}
-use Rattle.calls.specs.declared.files.FileAnswer.TheVariants.{Written as FileWritten}
 use Rattle.label.specs.declared.LabelRead.{LabelRead}
 use Rattle.label.specs.declared.LabelRead.TheVariants.{Good, Bad}
 use Rattle.front.specs.Front.{needs_value}
 use Rattle.book.specs.Assign.{assign_of}
-use Rattle.source.specs.Source.{Source}
-use Rattle.writer.specs.Write.{write_of}
-use Rattle.writer.specs.declared.Answer.{Answer}
-use Rattle.writer.specs.declared.Answer.TheVariants.{Written, Refused as WriterRefused}
 use Rattle.old_seal.specs.Reseal.{old_verdict, resealed}
 
 pub record Returned (o : Outcome) (r : ℕ) (desk core : List ℕ) : Type 0 where
@@ -45,12 +40,3 @@ pub record AssignReturned (book blocks io tables : List ℕ) (r : ℕ) (io' tabl
   pub number : r ≡ file_packed (assign_answer (assign_of book blocks io tables).answer)
   pub io-left : io' ≡ (assign_of book blocks io tables).io
   pub tables-left : tables' ≡ (assign_of book blocks io tables).tables
-
--- of write: 28 or 29, or *written* with how many blocks, and the lent blocks afterwards
-abbrev pub write_answer : Answer → FileAnswer
-write_answer (Written n) = FileWritten n
-write_answer (WriterRefused f) = Refused f
-
-pub record WriteReturned (s : Source) (lent : List ℕ) (r : ℕ) (after : List ℕ) : Type 0 where
-  pub number : r ≡ file_packed (write_answer (write_of s lent).answer)
-  pub blocks-left : after ≡ (write_of s lent).blocks

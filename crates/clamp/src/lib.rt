@@ -7,14 +7,13 @@ ghost use Rattle.calls.specs.Release.{release_of};
 ghost use Rattle.feed.specs.Feed.{feed_of};
 ghost use Rattle.calls.specs.Answer.{file_packed};
 ghost use Rattle.front.specs.Front.{label_block};
-ghost use Rattle.clamp.specs.Returned.{Returned, ResealReturned, AssignReturned, WriteReturned, needs_answer};
+ghost use Rattle.clamp.specs.Returned.{Returned, ResealReturned, AssignReturned, needs_answer};
 
 use block::Verdict;
 use calls::files::FileAnswer;
 use label::LabelRead;
 use layout::DESK_WORDS;
 use word::{Absolute, Area};
-use writer::Answer;
 
 // The fixed length of a desk.
 #[unsafe(no_mangle)]
@@ -113,27 +112,5 @@ pub extern "C" fn clamp_assign(
     match book::assign(book, blocks, io, tables) {
         Verdict::Pass => calls::files::pack_file(FileAnswer::Assigned),
         Verdict::Refused(f) => calls::files::pack_file(FileAnswer::Refused(f)),
-    }
-}
-
-// The blocks of a program file, from what a student gives.
-#[unsafe(no_mangle)]
-pub extern "C" fn clamp_write(
-    head: &[u64],
-    entries: &[u64],
-    sections: &[u64],
-    words: &[u64],
-    blocks: &mut [u64],
-) -> u64
-    ensures { WriteReturned (record {
-      head = head.entry.now;
-      entries = entries.now;
-      sections = sections.now;
-      words = words.now;
-    }) blocks.old result blocks.new }
-{
-    match writer::write(head, entries, sections, words, blocks) {
-        Answer::Written(n) => calls::files::pack_file(FileAnswer::Written(n)),
-        Answer::Refused(f) => calls::files::pack_file(FileAnswer::Refused(f)),
     }
 }

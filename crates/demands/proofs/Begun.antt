@@ -6,12 +6,12 @@ use mathlib.Core.Bool.{true, false≢true}
 use mathlib.Core.List.{List}
 use mathlib.Core.Logic.{⊎_elim}
 use lib.ListN.{length, get_or, get_or-replicate}
-use Rattle.word.specs.Lists.{every, every_two, cleared}
+use Rattle.word.specs.Lists.{every, cleared}
 use Rattle.word.specs.declared.Area.{Area}
 use Rattle.word.proofs.Lists.{get_d_range}
 use Rattle.word.proofs.Stretch.{length-cleared}
 use Rattle.rooms.specs.Rooms.{lowest_free}
-use Rattle.lists.specs.Obey.{tables_of, table_inside, tables_apart}
+use Rattle.lists.specs.Obey.{tables_of, table_inside}
 use Rattle.lists.proofs.Keep.{lists_obey_lem}
 use Rattle.stage.specs.declared.Stage.TheVariants.{Label}
 use Rattle.layout.specs.Layout.{place_in, holder_of, stage_in, holders}
@@ -39,7 +39,6 @@ pub record Begun (r : ℕ) (area : Area) (ios tables : List ℕ) (p : ℕ) (t : 
   pub stage : stage_in (place_in t.desk p) ≡ Label
   pub inside : area.at.0 + area.size ≤ length t.core
   pub tables-inside : every (table_inside area) (tables_of tables) ≡ true
-  pub tables-apart : every_two tables_apart (tables_of tables) ≡ true
   pub zeros : (k : ℕ) → k < area.size → get_or t.core (area.at.0 + k) 0 ≡ 0
 
 cleared-zero : (core : List ℕ) (a n : ℕ) → a + n ≤ length core → (k : ℕ) → k < n → get_or (cleared core a n) (a + k) 0 ≡ 0
@@ -62,7 +61,6 @@ module _ (s : State) (r : ℕ) (area : Area) (ios tables : List ℕ) where
         stage = opened-stage s.desk g.desk r area ios tables g.room g.given g.fit g.obey;
         inside = rw (length-cleared s.core area.at.0 area.size i) i;
         tables-inside = (lists_obey_lem area ios tables g.obey).inside;
-        tables-apart = (lists_obey_lem area ios tables g.obey).apart;
         zeros = cleared-zero s.core area.at.0 area.size i;
       }
 

@@ -12,7 +12,6 @@ use borrow.Author.Tests.{lt-ltb, le-ltb}
 use Rattle.word.specs.Limits.{words_in_block}
 use Rattle.word.specs.Lists.{range}
 use Rattle.word.specs.declared.Fault.{Fault}
-use Rattle.word.proofs.Lists.{rest-lent}
 use Rattle.block.specs.Records.{of_record, checksum_place}
 use Rattle.block.specs.Block.{verdict}
 use Rattle.block.specs.declared.Record.{Record}
@@ -33,7 +32,7 @@ pub last-part : (l : List ℕ) (a n : ℕ) → length l - a ≤ n → take (leng
 unfolding range
 last-part l a n h =
     let e = length-drop a l in
-    rest-lent l a ∙ sym (take_all n (drop a l) (omega arith))
+    take_all (length l - a) (drop a l) (omega arith) ∙ sym (take_all n (drop a l) (omega arith))
 
 module _ (blocks : List ℕ) (i : ℕ) where
   -- where no block is there

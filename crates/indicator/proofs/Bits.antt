@@ -12,12 +12,12 @@ use Rattle.word.proofs.Cases.{by-lt}
 use Rattle.word.proofs.Lists.{length-range, get_d_range, length-range_most}
 use Rattle.indicator.specs.Indicator.{InBlock, bits_of, indicator_bits, bits_before, number_at}
 
-pub length-bits_of : (n w : ℕ) → length (bits_of n w) ≡ n
+length-bits_of : (n w : ℕ) → length (bits_of n w) ≡ n
 unfolding bits_of
 length-bits_of zero w = refl
 length-bits_of (suc n) w = ap suc (length-bits_of n w)
 
-pub get_d_bits_of : (n w i : ℕ) → i < n → get_or (bits_of n w) i 0 ≡ bit (n - 1 - i) w
+get_d_bits_of : (n w i : ℕ) → i < n → get_or (bits_of n w) i 0 ≡ bit (n - 1 - i) w
 unfolding bits_of
 get_d_bits_of zero w i h = absurd (not-suc-le-zero h)
 get_d_bits_of (suc n) w zero h = ap (λ (j : ℕ). bit j w) (omega arith)

@@ -9,7 +9,7 @@ use lib.Seq.{get_or-take, length-take-le}
 use borrow.Author.Tests.{lt-ltb, le-leb, eq-eqb}
 use Rattle.word.specs.Limits.{io_most, tables_most}
 use Rattle.word.specs.Lists.{every, every_two}
-use Rattle.word.proofs.Cases.{and_left, and_right, and_both, same_test}
+use Rattle.word.proofs.Cases.{and_left, and_right, and_both}
 use Rattle.word.proofs.Each.{says_two}
 use Rattle.word.proofs.Every.{every-place, every_by, two_by}
 use Rattle.word.proofs.First.{AllBelow, first-all}
@@ -77,6 +77,11 @@ module _ (ts : List TableWord) where
         (and_both _ _ (above-all j h)
         (and_both _ _ (every-place (table_word 0) has_entries ts j h (and_right (every_two rises ts) _ rest))
         (within_fewer ts (suc j) w)))
+
+  same_test : (a b : Bool) → (a ≡ true → b ≡ true) → (b ≡ true → a ≡ true) → a ≡ b
+  same_test true b f g = sym (f refl)
+  same_test false true f g = g refl
+  same_test false false f g = refl
 
   pub stand_in_order : tables_stand ts ≡ (in_order ts && within_limits (counts_of ts))
   unfolding tables_stand first_table

@@ -13,13 +13,13 @@ use word::faults::{FAULT_14, FAULT_15};
 use word::limits::{IO_MOST, TABLES_MOST};
 
 // The table types carried.
-pub const JUMP_SWITCH: u64 = 0;
+const JUMP_SWITCH: u64 = 0;
 
-pub const CHANNEL: u64 = 2;
+const CHANNEL: u64 = 2;
 
-pub const UNIT: u64 = 3;
+const UNIT: u64 = 3;
 
-pub const CORE: u64 = 12;
+const CORE: u64 = 12;
 
 // How many entries jump switches and channels may have together.
 const CHANNELS_MOST: u64 = 16;
@@ -162,7 +162,7 @@ fn may_follow(least: u64, w: u64) -> bool
     is_carried(t)
 }
 
-pub fn is_carried(t: u64) -> bool
+fn is_carried(t: u64) -> bool
     ensures { result ≡ is_carried t }
 {
     if t == JUMP_SWITCH {
@@ -200,7 +200,7 @@ fn entries_if(w: u64, t: u64) -> u64
     0
 }
 
-pub fn within_limits(c: Counts) -> bool
+fn within_limits(c: Counts) -> bool
     requires { FewEntries c }
     ensures { result ≡ within_limits c }
 {

@@ -3,7 +3,7 @@ use Rattle.std.proofs.Common.{◌≡◌, ℕ, suc, ◌+◌, ◌^◌, ◌<◌, �
 use Rattle.word.specs.declared.Area.{Area}
 use Rattle.word.specs.Lists.{every, every_two}
 use Rattle.word.specs.Runs.{Says}
-use Rattle.word.proofs.Cases.{by-eq, and_both, and_left, and_right, same_test}
+use Rattle.word.proofs.Cases.{by-eq, and_both, and_left, and_right}
 use Rattle.word.proofs.Every.{every-then}
 use Rattle.word.proofs.Says.{says_lt, says_le, says_and}
 use Rattle.lists.specs.declared.Table.{Table}
@@ -14,6 +14,11 @@ use Rattle.lists.specs.HowKeep.{kept_word, has_room, words_from, words_kept}
 use Rattle.sorting.specs.Sorted.{sorted}
 use Rattle.lists.proofs.Obey.{says_inside, first_empty, second_empty, first-before, apart-before, apart_sym}
 use Rattle.sorting.proofs.Rising.{every-sorted, two_sorted, sorted_rising, rising_sorted}
+
+pub same_test : (a b : Bool) → (a ≡ true → b ≡ true) → (b ≡ true → a ≡ true) → a ≡ b
+same_test true b f g = sym (f refl)
+same_test false true f g = g refl
+same_test false false f g = refl
 
 -- ---- the pass and the pairs, of words
 unfoldable clear : ℕ → ℕ → Bool

@@ -17,15 +17,14 @@ use Rattle.word.proofs.Cases.{by-test, and_both, both}
 use Rattle.word.proofs.Stretch.{every_set}
 use Rattle.block.specs.Records.{checksum_place}
 use Rattle.block.specs.Checksum.{checksum, others}
-use Rattle.block.specs.Block.{whole_block, seal_verdict, verdict, sealed_anew}
+use Rattle.block.specs.Block.{whole_block, seal_verdict, verdict}
 use Rattle.block.specs.declared.Record.TheVariants.{Label, Program}
 use Rattle.block.specs.declared.Verdict.TheVariants.{Pass, Refused}
 use Rattle.block.proofs.Records.{place_small}
 use Rattle.block.proofs.Checksum.{words_others, length-others, others-set, checksum_word}
-use Rattle.block.proofs.Sealed.{anew_whole, anew_others, anew_seal, anew_passes}
 use Rattle.block.proofs.OnePass.{whole_long, whole_words, agreed_passed, differing_refused, passed_known}
 use Rattle.old_seal.specs.OldRule.{old_checksum, carries}
-use Rattle.old_seal.specs.Reseal.{seal_place, old_verdict, left_by, resealed, Reseals}
+use Rattle.old_seal.specs.Reseal.{seal_place, old_verdict, sealed_anew, left_by, resealed, Reseals}
 use Rattle.old_seal.specs.Promises.{twelve_if_carried, OldSealMet, SealedAnew, PassesAnew, Untouched, ResealedAgain}
 use Rattle.old_seal.proofs.OldRule.{rules_agree}
 
@@ -58,10 +57,26 @@ old_seal_met r block e =
 
 -- ---- a block sealed anew
 module _ (p : ℕ) (l : List ℕ) (small : p < words_in_block) (whole : whole_block l ≡ true) where
+  anew_whole : whole_block (sealed_anew p l) ≡ true
+  unfolding whole_block sealed_anew
+  anew_whole =
+      and_both (eqb (length (set l p (checksum (others p l)))) words_in_block) (every is_word (set l p (checksum (others p l))))
+      (eq-eqb (length (set l p (checksum (others p l)))) words_in_block (length-set l p (checksum (others p l)) ∙ whole_long l whole))
+      (every_set is_word l p (checksum (others p l))
+      (lt-ltb (checksum (others p l)) word_limit (checksum_word (others p l))) (whole_words l whole))
+
+  anew_others : others p (sealed_anew p l) ≡ others p l
+  unfolding sealed_anew
+  anew_others = others-set l p (checksum (others p l))
+
+  anew_seal : get_or (sealed_anew p l) p 0 ≡ checksum (others p l)
+  unfolding sealed_anew
+  anew_seal = let n = whole_long l whole in get_or-set_same l p (checksum (others p l)) 0 (omega arith)
+
   sealed_anew_lem : SealedAnew p l (sealed_anew p l)
   unfolding sealed_anew
   sealed_anew_lem = record {
-    passes = anew_passes p l small whole;
+    passes = sym (agreed_passed checksum p (sealed_anew p l) anew_whole (ap checksum anew_others ∙ sym anew_seal));
     same_length = length-set l p (checksum (others p l));
     same_words = λ i n. get_or-set_other l p i (checksum (others p l)) 0 n;
   }
@@ -70,14 +85,14 @@ module _ (p : ℕ) (l : List ℕ) (small : p < words_in_block) (whole : whole_bl
   anew_met : seal_verdict old_checksum p (sealed_anew p l) ≡ twelve_if_carried p l
   anew_met =
       let a = summed_agree p l small whole in
-      met p (sealed_anew p l) small (anew_whole p l small whole) old_checksum
-      (rw (anew_others p l small whole, anew_seal p l small whole) a)
-      ∙ rw (anew_others p l small whole)
+      met p (sealed_anew p l) small anew_whole old_checksum
+      (rw (anew_others, anew_seal) a)
+      ∙ rw anew_others
 
   anew_again : sealed_anew p (sealed_anew p l) ≡ sealed_anew p l
   unfolding sealed_anew
   anew_again =
-      ap (λ (ws : List ℕ). set (sealed_anew p l) p (checksum ws)) (anew_others p l small whole)
+      ap (λ (ws : List ℕ). set (sealed_anew p l) p (checksum ws)) anew_others
       ∙ set-set l p (checksum (others p l)) (checksum (others p l))
 
 -- ---- resealing

@@ -1,8 +1,9 @@
 -- Resealing (#104): "a small program reseals a file, block by block, once the old rule has passed". A block is known by its index
 -- in the file, 0 for the label; its record and what else stands in it are not looked at.
-use Rattle.std.specs.Prelude.{ℕ, ◌≡◌, cond, List, eqb}
+use Rattle.std.specs.Prelude.{ℕ, ◌≡◌, cond, List, set, eqb}
 use Rattle.block.specs.Records.{checksum_place}
-use Rattle.block.specs.Block.{seal_verdict, sealed_anew}
+use Rattle.block.specs.Checksum.{checksum, others}
+use Rattle.block.specs.Block.{seal_verdict}
 use Rattle.block.specs.declared.Record.TheVariants.{Label, Program}
 use Rattle.block.specs.declared.Verdict.{Verdict}
 use Rattle.block.specs.declared.Verdict.TheVariants.{Pass, Refused}
@@ -15,6 +16,10 @@ seal_place index = cond (eqb index 0) (checksum_place Label) (checksum_place Pro
 -- 11 as in feed; 12 where the old rule does not hold of the block as it stands
 unfoldable pub old_verdict : ℕ → List ℕ → Verdict
 old_verdict index block = seal_verdict old_checksum (seal_place index) block
+
+-- a block with the checksum word that the rule in force gives it, and no other word changed
+unfoldable pub sealed_anew : ℕ → List ℕ → List ℕ
+sealed_anew p block = set block p (checksum (others p block))
 
 -- what is left of a block: refused, it is as it was
 abbrev pub left_by : Verdict → ℕ → List ℕ → List ℕ

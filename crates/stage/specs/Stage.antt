@@ -1,7 +1,6 @@
 -- A load's stage in the desk: nine numbers, of which the first says what is due. A first number over 7 is a broken load. Reading
 -- what was written gives the stage again (`stage_back`, proofs/Back.antt).
-use Rattle.std.specs.Prelude.{ℕ, cond, List, [], ◌∷◌, get_or, eqb}
-use Rattle.word.specs.Word.{flag}
+use Rattle.std.specs.Prelude.{ℕ, Bool, cond, List, [], ◌∷◌, get_or, eqb}
 use Rattle.program.specs.declared.Bank.{Bank}
 use Rattle.program.specs.declared.Segment.{Segment}
 use Rattle.program.specs.declared.TableSection.{TableSection}
@@ -12,6 +11,9 @@ use Rattle.stage.specs.declared.Stage.TheVariants.{Label, Entry, Program, Termin
 
 -- the numbers are: what is due; the label counts' two; a table's number, a block's, or whether longer tables are forbidden; a
 -- second of these; the IBANK's address and count; the DBANK's
+abbrev pub flag : Bool → ℕ
+flag exact = cond exact 1 0
+
 unfoldable pub numbers_of : Stage → List ℕ
 numbers_of Label = 0 ∷ 0 ∷ 0 ∷ 0 ∷ 0 ∷ 0 ∷ 0 ∷ 0 ∷ 0 ∷ []
 numbers_of (Entry c exact b) = 1 ∷ c.channels ∷ c.sections ∷ b ∷ flag exact ∷ 0 ∷ 0 ∷ 0 ∷ 0 ∷ []

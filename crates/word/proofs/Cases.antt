@@ -49,12 +49,7 @@ pub or-not : (a b : Bool) → (not a || b) ≡ true → a ≡ true → b ≡ tru
 or-not true b q h = q
 or-not false b q h = absurd (false≢true h)
 
--- two tests that say the same are the same test
-pub same_test : (a b : Bool) → (a ≡ true → b ≡ true) → (b ≡ true → a ≡ true) → a ≡ b
-same_test true b f g = sym (f refl)
-same_test false true f g = g refl
-same_test false false f g = refl
-
+-- two tests of facts that say the same are the same test
 pub leb_iff : (a b c d : ℕ) → ((a ≤ b) ↔ (c ≤ d)) → leb a b ≡ leb c d
 leb_iff a b c d e = by-test (leb a b)
     (λ q. q ∙ sym (le-leb c d (e.0 (leb-true a b q))))

@@ -105,10 +105,6 @@ pub range-lent : (l : List ℕ) (a n : ℕ) → take (a + n - a) (drop a l) ≡ 
 unfolding range
 range-lent l a n = rw add-sub_cancel_left
 
--- and what one lent as `&l[a..]` holds
-pub rest-lent : (l : List ℕ) (a : ℕ) → take (length l - a) (drop a l) ≡ drop a l
-rest-lent l a = let e = length-drop a l in take_all (length l - a) (drop a l) (omega arith)
-
 -- ---- a stretch that is written
 pub length-splice : (l : List ℕ) (a : ℕ) (vs : List ℕ) → a + length vs ≤ length l → length (splice l a vs) ≡ length l
 unfolding splice

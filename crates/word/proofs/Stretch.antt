@@ -1,12 +1,11 @@
 -- A stretch of a list written number by number: what stands in it, and what stands outside.
 use mathlib.Core.Path.{◌≡◌, sym, ◌∙◌}
 use mathlib.Core.Bool.{Bool, true}
-use mathlib.Core.List.{List, [], ◌∷◌, ◌++◌, append_assoc}
+use mathlib.Core.List.{List, [], ◌∷◌, append_assoc}
 use mathlib.Core.Logic.{◌⊎◌, inl, inr, ⊎_elim, ◌≢◌}
 use Prim.Native.Nat.{ℕ, zero, suc, ◌+◌, ◌<◌, ◌≤◌}
 use native.Mathlib.Omega.{arith}
 use native.Mathlib.Numerals.{add-one}
-use native.Mathlib.Nat.{add-zero}
 use lib.ListN.{length, get_or, set, take, length-set, replicate, length-replicate}
 use lib.Seq.{paste-zero, take-suc-set, drop-set-lt, get_or-set_other}
 use Rattle.word.specs.Lists.{every, range, splice, cleared}
@@ -31,15 +30,6 @@ splice-first l a v vs h =
           (take (length vs) vs),
       e,
     )
-
--- one stretch behind another
-pub splice-behind : (l : List ℕ) (a : ℕ) (xs ys : List ℕ) → a + length xs + length ys ≤ length l
-    → splice (splice l a xs) (a + length xs) ys ≡ splice l a (xs ++ ys)
-splice-behind l a [] ys h = rw (splice-none l a, add-zero a)
-splice-behind l a (x ∷ xs) ys h =
-    let e : a + suc (length xs) ≡ a + 1 + length xs = omega arith in
-    rw (splice-first l a x xs (omega arith), e, splice-first l a x (xs ++ ys) (omega arith))
-    (splice-behind (set l a x) (a + 1) xs ys (rw length-set (omega arith)))
 
 pub length-cleared : (l : List ℕ) (a n : ℕ) → a + n ≤ length l → length (cleared l a n) ≡ length l
 unfolding cleared

@@ -1,7 +1,6 @@
 -- What is to be known of a field of a word, proved once over its lowest bit k and its width n, and so for either half and for
 -- bits 25-22.
 use mathlib.Core.Path.{◌≡◌, sym, ap, ◌∙◌}
-use mathlib.Core.Bool.{Bool, true, false}
 use mathlib.Core.Logic.{◌⊎◌, ⊎_elim}
 use Prim.Native.Nat.{ℕ, ◌+◌, ◌*◌, ◌/◌, ◌%◌, ◌^◌, ◌-◌, ◌<◌, ◌≤◌}
 use native.Mathlib.Nat.{mod-lt}
@@ -10,11 +9,7 @@ use lib.Pow.{pow_pos, pow-add, high, low, shr-shr, shr_lt, field, mod-mod-pow}
 use lib.Arith.{digits_lt}
 use Rattle.word.specs.declared.Half.{Half}
 use Rattle.word.specs.declared.Half.TheVariants.{Left, Right}
-use Rattle.word.specs.Word.{part, put, bit, flag, lowest, field_of, field_stored, a_field, a_stored}
-
-pub flag_below : (b : Bool) → flag b < 2
-flag_below true = omega arith
-flag_below false = omega arith
+use Rattle.word.specs.Word.{part, put, bit, lowest, field_of, field_stored, a_field, a_stored}
 
 pub part_below : (k n w : ℕ) → part k n w < 2 ^ n
 part_below k n w = mod-lt (w / 2 ^ k) (pow_pos n)

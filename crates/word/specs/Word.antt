@@ -1,7 +1,7 @@
 -- A core word: 36 bits, bit 35 leftmost, held as a number below 2^36. A field of n bits whose lowest is bit k is read by
 -- `part k n` and stored by `put k n`; both are over any k and n, so that what is proved of them is proved once for the left
 -- half, the right half, bits 25-22 and any field that is still to come.
-use Rattle.std.specs.Prelude.{ℕ, ◌+◌, ◌-◌, ◌*◌, ◌/◌, ◌%◌, ◌^◌, Bool, cond, eqb, ltb}
+use Rattle.std.specs.Prelude.{ℕ, ◌+◌, ◌-◌, ◌*◌, ◌/◌, ◌%◌, ◌^◌, Bool, eqb, ltb}
 use Rattle.word.specs.declared.Half.{Half}
 use Rattle.word.specs.declared.Half.TheVariants.{Left, Right}
 
@@ -34,10 +34,6 @@ bit j w = w / 2 ^ j % 2
 -- bit j is set
 abbrev pub is_set : ℕ → ℕ → Bool
 is_set j w = eqb (bit j w) 1
-
--- a bit that is set where b holds
-abbrev pub flag : Bool → ℕ
-flag b = cond b 1 0
 
 -- "The 16-bit fields are bits 33-18 and 15-0."
 abbrev pub lowest : Half → ℕ

@@ -193,19 +193,3 @@ pub const FAULT_27: Fault = Fault {
     half: Side::Whole,
     bit: 0,
 };
-
-// #102: "an input that no file can carry"
-pub const FAULT_28: Fault = Fault {
-    number: 28,
-    word: 0,
-    half: Side::Whole,
-    bit: 0,
-};
-
-// #102: "lent room too small"
-pub const FAULT_29: Fault = Fault {
-    number: 29,
-    word: 0,
-    half: Side::Whole,
-    bit: 0,
-};

@@ -3,4 +3,3 @@ pub mod Worked
 pub mod Refused
 pub mod Split
 pub mod Book
-pub mod Written

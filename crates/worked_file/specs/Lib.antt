@@ -5,4 +5,3 @@ pub mod Lives
 pub mod Refused
 pub mod Split
 pub mod Worked
-pub mod Written

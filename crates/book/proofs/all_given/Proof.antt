@@ -1,6 +1,6 @@
 -- `book::all_given` meets its contract: kind after kind.
 use mathlib.Core.Path.{sym, ◌∙◌}
-use borrow.Author.Tests.{not_true, not-false}
+use borrow.Author.Tests.{not-true, not-false}
 use Rattle.book.specs.HowKept.{all_marked}
 use borrow.Author.Rules.{rules}
 use Rattle.book.proofs.all_given.Statement.{statement}
@@ -11,7 +11,7 @@ kind-given-requires c κs = search rules
 
 returns : tie.Need-returns
 unfolding all_marked
-returns c = rw (sym c.before.kind-given.ensures ∙ not_true _ c.if1.true)
+returns c = rw (sym c.before.kind-given.ensures ∙ not-true _ c.if1.true)
 
 kind-given-requires-2 : tie.Need-kind-given-requires-2
 kind-given-requires-2 c κs = search rules
@@ -21,7 +21,7 @@ unfolding all_marked
 returns-2 c =
     rw (
       sym c.before.before.before.kind-given.ensures ∙ not-false _ c.before.before.if1.false,
-      sym c.before.kind-given2.ensures ∙ not_true _ c.if2.true,
+      sym c.before.kind-given2.ensures ∙ not-true _ c.if2.true,
     )
 
 kind-given-requires-3 : tie.Need-kind-given-requires-3

@@ -2,7 +2,7 @@
 use Prim.Native.Nat.{◌≤◌, ◌-◌}
 use mathlib.Core.Path.{◌≡◌, refl}
 use lib.ListN.{drop}
-use borrow.Author.Tests.{not_true, not-false}
+use borrow.Author.Tests.{not-true, not-false}
 use Rattle.word.specs.Lists.{every}
 use Rattle.book.specs.Book.{record_count, assignments_of}
 use Rattle.book.specs.Assign.{in_file}
@@ -33,7 +33,7 @@ returns : tie.Need-returns invariant-loop decreases-loop
 returns c =
     let l = c.before.before.before.before.loop in
     looked_fails _ _ l.i _ _ _ (omega arith) c.before.before.read-record.ensures c.before.in_file_lem.ensures
-    (not_true _ c.if1.true) l.invariant.1
+    (not-true _ c.if1.true) l.invariant.1
 
 add-i : tie.Need-overflow-add-i invariant-loop decreases-loop
 add-i c = omega arith

@@ -4,7 +4,7 @@ use mathlib.Core.List.{List}
 use Rattle.book.specs.HowKept.{kept_tags}
 use mathlib.Core.Path.{refl, sym, ap, ◌∙◌}
 use lib.ListN.{length}
-use borrow.Author.Tests.{not_true, not-false}
+use borrow.Author.Tests.{not-true, not-false}
 use Rattle.book.proofs.Kept.{all-long, all-kept}
 use Rattle.book.proofs.Answers.{io_unfit, tables_unfit, book_fit, gives_24, gives_on}
 use borrow.Author.Rules.{rules}
@@ -43,7 +43,7 @@ returns-3 c =
     (c.before.before.before.before.if1.false ∙ c.before.before.before.before.before.count_of.ensures)
     (c.before.before.if2.false ∙ ap (λ (n : ℕ). 2 * n) c.before.before.before.count-of2.ensures)
     c.before.is-book.ensures
-    ∙ not_true _ c.if3.true)
+    ∙ not-true _ c.if3.true)
 
 slice-aggregate-read-tags : tie.Need-slice-aggregate-read-tags
 slice-aggregate-read-tags c = search rules

@@ -1,6 +1,6 @@
 -- `book::look_up` meets its contract: each answer by what the passes over the records told.
 use mathlib.Core.Path.{refl, sym, ◌∙◌}
-use borrow.Author.Tests.{not_true, not-false}
+use borrow.Author.Tests.{not-true, not-false}
 use Rattle.book.proofs.Given.{all-given, io-numbers, table-numbers}
 use Rattle.book.proofs.Answers.{gives_25_or_26, gives_27, gives_lists}
 use borrow.Author.Rules.{rules}
@@ -18,7 +18,7 @@ not-taken-requires c κs = search rules
 
 returns : tie.Need-returns
 returns c =
-    gives_25_or_26 _ _ _ _ _ (sym c.before.before.before.take-records.ensures.told ∙ not_true _ c.before.if1.true)
+    gives_25_or_26 _ _ _ _ _ (sym c.before.before.before.take-records.ensures.told ∙ not-true _ c.before.if1.true)
     c.not_taken.ensures
 
 slice-aggregate-all-given : tie.Need-slice-aggregate-all-given
@@ -35,7 +35,7 @@ returns-2 c =
     gives_27 _ _ _ _ _ t.take-records.ensures.told q
     (sym (all-given _ _ _ _ p.look.long p.look.carried (t.take-records.ensures.left q)) ∙ sym
     c.before.all-given.ensures
-    ∙ not_true _ c.if2.true)
+    ∙ not-true _ c.if2.true)
 
 slice-aggregate-write-lists : tie.Need-slice-aggregate-write-lists
 slice-aggregate-write-lists c = search rules

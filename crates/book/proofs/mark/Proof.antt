@@ -3,8 +3,7 @@ use Prim.Native.Nat.{◌+◌, ◌≤◌, ◌-◌}
 use mathlib.Core.Path.{◌≡◌, ap, ◌∙◌}
 use lib.ListN.{length, length-set, set}
 use Rattle.book.specs.Assign.{place_of}
-use Rattle.word.proofs.Lists.{rest-lent}
-use Rattle.book.proofs.Marking.{MarkedTo, marks_begin, marks_next, marks_end}
+use Rattle.book.proofs.Marking.{rest-lent, MarkedTo, marks_begin, marks_next, marks_end}
 use native.Mathlib.Omega.{arith}
 use borrow.Author.Rules.{rules}
 use Rattle.book.proofs.mark.Statement.{statement}

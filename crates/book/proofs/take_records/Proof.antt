@@ -2,7 +2,7 @@
 use Prim.Native.Nat.{◌≤◌, ◌-◌}
 use mathlib.Core.Path.{◌≡◌}
 use lib.ListN.{length}
-use borrow.Author.Tests.{not_true, not-false}
+use borrow.Author.Tests.{not-true, not-false}
 use Rattle.book.specs.Book.{record_count, assignments_of}
 use Rattle.book.proofs.Taking.{TakenTo, taken_none, take_ready, taken_more, taken_stops, taken-all}
 use native.Mathlib.Omega.{arith}
@@ -39,7 +39,7 @@ returns c =
     let l = c.before.before.before.before.before.before.before.loop in
     taken_stops _ _ _ _ l.i p.look (omega arith) _ c.before.before.before.before.before.read-record.ensures
     _ _
-    c.before.before.before.take-record.ensures l.invariant.2 (not_true _ c.if1.true)
+    c.before.before.before.take-record.ensures l.invariant.2 (not-true _ c.if1.true)
 
 add-i : tie.Need-overflow-add-i invariant-loop decreases-loop
 add-i c = omega arith

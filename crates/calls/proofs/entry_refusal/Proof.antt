@@ -1,7 +1,7 @@
 -- `calls::entry_refusal` meets its contract: its tests are those of `entry_refusal`, in that order.
 use mathlib.Core.Path.{sym, ◌∙◌}
 use native.Mathlib.Omega.{arith}
-use borrow.Author.Tests.{not_true, not-false, eq-eqb, ne_eqb, lt-ltb, le-ltb}
+use borrow.Author.Tests.{not-true, not-false, eq-eqb, ne_eqb, lt-ltb, le-ltb}
 use Rattle.desk.proofs.Facts.{sound-long}
 use Rattle.calls.specs.Entry.{entry_refusal}
 use borrow.Author.Rules.{rules}
@@ -13,7 +13,7 @@ is-sound-requires c κs = search rules
 
 returns : tie.Need-returns
 unfolding entry_refusal
-returns c = rw (sym c.before.is-sound.ensures ∙ not_true _ c.if1.true)
+returns c = rw (sym c.before.is-sound.ensures ∙ not-true _ c.if1.true)
 
 shared-slice-read-if2 : tie.Need-shared-slice-read-if2
 shared-slice-read-if2 c =

@@ -1,7 +1,7 @@
 -- `desk::held_fits_lem` meets its contract: each return by the tests that led to it.
 use Rattle.desk.proofs.Tested.{lists_readable, area_small}
 use mathlib.Core.Path.{sym, ◌∙◌}
-use borrow.Author.Tests.{not_true, not-false}
+use borrow.Author.Tests.{not-true, not-false}
 use Rattle.desk.specs.Sound.{held_fits}
 use borrow.Author.Rules.{rules}
 use Rattle.desk.proofs.held_fits.Statement.{statement}
@@ -17,7 +17,7 @@ returns : tie.Need-returns
 unfolding held_fits
 returns c =
     let a = c.before in
-    rw (← a.before.before.before.own_of_lem.ensures, sym a.area_in.ensures ∙ not_true _ c.if1.true)
+    rw (← a.before.before.before.own_of_lem.ensures, sym a.area_in.ensures ∙ not-true _ c.if1.true)
 
 counts-fit-requires : tie.Need-counts-fit-requires
 counts-fit-requires c κs = search rules
@@ -30,7 +30,7 @@ returns-2 c =
     rw (
       ← a.before.before.before.own_of_lem.ensures,
       sym a.area_in.ensures ∙ not-false _ i.if1.false,
-      sym c.before.counts_fit_lem.ensures ∙ not_true _ c.if2.true,
+      sym c.before.counts_fit_lem.ensures ∙ not-true _ c.if2.true,
     )
 
 load-fits-requires : tie.Need-load-fits-requires

@@ -1,7 +1,7 @@
 -- `desk::holders_fit` meets its contract: the holders' test first, then the pass over the places that are held.
 use mathlib.Core.Path.{◌≡◌, sym, ap, ◌∙◌}
 use native.Mathlib.Omega.{arith}
-use borrow.Author.Tests.{not_true, not-false}
+use borrow.Author.Tests.{not-true, not-false}
 use lib.ListN.{length, take}
 use Rattle.rooms.specs.Rooms.{held_places}
 use Rattle.rooms.proofs.Held.{held_few, held-lent}
@@ -22,7 +22,7 @@ fair-requires c κs = search rules
 
 returns : tie.Need-returns
 returns c = sym (rw (sym (rw c.before.before.before.read-holders.ensures at c.before.fair.ensures)
-    ∙ not_true _ c.if1.true))
+    ∙ not-true _ c.if1.true))
 
 slice-aggregate-held-places : tie.Need-slice-aggregate-held-places
 slice-aggregate-held-places c = search rules

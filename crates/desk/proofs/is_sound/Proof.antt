@@ -1,6 +1,6 @@
 -- `desk::is_sound` meets its contract: each return by the tests that led to it.
 use mathlib.Core.Path.{sym, ◌∙◌, ◌≡◌}
-use borrow.Author.Tests.{eq-eqb, ne_eqb, le-leb, lt-leb, not_true, not-false}
+use borrow.Author.Tests.{eq-eqb, ne_eqb, le-leb, lt-leb, not-true, not-false}
 use Rattle.layout.specs.Layout.{core_length, map_numbers}
 use Rattle.map.specs.Map.{map_of, map_obeys}
 use Rattle.desk.specs.Sound.{sound}
@@ -43,7 +43,7 @@ returns-4 c = rw (
       c.before.before.before.before.if2.false,
   le-leb _ _ c.before.before.before.if3.false,
   sym (map_test c.before)
-      ∙ not_true _ c.if4.true,
+      ∙ not-true _ c.if4.true,
 )
 
 holders-fit-requires : tie.Need-holders-fit-requires

@@ -1,7 +1,7 @@
 -- `desk::load_fits` meets its contract: each return by the tests that led to it.
 use Rattle.desk.proofs.Tested.{load_is}
 use mathlib.Core.Path.{sym, ◌∙◌}
-use borrow.Author.Tests.{not_true, not-false}
+use borrow.Author.Tests.{not-true, not-false}
 use borrow.Author.Rules.{rules}
 use Rattle.desk.proofs.load_fits.Statement.{statement}
 use Rattle.desk.proofs.load_fits.Tie as tie
@@ -13,7 +13,7 @@ kept-fits-requires : tie.Need-kept-fits-requires
 kept-fits-requires c κs = rw c.Lists-of.ensures c.before.before.requires.1
 
 returns : tie.Need-returns
-returns c = rw (load_is, ← c.before.before.Lists-of.ensures, sym c.before.kept-fits.ensures ∙ not_true _ c.if1.true)
+returns c = rw (load_is, ← c.before.before.Lists-of.ensures, sym c.before.kept-fits.ensures ∙ not-true _ c.if1.true)
 
 stage-of-requires : tie.Need-stage-of-requires
 stage-of-requires c κs = search rules

@@ -3,7 +3,7 @@ use Prim.Native.Nat.{◌≤◌, ◌<◌, ◌-◌, ◌+◌, ℕ}
 use mathlib.Core.Path.{◌≡◌, refl, sym, ap, ◌∙◌}
 use mathlib.Core.List.{List}
 use native.Mathlib.Omega.{arith}
-use borrow.Author.Tests.{not_true, not-false}
+use borrow.Author.Tests.{not-true, not-false}
 use lib.ListN.{length, length-set, get_or}
 use Rattle.map.specs.Map.{stretch_of}
 use Rattle.desk.specs.Sound.{held_fits}
@@ -119,7 +119,7 @@ returns c =
     looked_unfit _ _ _ l.i l.past
     c.before.before.before.before.before.before.before.before.before.before.before.requires.rooms l.invariant.2
     (omega arith) (the_room e) (its_room e) (its_holder e)
-    (sym (its_test c.before) ∙ not_true _ c.if1.true)
+    (sym (its_test c.before) ∙ not-true _ c.if1.true)
 
 mul-apart-from-last : tie.Need-overflow-mul-apart-from-last invariant-loop decreases-loop
 mul-apart-from-last c = omega
@@ -150,7 +150,7 @@ returns-2 c =
     looked_shared _ _ _ l.i l.past
     c.before.before.before.before.before.before.before.before.before.before.before.before.before.requires.rooms
     l.invariant.2 (omega arith) (the_room e) (its_room e) (its_holder e)
-    (sym (rw (its-numbers e) at c.before.apart-from-last.ensures) ∙ not_true _ c.if2.true)
+    (sym (rw (its-numbers e) at c.before.apart-from-last.ensures) ∙ not-true _ c.if2.true)
 
 add-past : tie.Need-overflow-add-past invariant-loop decreases-loop
 add-past c =

@@ -1,7 +1,7 @@
 -- `feed::feed_block` meets its contract: refusals 1, 2 and 4, refusal 9, or what `feed_held` leaves.
 use mathlib.Core.Path.{refl, sym, ◌∙◌}
 use native.Mathlib.Omega.{arith}
-use borrow.Author.Tests.{not_true, not-false}
+use borrow.Author.Tests.{not-true, not-false}
 use Rattle.layout.proofs.Places.{holds-inside, holds_holder}
 use Rattle.desk.proofs.Facts.{sound-long}
 use Rattle.calls.proofs.Entry.{entry_shows, entered-refused, entered_on}
@@ -36,7 +36,7 @@ unfolding feed_of
 returns-2 c =
     let b = c.before.before.before in
     let k = entry_shows _ _ _ _ b.before.entry-refusal.ensures b.if1.false in
-    rw (entered_on _ _ _ _ _ k, sym c.before.holds-place.ensures ∙ not_true _ c.if2.true)
+    rw (entered_on _ _ _ _ _ k, sym c.before.holds-place.ensures ∙ not-true _ c.if2.true)
     (record { told = refl; desk_left = refl; core-left = refl })
 
 feed-held-requires : tie.Need-feed-held-requires

@@ -1,6 +1,6 @@
 -- `feed::load_step`: each return by the test that led to it.
 use mathlib.Core.Path.{refl, sym, ◌∙◌}
-use borrow.Author.Tests.{not_true, not-false}
+use borrow.Author.Tests.{not-true, not-false}
 use Rattle.feed.specs.Block.{block_step}
 use borrow.Author.Rules.{rules}
 use Rattle.feed.proofs.load_step.Statement.{statement}
@@ -14,7 +14,7 @@ of-record-requires c κs = search rules
 
 returns : tie.Need-returns
 unfolding block_step
-returns c = rw (← c.before.before.record-due.ensures, sym c.before.of-record.ensures ∙ not_true _ c.if1.true)
+returns c = rw (← c.before.before.record-due.ensures, sym c.before.of-record.ensures ∙ not-true _ c.if1.true)
     (record { told = refl; left = refl })
 
 due-step-requires : tie.Need-due-step-requires

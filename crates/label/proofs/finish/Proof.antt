@@ -1,6 +1,6 @@
 -- `label::finish` meets its contract: each return by the tests that led to it, which speak of the bits read.
 use mathlib.Core.Path.{sym, ◌∙◌}
-use borrow.Author.Tests.{eq-eqb, ne_eqb, not_true, not-false}
+use borrow.Author.Tests.{eq-eqb, ne_eqb, not-true, not-false}
 use Rattle.label.specs.Label.{finished}
 use borrow.Author.Rules.{rules}
 use Rattle.label.proofs.finish.Statement.{statement}
@@ -47,7 +47,7 @@ returns-2 c =
       c.bad-at2.ensures,
       ← d.before.bits.ensures,
       eq-eqb _ _ d.if1.false,
-      sym c.before.before.program-word-fits.ensures ∙ not_true _ c.before.if2.true,
+      sym c.before.before.program-word-fits.ensures ∙ not-true _ c.before.if2.true,
     )
 
 shared-slice-read-if3 : tie.Need-shared-slice-read-if3

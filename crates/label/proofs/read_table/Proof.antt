@@ -1,6 +1,6 @@
 -- `label::read_table` meets its contract: each return by the tests that led to it.
 use mathlib.Core.Path.{sym, ◌∙◌}
-use borrow.Author.Tests.{not_true, not-false}
+use borrow.Author.Tests.{not-true, not-false}
 use Rattle.label.specs.HowTables.{table_read}
 use Rattle.label.proofs.Tables.{few, counted_few}
 use borrow.Author.Rules.{rules}
@@ -14,7 +14,7 @@ returns : tie.Need-returns
 unfolding table_read
 returns c =
     let d = c.before in
-    rw (sym d.may-follow.ensures ∙ not_true _ c.if1.true)
+    rw (sym d.may-follow.ensures ∙ not-true _ c.if1.true)
 
 count-with-requires : tie.Need-count-with-requires
 count-with-requires c κs = few _ c.before.before.requires
@@ -29,7 +29,7 @@ returns-2 c =
     rw (
       sym d.before.before.may-follow.ensures ∙ not-false _ d.before.if1.false,
       ← d.count-with.ensures,
-      sym c.before.within_limits_lem.ensures ∙ not_true _ c.if2.true,
+      sym c.before.within_limits_lem.ensures ∙ not-true _ c.if2.true,
     )
 
 returns-3 : tie.Need-returns-3

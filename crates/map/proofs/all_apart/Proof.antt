@@ -1,6 +1,6 @@
 -- `map::all_apart` meets its contract: the stretches not yet looked at decide.
 use Rattle.std.proofs.Common.{◌≡◌, ◌-◌, ◌≤◌, drop, sym, refl, ◌∙◌, arith}
-use borrow.Author.Tests.{not_true, not-false}
+use borrow.Author.Tests.{not-true, not-false}
 use Rattle.word.specs.Lists.{every_two}
 use Rattle.word.proofs.Lists.{two_more, two_fails, two_ends}
 use Rattle.map.specs.Map.{stretches_apart, none}
@@ -22,7 +22,7 @@ apart-from-later-requires c κs = omega arith
 returns : tie.Need-returns invariant-loop decreases-loop
 returns c =
     let l = c.before.before.before.loop in
-    two_fails stretches_apart none _ l.r _ (omega arith) (sym c.before.apart-from-later.ensures ∙ not_true _ c.if1.true)
+    two_fails stretches_apart none _ l.r _ (omega arith) (sym c.before.apart-from-later.ensures ∙ not-true _ c.if1.true)
     l.invariant.1
 
 add_r : tie.Need-overflow-add-r invariant-loop decreases-loop

@@ -1,6 +1,6 @@
 -- `map::all_in_core` meets its contract: the stretches not yet looked at decide.
 use Rattle.std.proofs.Common.{◌≡◌, ◌-◌, ◌≤◌, drop, refl, arith}
-use borrow.Author.Tests.{not_true, not-false}
+use borrow.Author.Tests.{not-true, not-false}
 use Rattle.word.specs.Lists.{every}
 use Rattle.word.proofs.Lists.{every_more, every_fails, every-ends}
 use Rattle.map.specs.Map.{in_core, none}
@@ -29,7 +29,7 @@ returns : tie.Need-returns invariant-loop decreases-loop
 unfolding in_core
 returns c =
     let l = c.before.before.before.before.loop in
-    every_fails _ none _ l.r _ (omega arith) (rw (← c.before.run_within.ensures) (not_true _ c.if1.true)) l.invariant.1
+    every_fails _ none _ l.r _ (omega arith) (rw (← c.before.run_within.ensures) (not-true _ c.if1.true)) l.invariant.1
 
 add_r : tie.Need-overflow-add-r invariant-loop decreases-loop
 add_r c = omega arith

@@ -1,6 +1,6 @@
 -- `map::apart_from_later` meets its contract: the later stretches not yet looked at decide.
 use Rattle.std.proofs.Common.{◌≡◌, ◌+◌, ◌-◌, ◌<◌, ◌≤◌, get_or, drop, refl, arith}
-use borrow.Author.Tests.{not_true, not-false}
+use borrow.Author.Tests.{not-true, not-false}
 use Rattle.word.specs.Lists.{every}
 use Rattle.word.proofs.Lists.{every_more, every_fails, every-ends}
 use Rattle.map.specs.Map.{stretches_apart, none}
@@ -39,7 +39,7 @@ returns : tie.Need-returns invariant-loop decreases-loop
 unfolding stretches_apart
 returns c =
     let l = c.before.before.before.before.loop in
-    every_fails _ none _ l.q _ (omega arith) (rw (← c.before.runs-apart.ensures) (not_true _ c.if1.true)) l.invariant.3
+    every_fails _ none _ l.q _ (omega arith) (rw (← c.before.runs-apart.ensures) (not-true _ c.if1.true)) l.invariant.3
 
 add-q-2 : tie.Need-overflow-add-q-2 invariant-loop decreases-loop
 add-q-2 c = omega arith

@@ -4,10 +4,9 @@ use mathlib.Core.Path.{◌≡◌, sym, ap, ◌∙◌}
 use native.Mathlib.Omega.{arith}
 use Rattle.word.specs.Limits.{words_in_block}
 use Rattle.block.specs.Checksum.{folded, others}
-use Rattle.block.specs.Block.{sealed_anew}
 use Rattle.block.proofs.OnePass.{SumKnown, sum_known, none-refused, agreed_passed, differing_refused}
 use Rattle.old_seal.specs.OldRule.{old_checksum}
-use Rattle.old_seal.specs.Reseal.{seal_place, old_verdict}
+use Rattle.old_seal.specs.Reseal.{seal_place, old_verdict, sealed_anew}
 use Rattle.old_seal.proofs.OldRule.{old-total}
 use Rattle.old_seal.proofs.Promises.{seal_place_small, refused_reseals, passed_reseals}
 use borrow.Author.Rules.{rules}

@@ -1,7 +1,7 @@
 -- `records::take_label` meets its contract: each return by the tests that led to it.
 use mathlib.Core.Path.{sym, ◌∙◌}
 use native.Mathlib.Omega.{arith}
-use borrow.Author.Tests.{eq-eqb, ne_eqb, not_true, not-false}
+use borrow.Author.Tests.{eq-eqb, ne_eqb, not-true, not-false}
 use Rattle.lists.proofs.Reading.{io-length}
 use Rattle.records.specs.Label.{with_label, after_label}
 use borrow.Author.Rules.{rules}
@@ -20,7 +20,7 @@ returns c =
     let d = c.before in
     rw (
       c.further.ensures,
-      sym d.before.assignments-fit.ensures ∙ not_true _ d.if1.true,
+      sym d.before.assignments-fit.ensures ∙ not-true _ d.if1.true,
     )
 
 add-if2 : tie.Need-overflow-add-if2

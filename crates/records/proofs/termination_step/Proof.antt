@@ -1,7 +1,7 @@
 -- `records::termination_step` meets its contract: each return by the tests that led to it.
 use mathlib.Core.Path.{sym, ◌∙◌}
 use native.Mathlib.Omega.{arith}
-use borrow.Author.Tests.{not_true, not-false}
+use borrow.Author.Tests.{not-true, not-false}
 use Rattle.records.specs.Termination.{termination_step}
 use borrow.Author.Rules.{rules}
 use Rattle.records.proofs.termination_step.Statement.{statement}
@@ -23,7 +23,7 @@ returns c =
     rw (
       c.further.ensures,
       ← d.before.before.read-start.ensures,
-      sym d.before.in_bank_lem.ensures ∙ not_true _ d.if1.true,
+      sym d.before.in_bank_lem.ensures ∙ not-true _ d.if1.true,
     )
 
 placed-requires : tie.Need-placed-requires

@@ -1,6 +1,6 @@
 -- `stage::due_fits`: by what is due, and the tests of it.
 use mathlib.Core.Path.{sym, ◌∙◌}
-use borrow.Author.Tests.{not_true, not-false}
+use borrow.Author.Tests.{not-true, not-false}
 use Rattle.stage.specs.Ranges.{due_fits}
 use borrow.Author.Rules.{rules}
 use Rattle.stage.proofs.due_fits.Statement.{statement}
@@ -17,7 +17,7 @@ bank-fits-requires c κs = search rules
 
 returns : tie.Need-returns
 unfolding due_fits
-returns c = rw (c.before.before.before.before.due.given.1, sym c.before.bank-fits.ensures ∙ not_true _ c.if1.true)
+returns c = rw (c.before.before.before.before.due.given.1, sym c.before.bank-fits.ensures ∙ not-true _ c.if1.true)
 
 bank-fits-requires-2 : tie.Need-bank-fits-requires-2
 bank-fits-requires-2 c κs = search rules
@@ -36,7 +36,7 @@ section-fits-requires c κs = search rules
 
 returns-2 : tie.Need-returns-2
 unfolding due_fits
-returns-2 c = rw (c.before.before.before.due3.given.1, sym c.before.section_fits_lem.ensures ∙ not_true _ c.if2.true)
+returns-2 c = rw (c.before.before.before.due3.given.1, sym c.before.section_fits_lem.ensures ∙ not-true _ c.if2.true)
 
 bank-fits-requires-4 : tie.Need-bank-fits-requires-4
 bank-fits-requires-4 c κs = search rules

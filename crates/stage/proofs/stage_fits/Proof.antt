@@ -1,7 +1,7 @@
 -- `stage::stage_fits`: by the stage, and the tests of it.
 use mathlib.Core.Path.{sym, ◌∙◌}
 use mathlib.Core.Bool.{and-false}
-use borrow.Author.Tests.{not_true, not-false}
+use borrow.Author.Tests.{not-true, not-false}
 use Rattle.word.proofs.Cases.{and_true}
 use Rattle.lists.proofs.Reading.{core-length}
 use Rattle.stage.specs.Ranges.{label_counts_fit, stage_fits}
@@ -22,7 +22,7 @@ returns : tie.Need-returns
 unfolding stage_fits
 returns c = let z = c.before.before.before.before.before.before.before in
     let e = core-length z.args.g z.args.lists.now z.requires in
-    rw (c.before.before.before.s.given.1, e, sym c.before.label-counts_fit.ensures ∙ not_true _ c.if1.true)
+    rw (c.before.before.before.s.given.1, e, sym c.before.label-counts_fit.ensures ∙ not-true _ c.if1.true)
 
 entry-blocks-requires : tie.Need-entry-blocks-requires
 entry-blocks-requires c κs = search rules
@@ -41,7 +41,7 @@ returns-2 c = let z = c.before.before.before.before.before.before.before in
       c.before.before.before.s2.given.1,
       e,
       sym c.before.due-fits.ensures
-          ∙ not_true _ c.if2.true,
+          ∙ not-true _ c.if2.true,
       and-false (label_counts_fit z.args.g.io z.args.g.tables _),
     )
 

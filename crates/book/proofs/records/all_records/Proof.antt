@@ -2,7 +2,7 @@
 use Prim.Native.Nat.{◌≤◌, ◌-◌}
 use mathlib.Core.Path.{◌≡◌, refl, sym, ◌∙◌}
 use native.Mathlib.Omega.{arith}
-use borrow.Author.Tests.{not_true, not-false}
+use borrow.Author.Tests.{not-true, not-false}
 use Rattle.book.specs.Book.{record_count, all_records}
 use Rattle.book.proofs.Record.{length_record, records_from, records_more, records_fails, records_ends}
 use Rattle.book.proofs.records.all_records.Statement.{statement}
@@ -28,7 +28,7 @@ returns : tie.Need-returns invariant-loop decreases-loop
 returns c =
     let l = c.before.before.before.before.loop in
     let e = rw c.before.before.record-at.ensures at c.before.is-record.ensures in
-    records_fails _ l.i _ (omega arith) (sym e ∙ not_true _ c.if1.true) l.invariant.2
+    records_fails _ l.i _ (omega arith) (sym e ∙ not-true _ c.if1.true) l.invariant.2
 
 add-i : tie.Need-overflow-add-i invariant-loop decreases-loop
 add-i c = omega arith

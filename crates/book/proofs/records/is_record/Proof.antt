@@ -1,6 +1,6 @@
 -- `book::records::is_record` meets its contract: each return by the tests that led to it.
 use mathlib.Core.Path.{sym, ◌∙◌}
-use borrow.Author.Tests.{not_true, not-false}
+use borrow.Author.Tests.{not-true, not-false}
 use borrow.Author.Rules.{rules}
 use Rattle.word.specs.Lists.{range}
 use Rattle.book.specs.Book.{is_record}
@@ -15,7 +15,7 @@ is-kind-requires c κs = search rules
 
 returns : tie.Need-returns
 unfolding is_record
-returns c = rw (sym c.before.is-kind.ensures ∙ not_true _ c.if1.true)
+returns c = rw (sym c.before.is-kind.ensures ∙ not-true _ c.if1.true)
 
 sub-all-between : tie.Need-overflow-sub-all-between
 sub-all-between c = search rules
@@ -34,7 +34,7 @@ unfolding is_record range
 returns-2 c =
     rw (
       sym c.before.before.before.before.is-kind.ensures ∙ not-false _ c.before.before.before.if1.false,
-      sym c.before.all-between.ensures ∙ not_true _ c.if2.true,
+      sym c.before.all-between.ensures ∙ not-true _ c.if2.true,
     )
 
 sub-all-between-2 : tie.Need-overflow-sub-all-between-2
@@ -56,7 +56,7 @@ returns-3 c =
     rw (
       sym b.before.before.before.before.is-kind.ensures ∙ not-false _ b.before.before.before.if1.false,
       sym b.before.all-between.ensures ∙ not-false _ b.if2.false,
-      sym c.before.all-between2.ensures ∙ not_true _ c.if3.true,
+      sym c.before.all-between2.ensures ∙ not-true _ c.if3.true,
     )
 
 shared-slice-read-result : tie.Need-shared-slice-read-result

@@ -25,20 +25,11 @@ mul-result-2 c = search rules
 add-result : tie.Need-overflow-add-result
 add-result c = omega (arith, rw c.before.a2.given.1 at c.before.before.before.requires)
 
-enum-known-a-3 : tie.Need-enum-known-a-3
-enum-known-a-3 c = search rules
-
-mul-result-3 : tie.Need-overflow-mul-result-3
-mul-result-3 c = search rules
-
-add-result-2 : tie.Need-overflow-add-result-2
-add-result-2 c = omega (arith, rw c.before.a3.given.1 at c.before.before.before.requires)
-
 enum-told-2 : tie.Need-enum-told-2
 enum-told-2 c = search rules
 
-mul-result-4 : tie.Need-overflow-mul-result-4
-mul-result-4 c = search rules
+mul-result-3 : tie.Need-overflow-mul-result-3
+mul-result-3 c = search rules
 
 returns : tie.Need-returns
 returns c = rw c.before.before.a.given.1 c.pack-fault.ensures
@@ -50,10 +41,7 @@ returns-3 : tie.Need-returns-3
 returns-3 c = rw c.before.a2.given.1
 
 returns-4 : tie.Need-returns-4
-returns-4 c = rw c.before.a3.given.1
-
-returns-5 : tie.Need-returns-5
-returns-5 c = rw c.enum-told2.given.1
+returns-4 c = rw c.enum-told2.given.1
 
 pub pack_file_spec : {M : Type 1} → statement M
 pack_file_spec =
@@ -66,13 +54,9 @@ pack_file_spec =
     enum-known-a-2
     mul-result-2
     add-result
-    enum-known-a-3
-    mul-result-3
-    add-result-2
     enum-told-2
-    mul-result-4
+    mul-result-3
     returns
     returns-2
     returns-3
-    returns-4
-    returns-5)
+    returns-4)

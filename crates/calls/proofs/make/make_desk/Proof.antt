@@ -1,6 +1,6 @@
 -- `calls::make::make_desk` meets its contract: its tests are those of `make_of`, in that order.
 use mathlib.Core.Path.{refl, sym, ◌∙◌}
-use borrow.Author.Tests.{eq-eqb, ne_eqb, le-leb, lt-leb, not_true, not-false}
+use borrow.Author.Tests.{eq-eqb, ne_eqb, le-leb, lt-leb, not-true, not-false}
 use Rattle.calls.specs.Make.{make_of}
 use borrow.Author.Rules.{rules}
 use Rattle.calls.proofs.make.make_desk.Statement.{statement}
@@ -44,7 +44,7 @@ returns-5 c =
       le-leb _ _ c.before.before.before.if3.false,
       eq-eqb _ _
           c.before.before.if4.false,
-      sym c.before.map-fits.ensures ∙ not_true _ c.if5.true,
+      sym c.before.map-fits.ensures ∙ not-true _ c.if5.true,
     )
     (record { told = refl; desk_left = refl; core-left = refl })
 

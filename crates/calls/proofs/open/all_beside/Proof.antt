@@ -3,7 +3,7 @@ use Rattle.desk.proofs.Tested.{places_more, places_fail, places_end}
 use Prim.Native.Nat.{◌≤◌, ◌-◌}
 use mathlib.Core.Path.{◌≡◌, refl, sym, ◌∙◌}
 use native.Mathlib.Omega.{arith}
-use borrow.Author.Tests.{not_true, not-false}
+use borrow.Author.Tests.{not-true, not-false}
 use lib.ListN.{drop}
 use Rattle.word.specs.Lists.{every}
 use Rattle.layout.specs.Layout.{places}
@@ -37,7 +37,7 @@ returns : tie.Need-returns invariant-loop decreases-loop
 returns c =
     let l = c.before.before.before.before.loop in
     places_fail _ _ l.p _ _ (omega arith) c.before.before.place_at.ensures
-    (sym c.before.beside-own.ensures ∙ not_true _ c.if1.true) l.invariant.1
+    (sym c.before.beside-own.ensures ∙ not-true _ c.if1.true) l.invariant.1
 
 add-p : tie.Need-overflow-add-p invariant-loop decreases-loop
 add-p c = omega arith

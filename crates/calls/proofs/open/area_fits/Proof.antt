@@ -1,6 +1,6 @@
 -- `calls::open::area_fits` meets its contract: each return by the tests that led to it.
 use mathlib.Core.Path.{sym, ap, ◌∙◌}
-use borrow.Author.Tests.{not_true, not-false}
+use borrow.Author.Tests.{not-true, not-false}
 use Rattle.map.specs.Map.{map_of}
 use Rattle.calls.proofs.Grant.{area_outside, area-inside}
 use borrow.Author.Rules.{rules}
@@ -25,7 +25,7 @@ area-in-requires c κs = search rules
 returns : tie.Need-returns
 returns c = area_outside _ _ _ _
     (c.before.before.before.read-map.ensures ∙ ap map_of c.before.before.before.before.map-numbers.ensures)
-    (sym c.before.area_in.ensures ∙ not_true _ c.if1.true)
+    (sym c.before.area_in.ensures ∙ not-true _ c.if1.true)
 
 all-beside-requires : tie.Need-all-beside-requires
 all-beside-requires c κs = search rules

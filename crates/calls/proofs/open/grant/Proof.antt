@@ -2,7 +2,7 @@
 use mathlib.Core.Path.{refl, sym, ap, ◌∙◌}
 use native.Mathlib.Omega.{arith}
 use lib.ListN.{length}
-use borrow.Author.Tests.{not_true, not-false}
+use borrow.Author.Tests.{not-true, not-false}
 use Rattle.lists.proofs.Take.{taken_words, taken_nothing}
 use Rattle.layout.proofs.Places.{lists_length}
 use Rattle.rooms.specs.Rooms.{place_refusal, lowest_free}
@@ -50,7 +50,7 @@ returns-2 c =
     let e = i.before.before.before.read-holders.ensures in
     let f = none-due _ _ e _ _ i.before.place-refusal.ensures i.if1.false in
     grant_outside _ _ _ _ _ _ f
-    (sym c.before.area-fits.ensures ∙ not_true _ c.if2.true)
+    (sym c.before.area-fits.ensures ∙ not-true _ c.if2.true)
 
 slice-aggregate-take-lists : tie.Need-slice-aggregate-take-lists
 slice-aggregate-take-lists c = search rules

@@ -6,7 +6,7 @@ use mathlib.Core.List.{List}
 use native.Mathlib.Omega.{arith}
 use lib.ListN.{drop, get_or}
 use borrow.Author.Rules.{rules}
-use borrow.Author.Tests.{not_true, not-false}
+use borrow.Author.Tests.{not-true, not-false}
 use Rattle.word.specs.Lists.{every}
 use Rattle.word.specs.Runs.{apart}
 use Rattle.word.specs.Sorts.{absolute_of}
@@ -58,7 +58,7 @@ returns c = let b = c.before.before in
     let n = core-length a.g a.lists.now z.requires.0 in
     every_fails (beside_table a.g.area a.bank) no_table (core_tables a.g a.lists.now) l.k _ (omega arith)
     (beside_here _ _ z.requires.0 _ _ _ _ _ _ b.before.loop-test.true b.before.before.before.placed.ensures
-    b.core-table.ensures c.before.runs-apart.ensures (not_true _ c.if1.true)) l.invariant.1
+    b.core-table.ensures c.before.runs-apart.ensures (not-true _ c.if1.true)) l.invariant.1
 
 add-k : tie.Need-overflow-add-k invariant-loop decreases-loop
 add-k c = omega arith

@@ -1,7 +1,7 @@
 -- `heads::banks_fit` meets its contract: each return by the tests that led to it.
 use mathlib.Core.Path.{sym, ◌∙◌}
 use native.Mathlib.Omega.{arith}
-use borrow.Author.Tests.{not_true, not-false}
+use borrow.Author.Tests.{not-true, not-false}
 use Rattle.sections.specs.Heads.{banks_fit}
 use Rattle.sections.proofs.Ranges.{bank_inside}
 use borrow.Author.Rules.{rules}
@@ -13,7 +13,7 @@ bank-fits-requires c κs = search rules
 
 returns : tie.Need-returns
 unfolding banks_fit
-returns c = rw (← c.before.bank-fits.ensures, not_true c.before.bank-fits.result c.if1.true)
+returns c = rw (← c.before.bank-fits.ensures, not-true c.before.bank-fits.result c.if1.true)
 
 bank-fits-requires-2 : tie.Need-bank-fits-requires-2
 bank-fits-requires-2 c κs = search rules
@@ -26,7 +26,7 @@ returns-2 c = let b = c.before.before in
       not-false b.before.bank-fits.result
           b.if1.false,
       ← c.before.bank-fits2.ensures,
-      not_true c.before.bank-fits2.result c.if2.true,
+      not-true c.before.bank-fits2.result c.if2.true,
     )
 
 runs-apart-requires : tie.Need-runs-apart-requires
@@ -44,7 +44,7 @@ returns-3 c = let d = c.before.before in
       not-false d.before.bank-fits2.result
           d.if2.false,
       ← c.before.runs-apart.ensures,
-      not_true c.before.runs-apart.result c.if3.true,
+      not-true c.before.runs-apart.result c.if3.true,
     )
 
 bank-beside-tables-requires : tie.Need-bank-beside-tables-requires
@@ -69,7 +69,7 @@ returns-4 c = let r = c.before.before in
       not-false r.before.runs-apart.result
           r.if3.false,
       ← c.before.bank-beside-tables.ensures,
-      not_true c.before.bank-beside-tables.result c.if4.true,
+      not-true c.before.bank-beside-tables.result c.if4.true,
     )
 
 bank-beside-tables-requires-2 : tie.Need-bank-beside-tables-requires-2
