@@ -1,5 +1,7 @@
 // The assign program (#101): reads a facility book, and a program file of octal lines from standard input, and prints the two lists
 // that the book gives the file, or the refusal.
+#![tactic(auto)]
+
 ghost use Rattle.std.specs.Prelude.{◌≤◌};
 ghost use Rattle.word.specs.Limits.{io_most, tables_most};
 ghost use Rattle.label.specs.Label.{Carried};
@@ -22,7 +24,7 @@ const FRONT_WORDS: usize = FRONT_BLOCKS * BLOCK_WORDS;
 const PAIRS_MOST: usize = 2 * TABLES_MOST;
 
 // What the whole input is: so many blocks, or bad.
-#[derive(Drop)]
+#[derive(Clone, Copy)]
 enum Whole {
     Blocks(usize),
     Bad,

@@ -1,4 +1,6 @@
 // A block of a program file: whether it is one (11), whether its checksum word agrees (12), and which record it is of (13).
+#![tactic(auto)]
+
 ghost use Rattle.std.specs.Prelude.{◌≡◌};
 ghost use Rattle.block.specs.Records.{checksum_place, of_record};
 ghost use Rattle.block.specs.Checksum.{carried_round, folded};
@@ -31,7 +33,7 @@ const PRORC: u64 = 0o502527242710;
 const TRMRC: u64 = 0o503127222710;
 
 // The records of a program file, in the order of the file.
-#[derive(Drop)]
+#[derive(Clone, Copy)]
 pub enum Record {
     Label,
     Modification,
@@ -40,7 +42,7 @@ pub enum Record {
 }
 
 // Whether a test is passed, and the fault where it is not.
-#[derive(Drop)]
+#[derive(Clone, Copy)]
 pub enum Verdict {
     Pass,
     Refused(Fault),
@@ -72,7 +74,7 @@ pub fn of_record(block: &[u64], r: Record) -> bool
 }
 
 // The words of a block added up; or that they are no block, refusal 11.
-#[derive(Drop)]
+#[derive(Clone, Copy)]
 pub enum Summed {
     NoBlock,
     Sum(u64),

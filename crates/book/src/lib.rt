@@ -1,4 +1,6 @@
 // The facility book (#101): from the numbers that a book gives to tags, and the tags of a file's entries, to open's two lists.
+#![tactic(auto)]
+
 pub mod records;
 pub mod tags;
 
@@ -18,7 +20,7 @@ use tags::KEPT_WORDS;
 use word::faults::{FAULT_24, FAULT_25, FAULT_26, FAULT_27};
 
 // Whose tag a record gives a number: a core entry's address or length, an I/O entry.
-#[derive(Drop)]
+#[derive(Clone, Copy)]
 pub enum Kind {
     Address,
     Length,
@@ -26,7 +28,7 @@ pub enum Kind {
 }
 
 // What a record of a book says: this tag of this kind is given this number.
-#[derive(Drop)]
+#[derive(Clone, Copy)]
 pub struct Assignment {
     pub kind: Kind,
     pub tag: u64,

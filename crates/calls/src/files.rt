@@ -6,7 +6,7 @@ use crate::CODE;
 use word::Fault;
 
 // What such a call answers: a refusal; assigned; needs, with what is needed as one number; resealed.
-#[derive(Drop)]
+#[derive(Clone, Copy)]
 pub enum FileAnswer {
     Refused(Fault),
     Assigned,

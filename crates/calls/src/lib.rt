@@ -1,5 +1,7 @@
 // The calls that give and take places: make, open and release, each with its refusals in 01's order; the answers of all calls, and
 // each as one 64-bit number for C; and the refusals that open, feed and release share.
+#![tactic(auto)]
+
 pub mod files;
 pub mod make;
 pub mod open;
@@ -18,7 +20,7 @@ use word::{Absolute, Fault, Half, Side};
 pub const CODE: u64 = 1 << 32;
 
 // What a call answers: a refusal; made; opened, with the place; more; done, with the absolute start; released.
-#[derive(Drop)]
+#[derive(Clone, Copy)]
 pub enum Answer {
     Refused(Fault),
     Made,

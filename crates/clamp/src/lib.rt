@@ -1,4 +1,6 @@
 // The library that the emulator links: the calls with C linkage, and nothing else. Answers are packed as docs/ANSWERS.md says.
+#![tactic(auto)]
+
 ghost use Rattle.std.specs.Prelude.{◌≡◌, []};
 ghost use Rattle.layout.specs.Layout.{desk_words};
 ghost use Rattle.calls.specs.Make.{make_of};

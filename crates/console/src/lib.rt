@@ -1,12 +1,14 @@
 // What the programs share: bytes and numbers on standard output, blocks of octal lines, read from standard input and printed, and
 // files read by name.
+#![tactic(auto)]
+
 ghost use Rattle.std.specs.Prelude.{◌≡◌, length};
 ghost use Rattle.word.specs.Limits.{words_in_block};
 
 use libc::{STDIN_FILENO, STDOUT_FILENO};
 
 // What comes next on standard input.
-#[derive(Drop)]
+#[derive(Clone, Copy)]
 pub enum Input {
     End,
     Block,
@@ -14,7 +16,7 @@ pub enum Input {
 }
 
 // What came of a file: so many bytes, or that it cannot be read.
-#[derive(Drop)]
+#[derive(Clone, Copy)]
 pub enum FileRead {
     Bytes(usize),
     Unread,

@@ -1,4 +1,6 @@
 // The test of a desk that comes first in every call: whatever memory is lent, it is sound or it is refused.
+#![tactic(auto)]
+
 ghost use Rattle.std.specs.Prelude.{◌≡◌, ◌&&◌, ◌||◌, ◌-◌, length, eqb};
 ghost use Rattle.rooms.specs.Rooms.{fair};
 ghost use Rattle.lists.specs.Load.{Readable};

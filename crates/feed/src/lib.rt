@@ -1,5 +1,7 @@
 // Feed: one block for a load, with its refusals in 01's order. Refusals 1, 2, 4 and 9 to 12 change nothing; 13 to 22 set the load's
 // area to zero and break the load.
+#![tactic(auto)]
+
 ghost use Rattle.std.specs.Prelude.{◌≡◌, ◌<◌, length};
 ghost use Rattle.word.specs.Limits.{place_count};
 ghost use Rattle.layout.specs.Layout.{desk_words, place_in};

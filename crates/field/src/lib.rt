@@ -1,4 +1,6 @@
 // One field of a program word: what it becomes by its modification type, or why it is refused.
+#![tactic(auto)]
+
 ghost use Rattle.std.specs.Prelude.{◌≡◌, true, false, ◌+◌, ◌<◌, ◌≤◌, ◌^◌};
 ghost use Rattle.word.specs.Limits.{core_most};
 ghost use Rattle.word.specs.declared.Half.TheVariants.{Left, Right};
@@ -18,14 +20,14 @@ pub const VALUE_LIMIT: u64 = 1 << 16;
 const LONG_LEAST: u64 = 64;
 
 // What a field becomes.
-#[derive(Drop)]
+#[derive(Clone, Copy)]
 pub enum Becomes {
     Value(u64),
     Bad(Fault),
 }
 
 // What a word becomes.
-#[derive(Drop)]
+#[derive(Clone, Copy)]
 pub enum Changed {
     Word(u64),
     Refused(Fault),
@@ -33,7 +35,7 @@ pub enum Changed {
 
 // What a word becomes where only the word is wanted: it; it by a long type 010, which has nine indicator bits more; or that the
 // field is refused, of which `field_step` tells the rest.
-#[derive(Drop)]
+#[derive(Clone, Copy)]
 pub enum Stepped {
     Word(u64),
     Long(u64),
@@ -42,7 +44,7 @@ pub enum Stepped {
 
 // What the fields of a load's words are changed by, beside its lists: what open was given, and how many of its I/O references are
 // of types 0 and 2.
-#[derive(Drop)]
+#[derive(Clone, Copy)]
 pub struct Assigned {
     pub given: Given,
     pub channels: u64,

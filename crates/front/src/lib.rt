@@ -1,5 +1,7 @@
 // The front of a program file, its label and its modification blocks, read without a desk (#101): whether it is right, what the label
 // needs, and the words of the entries.
+#![tactic(auto)]
+
 ghost use Rattle.std.specs.Prelude.{◌≡◌, ◌*◌, ◌≤◌, ◌<◌, ◌^◌, length};
 ghost use Rattle.word.specs.Limits.{words_in_block};
 ghost use Rattle.label.specs.Label.{Carried};

@@ -26,21 +26,21 @@ const MOVED: u64 = 8;
 const NO_CHANGE: u64 = 1 << 62;
 
 // Where the loop stands: the cursor before the indicators of the next program word, and that word's number.
-#[derive(Drop)]
+#[derive(Clone, Copy)]
 pub struct Progress {
     pub cursor: Cursor,
     pub word: usize,
 }
 
 // How many bits the indicators of all program words have; or that a field is refused.
-#[derive(Drop)]
+#[derive(Clone, Copy)]
 pub enum GroupChange {
     Bits(usize),
     Stop,
 }
 
 // The cursor and the number of the next program word; or that a field is refused.
-#[derive(Drop)]
+#[derive(Clone, Copy)]
 pub enum NextWord {
     At(Cursor, usize),
     Stop,

@@ -8,7 +8,7 @@ use field::{Assigned, Stepped};
 use indicator::{Cursor, NEXT_BIT};
 
 // What a word becomes and the cursor past its indicators; or that one of its fields is refused.
-#[derive(Drop)]
+#[derive(Clone, Copy)]
 pub enum WordChange {
     Next(u64, Cursor),
     Stop,

@@ -1,6 +1,8 @@
 // One group of a program block: its program words are read from the lent block and stored into the lent core, each one's left and
 // right half changed in order, while the indicators are counted. 18 comes before a refusal of a field: where a field is refused,
 // the count decides which.
+#![tactic(auto)]
+
 mod changes;
 mod halves;
 mod refusals;
@@ -18,14 +20,14 @@ use word::faults::FAULT_18;
 use word::{Absolute, Area, Fault};
 
 // The section that a group stands in: the segment with its two banks, or a core table with the section's word count.
-#[derive(Drop)]
+#[derive(Clone, Copy)]
 pub enum Section {
     Segment(Segment),
     Table(Table, u64),
 }
 
 // The place of the next identifier and whether the group was its section's last; or the fault.
-#[derive(Drop)]
+#[derive(Clone, Copy)]
 pub enum GroupStep {
     Done(usize, bool),
     Refused(Fault),

@@ -1,6 +1,8 @@
 // An indicator: what is to be done with a half of a program word; and the indicators of a group read fast, straight from the
 // group's words: the next 64 bits are held in one number, and where all of them are 0 many words without change are passed at once.
 // A group's words are its program words, the first n, and its indicator words after them.
+#![tactic(auto)]
+
 ghost use Rattle.std.specs.Prelude.{◌≡◌, ◌+◌, ◌-◌, ◌*◌, ◌≤◌, ◌<◌, ◌^◌, length};
 ghost use Rattle.word.specs.Lists.{range};
 ghost use Rattle.indicator.specs.Indicator.{width_of, after_all, just_enough};
@@ -19,7 +21,7 @@ pub const FEW: usize = 28;
 const ENDLESS: usize = 1 << 16;
 
 // No change; a change of a three-bit type; type 010 with its nine bits more.
-#[derive(Drop)]
+#[derive(Clone, Copy)]
 pub enum Indicator {
     Same,
     Change(u64),
@@ -29,7 +31,7 @@ pub enum Indicator {
 // The next 64 bits, the first one leftmost, as far as the indicator words taken so far have them, and 0s behind those; how many
 // bits are left of these words, where the 0s behind the last word count as bits without end, so that one comparison tells whether a
 // word is to be taken; and the place that the words taken start at.
-#[derive(Drop)]
+#[derive(Clone, Copy)]
 pub struct Cursor {
     pub ahead: u64,
     pub left: usize,

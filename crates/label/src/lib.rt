@@ -1,4 +1,6 @@
 // The label of a program file: its name, its type flag and what it counts; or the first fault in reading order, 14 or 15.
+#![tactic(auto)]
+
 pub mod name;
 
 ghost use Rattle.std.specs.Prelude.{◌≡◌, true, length};
@@ -38,7 +40,7 @@ const NAME_AGAIN: usize = 255;
 
 // How far the characters of a name have come: before the first, among letters, digits and hyphens, among the spaces at the end;
 // or a character that cannot stand there.
-#[derive(Drop)]
+#[derive(Clone, Copy)]
 pub enum Spelling {
     First,
     Inside,
@@ -46,14 +48,14 @@ pub enum Spelling {
     Wrong,
 }
 
-#[derive(Drop)]
+#[derive(Clone, Copy)]
 pub enum NameRead {
     Good,
     Bad(Fault),
 }
 
 // How many entries each table type carried has: jump switches (0), channels (2), units (3), core tables (12).
-#[derive(Drop)]
+#[derive(Clone, Copy)]
 pub struct Counts {
     pub switches: u64,
     pub channels: u64,
@@ -62,7 +64,7 @@ pub struct Counts {
 }
 
 // The tables of a label: what they count, or the first that breaks a rule.
-#[derive(Drop)]
+#[derive(Clone, Copy)]
 pub enum TablesRead {
     Good(Counts),
     Bad(Fault),
@@ -70,7 +72,7 @@ pub enum TablesRead {
 
 // What later records need of a label: the entries of each table type, whether longer tables are forbidden, and how many table
 // sections follow the segment section.
-#[derive(Drop)]
+#[derive(Clone, Copy)]
 pub struct Label {
     pub switches: u64,
     pub channels: u64,
@@ -80,7 +82,7 @@ pub struct Label {
     pub sections: u64,
 }
 
-#[derive(Drop)]
+#[derive(Clone, Copy)]
 pub enum LabelRead {
     Good(Label),
     Bad(Fault),

@@ -1,4 +1,6 @@
 // Where the numbers of a desk stand, and reading them.
+#![tactic(auto)]
+
 ghost use Rattle.std.specs.Prelude.{◌≡◌, ◌+◌, ◌<◌, length};
 ghost use Rattle.word.specs.Limits.{room_count, place_count};
 ghost use Rattle.layout.specs.Layout.{desk_words, place_words, map_numbers, place_in, holders, holds};
@@ -40,7 +42,7 @@ pub const LISTS_AT: usize = STAGE_AT + 9;
 pub const PLACE_WORDS: usize = LISTS_AT + LISTS;
 
 // A place's own numbers: who holds it (0: nobody, r + 1: room r), and what its load was given.
-#[derive(Drop)]
+#[derive(Clone, Copy)]
 pub struct Place {
     pub holder: u64,
     pub given: Given,

@@ -1,5 +1,7 @@
 // The load printer: feeds room 0 the blocks on standard input, 256 lines of 12 octal digits each, and prints what is answered to
 // each (01, "The hand deck").
+#![tactic(auto)]
+
 use calls::Answer;
 use console::{Input, read_block, say, say_line, say_number};
 use layout::DESK_WORDS;

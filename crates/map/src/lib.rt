@@ -1,5 +1,7 @@
 // The map: which stretch of core is each room's. It is read from numbers, passed whole, and tested against its rule (01, "The desk"
 // and refusal 3).
+#![tactic(auto)]
+
 ghost use Rattle.std.specs.Prelude.{◌≡◌, ◌+◌, ◌<◌, length, drop, slice_index_or};
 ghost use Rattle.word.specs.Lists.{every, every_two};
 ghost use Rattle.word.specs.Limits.{room_count, map_words};
@@ -10,7 +12,7 @@ use word::Absolute;
 use word::limits::{MAP_WORDS, ROOMS};
 
 // A room's part of core: the address of its first word, and how many words it has.
-#[derive(Drop)]
+#[derive(Clone, Copy)]
 pub struct Stretch {
     pub start: Absolute,
     pub len: u64,

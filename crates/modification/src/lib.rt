@@ -1,5 +1,7 @@
 // Whether the assignments fit the file (16): the two lists against the label, and each table's length against the modification
 // record, with how many words and blocks its entries take and where each minimum length stands.
+#![tactic(auto)]
+
 ghost use Rattle.std.specs.Prelude.{◌≡◌, ◌*◌, ◌≤◌, ◌^◌, length};
 ghost use Rattle.word.specs.Lists.{every};
 ghost use Rattle.lists.specs.HowKept.{numbers_in};
@@ -21,7 +23,7 @@ const ENTRY_WORDS: u64 = 254;
 const CHANNEL_MOST: u64 = 15;
 
 // A word of the modification record: the block, counted from 0 among the modification blocks, and the word in it.
-#[derive(Drop)]
+#[derive(Clone, Copy)]
 pub struct Spot {
     pub block: u64,
     pub word: u64,

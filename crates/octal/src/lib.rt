@@ -1,4 +1,6 @@
 // The text of a block, as programs read and write it: 256 lines of 12 octal digits.
+#![tactic(auto)]
+
 ghost use Rattle.std.specs.Prelude.{◌≡◌, ◌+◌, ◌≤◌, ◌<◌, length};
 ghost use Rattle.word.specs.Lists.{splice};
 ghost use Rattle.octal.specs.Lines.{line_at, is_good, word_of, is_block, block_of, is_whole, ended, text_bytes, line_count};
@@ -22,7 +24,7 @@ const DIGIT_0: u8 = 48;
 const DIGIT_7: u8 = 55;
 
 // What a line says.
-#[derive(Drop)]
+#[derive(Clone, Copy)]
 pub enum Line {
     Word(u64),
     Bad,

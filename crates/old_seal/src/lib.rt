@@ -1,4 +1,6 @@
 // The checksum rule before #104, and a block of it resealed: its checksum word written anew by the rule in force.
+#![tactic(auto)]
+
 ghost use Rattle.std.specs.Prelude.{◌≡◌};
 ghost use Rattle.old_seal.specs.Reseal.{seal_place, Reseals};
 

@@ -1,5 +1,7 @@
 // The words that head what a program block holds: segment section, table section, group; and the termination block's start.
 // Each is read from the word alone. What it says is compared with the area, the lists and the label elsewhere.
+#![tactic(auto)]
+
 ghost use Rattle.std.specs.Prelude.{◌≡◌};
 ghost use Rattle.program.specs.Sections.{bank_of, segment_of, table_section_of};
 ghost use Rattle.program.specs.Groups.{group_of};
@@ -12,38 +14,38 @@ use word::{Fault, Reference, Relative};
 pub const LAST_WORD: usize = 254;
 
 // IBANK or DBANK: where it starts, and how many words it has.
-#[derive(Drop)]
+#[derive(Clone, Copy)]
 pub struct Bank {
     pub at: Relative,
     pub count: u64,
 }
 
-#[derive(Drop)]
+#[derive(Clone, Copy)]
 pub enum BankRead {
     Good(Bank),
     Bad(Fault),
 }
 
-#[derive(Drop)]
+#[derive(Clone, Copy)]
 pub struct Segment {
     pub ibank: Bank,
     pub dbank: Bank,
 }
 
-#[derive(Drop)]
+#[derive(Clone, Copy)]
 pub enum SegmentRead {
     Good(Segment),
     Bad(Fault),
 }
 
 // A table section: which core table it fills, and how many of its words it may store.
-#[derive(Drop)]
+#[derive(Clone, Copy)]
 pub struct TableSection {
     pub number: Reference,
     pub count: u64,
 }
 
-#[derive(Drop)]
+#[derive(Clone, Copy)]
 pub enum TableSectionRead {
     Good(TableSection),
     Bad(Fault),
@@ -51,7 +53,7 @@ pub enum TableSectionRead {
 
 // A group: how many words follow its identifier, how many of them are program words, whether it is its section's last, whether
 // it is for the IBANK (else it is for the DBANK or a table), and where its words go.
-#[derive(Drop)]
+#[derive(Clone, Copy)]
 pub struct Group {
     pub words: u64,
     pub program: u64,
@@ -60,7 +62,7 @@ pub struct Group {
     pub at: Relative,
 }
 
-#[derive(Drop)]
+#[derive(Clone, Copy)]
 pub enum GroupRead {
     Good(Group),
     Bad(Fault),

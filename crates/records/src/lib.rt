@@ -1,5 +1,7 @@
 // The blocks that are read whole: the label, the modification blocks and the termination block. Each leads to what is due next, to
 // the start, or to the first fault in reading order.
+#![tactic(auto)]
+
 ghost use Rattle.std.specs.Prelude.{◌≡◌, ◌≤◌, length};
 ghost use Rattle.word.specs.Limits.{core_most, words_in_block};
 ghost use Rattle.label.specs.declared.LabelRead.TheVariants.{Good};
@@ -23,7 +25,7 @@ const COUNTS_WORD: u64 = 3;
 const START_WORD: u64 = 1;
 
 // Whether the entries of a modification block fit the tables: where one does not, the fault at its third word.
-#[derive(Drop)]
+#[derive(Clone, Copy)]
 pub enum EntriesRead {
     Good,
     Bad(Fault),

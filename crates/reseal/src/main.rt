@@ -1,5 +1,7 @@
 // The reseal program (#104): reads a program file of the old checksum rule, 256 lines of 12 octal digits a block, and prints it
 // with each block sealed by the rule in force, once the old rule has passed.
+#![tactic(auto)]
+
 ghost use Rattle.std.specs.Prelude.{◌≡◌, length};
 ghost use Rattle.word.specs.Limits.{words_in_block};
 

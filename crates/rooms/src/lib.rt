@@ -1,5 +1,7 @@
 // Who holds the twelve places, and when a room is given one (01, "The desk" and refusals 5 and 6). Holders are lent as a list of
 // numbers, one for each place: 0 where it is free, r + 1 where room r holds it.
+#![tactic(auto)]
+
 ghost use Rattle.std.specs.Prelude.{◌≡◌, ◌≤◌, ◌<◌, length};
 ghost use Rattle.word.specs.Lists.{splice};
 ghost use Rattle.word.specs.Limits.{room_count};

@@ -1,4 +1,6 @@
 // Program blocks: the sections, their groups, and what is due at each word that may head something.
+#![tactic(auto)]
+
 pub mod heads;
 pub mod items;
 
@@ -9,7 +11,7 @@ use word::{Fault, Reference};
 // What stands at a place of a program block leads to what is due at another place; past the last section's last group, with the IBANK
 // where the start must lie; or to a fault, whose word counts from that place. What the three hold is numbers at the same offsets, so
 // that the compiler keeps each in one register.
-#[derive(Drop)]
+#[derive(Clone, Copy)]
 pub enum Item {
     Go(LabelCounts, Due, usize),
     Last(Bank),
@@ -18,7 +20,7 @@ pub enum Item {
 
 // The same, with the commonest case apart: after a group that is not its section's last, what was due is due again. So nothing but
 // the place is handed round the loop from group to group.
-#[derive(Drop)]
+#[derive(Clone, Copy)]
 pub enum Turn {
     Same(usize),
     Go(LabelCounts, Due, usize),
@@ -27,7 +29,7 @@ pub enum Turn {
 }
 
 // What the program blocks of a load wait for: its label's counts, of sections those to come, and what is due.
-#[derive(Drop)]
+#[derive(Clone, Copy)]
 pub struct Awaited {
     pub counts: LabelCounts,
     pub due: Due,
@@ -35,7 +37,7 @@ pub struct Awaited {
 
 // What a section hands on to those after it: the least number that a table section may have, and the IBANK, where the start must
 // lie.
-#[derive(Drop)]
+#[derive(Clone, Copy)]
 pub struct Onward {
     pub least: Reference,
     pub ibank: Bank,

@@ -1,5 +1,7 @@
 // What a load waits for: its stage, what a block leads to, how the desk keeps a stage in nine numbers, and the ranges that its
 // numbers have.
+#![tactic(auto)]
+
 ghost use Rattle.std.specs.Prelude.{◌≡◌, ◌&&◌, ◌+◌, ◌≤◌, ◌<◌, length};
 ghost use Rattle.lists.specs.Load.{core_tables, Readable};
 ghost use Rattle.stage.specs.Stage.{numbers_of, stage_of};
@@ -12,7 +14,7 @@ use program::{Bank, Segment, TableSection};
 use word::{Absolute, Area, Fault, Reference, Relative};
 
 // What of the label is still needed: how many I/O references are of types 0 and 2, and how many table sections are to come.
-#[derive(Drop)]
+#[derive(Clone, Copy)]
 pub struct LabelCounts {
     pub channels: u64,
     pub sections: u64,
@@ -20,7 +22,7 @@ pub struct LabelCounts {
 
 // What is due at the next word of the program blocks: a section's head or a group of the section. A table section's number is at
 // least the one kept with it; the IBANK is kept for the start.
-#[derive(Drop)]
+#[derive(Clone, Copy)]
 pub enum Due {
     Segment,
     SegmentGroup(Segment),
@@ -29,7 +31,7 @@ pub enum Due {
 }
 
 // What is due next. An entry's block is counted from 0 among the modification blocks, with whether longer tables are forbidden.
-#[derive(Drop)]
+#[derive(Clone, Copy)]
 pub enum Stage {
     Label,
     Entry(LabelCounts, bool, u64),
@@ -40,7 +42,7 @@ pub enum Stage {
 }
 
 // What a block leads to.
-#[derive(Drop)]
+#[derive(Clone, Copy)]
 pub enum Step {
     More(Stage),
     Done(Absolute),

@@ -1,5 +1,7 @@
 // A core word and its fields, the three sorts of number, an area, runs of words, and a fault with its place: what every other crate
 // builds on.
+#![tactic(auto)]
+
 pub mod faults;
 pub mod limits;
 pub mod slices;
@@ -21,33 +23,33 @@ const BIT_18: u64 = 1 << 18;
 const BIT_22: u64 = 1 << 22;
 
 // A half of a program word. Its field is bits 33-18 of the left half, bits 15-0 of the right one.
-#[derive(Drop)]
+#[derive(Clone, Copy)]
 pub enum Half {
     Left,
     Right,
 }
 
 // An address counted from the Program Name.
-#[derive(Drop)]
+#[derive(Clone, Copy)]
 pub struct Relative(pub u64);
 
 // An address in core.
-#[derive(Drop)]
+#[derive(Clone, Copy)]
 pub struct Absolute(pub u64);
 
 // The number of an I/O reference or of a core table.
-#[derive(Drop)]
+#[derive(Clone, Copy)]
 pub struct Reference(pub u64);
 
 // The words of core that a load is given. Two areas for one load (#107) change this struct and `placed`.
-#[derive(Drop)]
+#[derive(Clone, Copy)]
 pub struct Area {
     pub at: Absolute,
     pub size: u64,
 }
 
 // What of its word a fault lies in: the word as a whole, or one of its halves.
-#[derive(Drop)]
+#[derive(Clone, Copy)]
 pub enum Side {
     Whole,
     In(Half),
@@ -56,7 +58,7 @@ pub enum Side {
 // Why a call is refused: the number that 01 gives it; and where: the word, the half of it where a field is at fault, and how many of
 // the group's indicator bits stand before that half's own. Outside a block all of these are 0. They stand in the order in which a load
 // without fault costs least (docs/DECISIONS.md).
-#[derive(Drop)]
+#[derive(Clone, Copy)]
 pub struct Fault {
     pub bit: u64,
     pub number: u64,
