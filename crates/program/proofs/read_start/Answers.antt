@@ -1,0 +1,6 @@
+-- `program::read_start` meets its contract: the bits read, of the word read.
+use borrow.Author.Rules.{rules}
+use Rattle.program.proofs.read_start.Goals as goal
+
+pub returns : goal.returns
+returns c = rw (c.bits.ensures, c.word_at.ensures)

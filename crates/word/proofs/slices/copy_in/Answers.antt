@@ -1,0 +1,21 @@
+-- `word::slices::copy_in` meets its contract: by the loop's invariant.
+use Prim.Native.Nat.{◌≤◌, ◌-◌}
+use mathlib.Core.Path.{◌≡◌, refl}
+use native.Mathlib.Omega.{arith}
+use lib.ListN.{length, length-set}
+use Rattle.word.proofs.Lists.{copied, copied_none, copied_more, copied_all}
+use Rattle.word.proofs.slices.copy_in.Goals as goal
+
+pub loop-i-init : goal.loop-i-init
+loop-i-init c = (omega arith, omega arith, copied_none _ _ _)
+
+pub loop-i-preserved : goal.loop-i-preserved
+loop-i-preserved c = (
+  omega arith,
+  simp length-set (omega arith),
+  copied_more _ _ _ _ _ _ (omega arith) (omega arith) refl
+      c.loop-i.invariant.2,
+)
+
+pub returns : goal.returns
+returns c = copied_all _ _ _ _ _ (omega arith) c.loop-i.invariant.2
