@@ -103,7 +103,13 @@ fn assign_front(
 {
     let mut numbers = [0u64; IO_MOST];
     let mut pairs = [0u64; PAIRS_MOST];
-    say_lists(rt, book, front, &mut numbers[0..io], &mut pairs[0..2 * tables])
+    say_lists(
+        rt,
+        book,
+        front,
+        &mut numbers[0..io],
+        &mut pairs[0..2 * tables],
+    )
 }
 
 // Lends the blocks that the label makes due, as far as they are there.
