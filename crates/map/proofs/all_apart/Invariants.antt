@@ -1,9 +1,7 @@
 -- `map::all_apart` meets its contract: the stretches not yet looked at decide.
-use Rattle.std.proofs.Common.{◌≡◌, ◌-◌, ◌≤◌, drop, sym, refl, ◌∙◌, arith}
-use borrow.Author.Tests.{not-true, not-false}
+use Rattle.std.proofs.Common.{◌≡◌, ◌-◌, ◌≤◌, drop}
 use Rattle.word.specs.Lists.{every_two}
-use Rattle.word.proofs.Lists.{two_more, two_fails, two_ends}
-use Rattle.map.specs.Map.{stretches_apart, none}
+use Rattle.map.specs.Map.{stretches_apart}
 use Rattle.map.proofs.all_apart.Given as goal
 
 abbrev pub invariant-loop-r : goal.invariant-loop-r

@@ -1,7 +1,5 @@
 -- `map::all_in_core` meets its contract: the stretches not yet looked at decide.
-use Rattle.std.proofs.Common.{◌≡◌, ◌-◌, ◌≤◌, drop, refl, arith}
-use borrow.Author.Tests.{not-true, not-false}
-use Rattle.word.specs.Lists.{every}
+use Rattle.std.proofs.Common.{refl, arith}
 use Rattle.word.proofs.Lists.{every_more, every_fails, every-ends}
 use Rattle.map.specs.Map.{in_core, none}
 use Rattle.map.proofs.all_in_core.Goals as goal

@@ -1,9 +1,7 @@
 -- `map::all_in_core` meets its contract: the stretches not yet looked at decide.
-use Rattle.std.proofs.Common.{◌≡◌, ◌-◌, ◌≤◌, drop, refl, arith}
-use borrow.Author.Tests.{not-true, not-false}
+use Rattle.std.proofs.Common.{◌≡◌, ◌-◌, ◌≤◌, drop}
 use Rattle.word.specs.Lists.{every}
-use Rattle.word.proofs.Lists.{every_more, every_fails, every-ends}
-use Rattle.map.specs.Map.{in_core, none}
+use Rattle.map.specs.Map.{in_core}
 use Rattle.map.proofs.all_in_core.Given as goal
 
 abbrev pub invariant-loop-r : goal.invariant-loop-r

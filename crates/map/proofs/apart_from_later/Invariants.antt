@@ -1,8 +1,6 @@
 -- `map::apart_from_later` meets its contract: the later stretches not yet looked at decide.
-use Rattle.std.proofs.Common.{◌≡◌, ◌+◌, ◌-◌, ◌<◌, ◌≤◌, get_or, drop, refl, arith}
-use borrow.Author.Tests.{not-true, not-false}
+use Rattle.std.proofs.Common.{◌≡◌, ◌+◌, ◌-◌, ◌<◌, ◌≤◌, get_or, drop}
 use Rattle.word.specs.Lists.{every}
-use Rattle.word.proofs.Lists.{every_more, every_fails, every-ends}
 use Rattle.map.specs.Map.{stretches_apart, none}
 use Rattle.map.proofs.apart_from_later.Given as goal
 

@@ -1,7 +1,5 @@
 -- `map::in_order_lem` meets its contract: what is left of the core and the stretches not yet looked at decide.
-use Rattle.std.proofs.Common.{◌≡◌, ◌-◌, ◌≤◌, drop, arith, rules}
-use Rattle.map.specs.Map.{map_of}
-use Rattle.map.specs.HowOrder.{in_order}
+use Rattle.std.proofs.Common.{arith}
 use Rattle.map.proofs.Order.{order_past, order_away, order_skip, order_long, order_next, order_starts, order_fails}
 use Rattle.map.proofs.Order.{order_more, order_ends}
 use Rattle.map.proofs.in_order.Goals as goal

@@ -1,5 +1,5 @@
 -- `map::map_fits` meets its contract: stretches in order obey, and all others are compared with each other.
-use Rattle.std.proofs.Common.{sym, ◌∙◌, rules}
+use Rattle.std.proofs.Common.{sym, ◌∙◌}
 use Rattle.map.proofs.Order.{order_obeys}
 use Rattle.map.proofs.map_fits.Goals as goal
 

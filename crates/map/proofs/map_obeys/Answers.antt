@@ -1,5 +1,5 @@
 -- `map::map_obeys` meets its contract, by what its two callees ensure.
-use Rattle.std.proofs.Common.{sym, ◌∙◌, rules}
+use Rattle.std.proofs.Common.{sym, ◌∙◌}
 use Rattle.map.specs.Map.{map_obeys}
 use Rattle.map.proofs.map_obeys.Goals as goal
 

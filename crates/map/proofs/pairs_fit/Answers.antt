@@ -1,5 +1,4 @@
 -- `map::pairs_fit` meets its contract, by what its callees ensure.
-use Rattle.std.proofs.Common.{rules}
 use Rattle.map.proofs.pairs_fit.Goals as goal
 
 pub returns : goal.returns

@@ -1,7 +1,7 @@
 -- `map::read_map` meets its contract: after r turns the first r stretches are those that the list tells.
-use Rattle.std.proofs.Common.{◌≡◌, ◌-◌, ◌≤◌, length, refl, arith, length-set}
-use Rattle.map.specs.Map.{stretch_of, map_of}
-use Rattle.word.proofs.Fill.{filled, filled_none, filled_more, filled-all}
+use Rattle.std.proofs.Common.{refl, arith, length-set}
+use Rattle.map.specs.Map.{map_of}
+use Rattle.word.proofs.Fill.{filled_none, filled_more, filled-all}
 use Rattle.map.proofs.read_map.Goals as goal
 
 pub loop-r-init : goal.loop-r-init

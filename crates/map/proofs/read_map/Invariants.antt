@@ -1,7 +1,7 @@
 -- `map::read_map` meets its contract: after r turns the first r stretches are those that the list tells.
-use Rattle.std.proofs.Common.{◌≡◌, ◌-◌, ◌≤◌, length, refl, arith, length-set}
-use Rattle.map.specs.Map.{stretch_of, map_of}
-use Rattle.word.proofs.Fill.{filled, filled_none, filled_more, filled-all}
+use Rattle.std.proofs.Common.{◌≡◌, ◌-◌, ◌≤◌, length}
+use Rattle.map.specs.Map.{stretch_of}
+use Rattle.word.proofs.Fill.{filled}
 use Rattle.map.proofs.read_map.Given as goal
 
 abbrev pub invariant-loop-r : goal.invariant-loop-r

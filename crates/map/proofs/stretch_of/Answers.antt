@@ -1,6 +1,5 @@
 -- `map::stretch_of` meets its contract: the two numbers are what `word_at` gives.
 use Rattle.map.specs.Map.{stretch_of}
-use Rattle.std.proofs.Common.{rules}
 use Rattle.map.proofs.stretch_of.Goals as goal
 
 pub returns : goal.returns

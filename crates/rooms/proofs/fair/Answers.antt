@@ -1,9 +1,8 @@
 -- `rooms::fair` meets its contract: after i turns the first i holders are counted.
-use Prim.Native.Nat.{◌≤◌, ◌-◌}
-use mathlib.Core.Path.{◌≡◌, refl}
+use mathlib.Core.Path.{refl}
 use native.Mathlib.Omega.{arith}
-use lib.ListN.{length, length-set}
-use Rattle.rooms.proofs.Counted.{Counted, counted_none, counted-free, counted-held, counted_stranger, counted_third}
+use lib.ListN.{length-set}
+use Rattle.rooms.proofs.Counted.{counted_none, counted-free, counted-held, counted_stranger, counted_third}
 use Rattle.rooms.proofs.Counted.{counted_end}
 use Rattle.rooms.proofs.fair.Goals as goal
 

@@ -1,10 +1,8 @@
 -- `rooms::fair` meets its contract: after i turns the first i holders are counted.
 use Prim.Native.Nat.{◌≤◌, ◌-◌}
-use mathlib.Core.Path.{◌≡◌, refl}
-use native.Mathlib.Omega.{arith}
-use lib.ListN.{length, length-set}
-use Rattle.rooms.proofs.Counted.{Counted, counted_none, counted-free, counted-held, counted_stranger, counted_third}
-use Rattle.rooms.proofs.Counted.{counted_end}
+use mathlib.Core.Path.{◌≡◌}
+use lib.ListN.{length}
+use Rattle.rooms.proofs.Counted.{Counted}
 use Rattle.rooms.proofs.fair.Given as goal
 
 abbrev pub invariant-loop-i : goal.invariant-loop-i

@@ -1,6 +1,5 @@
 -- `rooms::free_places` meets its contract, by what `how_many` ensures.
 use Rattle.rooms.specs.Rooms.{free}
-use borrow.Author.Rules.{rules}
 use Rattle.rooms.proofs.free_places.Goals as goal
 
 pub returns : goal.returns

@@ -1,6 +1,5 @@
 -- `rooms::held_by_lem` meets its contract, by what `how_many` ensures.
 use Rattle.rooms.specs.Rooms.{held}
-use borrow.Author.Rules.{rules}
 use Rattle.rooms.proofs.held_by.Goals as goal
 
 pub returns : goal.returns

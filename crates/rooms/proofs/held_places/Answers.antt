@@ -1,10 +1,9 @@
 -- `rooms::held_places` meets its contract: the n held places before place i are kept, and those from there on are still to come.
-use Prim.Native.Nat.{◌≤◌, ◌-◌}
 use mathlib.Core.Path.{◌≡◌, refl, sym, ◌∙◌}
 use native.Mathlib.Omega.{arith}
 use native.Mathlib.Numerals.{add-one}
-use lib.ListN.{length, length-set, drop}
-use Rattle.word.proofs.Lists.{copied, copied_none, copied_next, copied_all}
+use lib.ListN.{length, length-set}
+use Rattle.word.proofs.Lists.{copied_none, copied_next, copied_all}
 use Rattle.rooms.specs.Rooms.{held_places}
 use Rattle.rooms.proofs.Held.{drop-first, drop-none, held_skip, held-here, held_past}
 use Rattle.rooms.proofs.held_places.Goals as goal

@@ -1,12 +1,9 @@
 -- `rooms::held_places` meets its contract: the n held places before place i are kept, and those from there on are still to come.
 use Prim.Native.Nat.{◌≤◌, ◌-◌}
-use mathlib.Core.Path.{◌≡◌, refl, sym, ◌∙◌}
-use native.Mathlib.Omega.{arith}
-use native.Mathlib.Numerals.{add-one}
-use lib.ListN.{length, length-set, drop}
-use Rattle.word.proofs.Lists.{copied, copied_none, copied_next, copied_all}
+use mathlib.Core.Path.{◌≡◌}
+use lib.ListN.{length, drop}
+use Rattle.word.proofs.Lists.{copied}
 use Rattle.rooms.specs.Rooms.{held_places}
-use Rattle.rooms.proofs.Held.{drop-first, drop-none, held_skip, held-here, held_past}
 use Rattle.rooms.proofs.held_places.Given as goal
 
 abbrev pub invariant-loop-i : goal.invariant-loop-i

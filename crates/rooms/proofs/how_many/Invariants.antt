@@ -1,10 +1,8 @@
 -- `rooms::how_many` meets its contract: what was counted and what is left are the whole.
 use Prim.Native.Nat.{◌+◌, ◌≤◌, ◌-◌}
 use mathlib.Core.Path.{◌≡◌}
-use native.Mathlib.Omega.{arith}
-use lib.ListN.{length, drop, get_or}
+use lib.ListN.{length, drop}
 use Rattle.rooms.specs.Rooms.{count}
-use Rattle.rooms.proofs.Count.{hit_most, count_more, count_end}
 use Rattle.rooms.proofs.how_many.Given as goal
 
 abbrev pub invariant-loop-i : goal.invariant-loop-i

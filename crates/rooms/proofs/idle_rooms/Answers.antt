@@ -1,7 +1,6 @@
 -- `rooms::idle_rooms` meets its contract: the zeros among the rooms' counts.
 use mathlib.Core.Path.{◌∙◌}
 use Rattle.rooms.proofs.Pass.{tally_idle}
-use borrow.Author.Rules.{rules}
 use Rattle.rooms.proofs.idle_rooms.Goals as goal
 
 pub returns : goal.returns

@@ -1,9 +1,5 @@
 -- `rooms::lowest_free` meets its contract: the lowest free place is among those not yet looked at.
-use Prim.Native.Nat.{◌+◌, ◌≤◌, ◌-◌}
-use mathlib.Core.Path.{◌≡◌}
 use native.Mathlib.Omega.{arith}
-use lib.ListN.{length, drop}
-use Rattle.rooms.specs.Rooms.{lowest_free}
 use Rattle.rooms.proofs.Count.{lowest_more, lowest_found, lowest_end}
 use Rattle.rooms.proofs.lowest_free.Goals as goal
 

@@ -2,7 +2,6 @@
 use mathlib.Core.Path.{sym}
 use Rattle.word.proofs.Tests.{tests}
 use Rattle.rooms.specs.Rooms.{place_refusal}
-use borrow.Author.Rules.{rules}
 use Rattle.rooms.proofs.place_refusal.Goals as goal
 
 pub returns-then-n-ge-MOST_HELD : goal.returns-then-n-ge-MOST_HELD

@@ -1,10 +1,10 @@
 -- `rooms::tally` meets its contract: after i turns n has the counts of the first i holders.
-use Prim.Native.Nat.{ℕ, ◌≤◌, ◌<◌, ◌-◌}
+use Prim.Native.Nat.{ℕ, ◌<◌}
 use mathlib.Core.Path.{◌≡◌, refl}
 use native.Mathlib.Omega.{arith}
-use lib.ListN.{length, length-set}
+use lib.ListN.{length-set}
 use Rattle.rooms.specs.HowTally.{slot_of}
-use Rattle.rooms.proofs.Pass.{slot_below, tallied_to, tallied-none, tallied_most, tallied_more, tallied_end}
+use Rattle.rooms.proofs.Pass.{slot_below, tallied-none, tallied_most, tallied_more, tallied_end}
 use Rattle.rooms.proofs.tally.Goals as goal
 
 -- the slot is one of the ten

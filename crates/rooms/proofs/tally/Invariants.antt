@@ -1,9 +1,8 @@
 -- `rooms::tally` meets its contract: after i turns n has the counts of the first i holders.
-use Prim.Native.Nat.{◌≤◌, ◌<◌, ◌-◌}
-use mathlib.Core.Path.{◌≡◌, refl}
-use native.Mathlib.Omega.{arith}
-use lib.ListN.{length, length-set}
-use Rattle.rooms.proofs.Pass.{slot_below, tallied_to, tallied-none, tallied_most, tallied_more, tallied_end}
+use Prim.Native.Nat.{◌≤◌, ◌-◌}
+use mathlib.Core.Path.{◌≡◌}
+use lib.ListN.{length}
+use Rattle.rooms.proofs.Pass.{tallied_to}
 use Rattle.rooms.proofs.tally.Given as goal
 
 abbrev pub invariant-loop-i : goal.invariant-loop-i

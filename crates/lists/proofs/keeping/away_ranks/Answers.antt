@@ -1,8 +1,8 @@
 -- `lists::keeping::away_ranks` meets its contract: at every turn the ranks before place k are written.
-use Rattle.std.proofs.Common.{◌≡◌, ◌-◌, ◌/◌, ◌≤◌, map, length, sym, ap, ◌∙◌, arith, length-set}
+use Rattle.std.proofs.Common.{map, sym, ap, ◌∙◌, arith, length-set}
 use lib.ListN.{length-map}
 use Rattle.word.proofs.Every.{every-place}
-use Rattle.word.proofs.Lists.{copied, copied_none, copied_next, copied_all}
+use Rattle.word.proofs.Lists.{copied_none, copied_next, copied_all}
 use Rattle.lists.specs.Obey.{tables_of, no_table}
 use Rattle.lists.specs.HowKeep.{has_room, away_rank}
 use Rattle.lists.proofs.Lent.{lent_length}

@@ -1,13 +1,8 @@
 -- `lists::keeping::away_ranks` meets its contract: at every turn the ranks before place k are written.
-use Rattle.std.proofs.Common.{◌≡◌, ◌-◌, ◌/◌, ◌≤◌, map, length, sym, ap, ◌∙◌, arith, length-set}
-use lib.ListN.{length-map}
-use Rattle.word.proofs.Every.{every-place}
-use Rattle.word.proofs.Lists.{copied, copied_none, copied_next, copied_all}
-use Rattle.lists.specs.Obey.{tables_of, no_table}
-use Rattle.lists.specs.HowKeep.{has_room, away_rank}
-use Rattle.lists.proofs.Lent.{lent_length}
-use Rattle.lists.proofs.Exact.{says_room}
-use Rattle.lists.proofs.Ranks.{away_at}
+use Rattle.std.proofs.Common.{◌≡◌, ◌-◌, ◌/◌, ◌≤◌, map, length}
+use Rattle.word.proofs.Lists.{copied}
+use Rattle.lists.specs.Obey.{tables_of}
+use Rattle.lists.specs.HowKeep.{away_rank}
 use Rattle.lists.proofs.keeping.away_ranks.Given as goal
 
 abbrev pub invariant-loop-k : goal.invariant-loop-k

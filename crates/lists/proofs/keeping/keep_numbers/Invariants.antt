@@ -1,8 +1,7 @@
 -- `lists::keeping::keep_numbers` meets its contract: at every turn the words before place i are those that are kept.
-use Rattle.std.proofs.Common.{◌≡◌, ◌-◌, ◌≤◌, length, sym, ◌∙◌, arith, length-set}
-use Rattle.word.proofs.Lists.{copied, copied_none, copied_next, copied_all}
+use Rattle.std.proofs.Common.{◌≡◌, ◌-◌, ◌≤◌, length}
+use Rattle.word.proofs.Lists.{copied}
 use Rattle.lists.specs.HowKeep.{fours_kept}
-use Rattle.lists.proofs.Numbers.{fours_kept-length, fours_kept-at}
 use Rattle.lists.proofs.keeping.keep_numbers.Given as goal
 
 abbrev pub invariant-loop-i : goal.invariant-loop-i

@@ -1,5 +1,5 @@
 -- `lists::keeping::keep_ranks` meets its contract: the words alone (ranking_full), or the two calls one after the other
-use Rattle.std.proofs.Common.{sym, ap, ◌∙◌, arith, rules}
+use Rattle.std.proofs.Common.{sym, ap, ◌∙◌, arith}
 use Rattle.lists.specs.HowKeep.{ranked}
 use Rattle.lists.proofs.Lent.{lent_length}
 use Rattle.lists.proofs.Ranking.{ranking_below, ranking_kept, ranking_full}

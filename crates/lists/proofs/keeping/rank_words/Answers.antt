@@ -1,6 +1,5 @@
 -- `lists::keeping::rank_words` meets its contract: at every turn the words that are left still rank what was to be ranked.
-use Rattle.std.proofs.Common.{◌≡◌, ◌-◌, ◌≤◌, length, drop, refl, arith, length-set}
-use Rattle.lists.specs.HowKeep.{ranked}
+use Rattle.std.proofs.Common.{length, refl, arith, length-set}
 use Rattle.lists.proofs.Ranks.{number_at}
 use Rattle.lists.proofs.Ranking.{ranked_more, ranked_end}
 use Rattle.lists.proofs.keeping.rank_words.Goals as goal

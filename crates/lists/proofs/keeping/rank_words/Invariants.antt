@@ -1,8 +1,6 @@
 -- `lists::keeping::rank_words` meets its contract: at every turn the words that are left still rank what was to be ranked.
-use Rattle.std.proofs.Common.{◌≡◌, ◌-◌, ◌≤◌, length, drop, refl, arith, length-set}
+use Rattle.std.proofs.Common.{◌≡◌, ◌-◌, ◌≤◌, length, drop}
 use Rattle.lists.specs.HowKeep.{ranked}
-use Rattle.lists.proofs.Ranks.{number_at}
-use Rattle.lists.proofs.Ranking.{ranked_more, ranked_end}
 use Rattle.lists.proofs.keeping.rank_words.Given as goal
 
 abbrev pub invariant-loop-p : goal.invariant-loop-p

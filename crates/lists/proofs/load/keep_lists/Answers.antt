@@ -1,5 +1,5 @@
 -- `lists::load::keep_lists` meets its contract: the parts are written one after the other (`lists_written`).
-use Rattle.std.proofs.Common.{ℕ, ◌+◌, ◌/◌, List, length, ap, ◌∙◌, arith, rules}
+use Rattle.std.proofs.Common.{ℕ, ◌+◌, ◌/◌, List, length, ap, ◌∙◌, arith}
 use Rattle.lists.specs.HowKeep.{fours_kept}
 use Rattle.lists.specs.Obey.{tables_of}
 use Rattle.lists.proofs.Keep.{lists_obey_lem, tables_ranking}

@@ -1,7 +1,6 @@
 -- `lists::load::kept_fits` meets its contract: the test of the load's kept words.
 use Rattle.word.proofs.Lists.{range-lent}
 use Rattle.lists.specs.Load.{words_in}
-use Rattle.std.proofs.Common.{rules}
 use Rattle.lists.proofs.load.kept_fits.Goals as goal
 
 pub returns : goal.returns

@@ -1,8 +1,8 @@
 -- `lists::tables::fill_all` meets its contract: at every turn what is written and the words of the tables that are left are all of
-use Rattle.std.proofs.Common.{◌≡◌, ◌-◌, ◌/◌, ◌≤◌, ◌++◌, length, take, drop, refl, arith, length-set}
+use Rattle.std.proofs.Common.{refl, arith, length-set}
 use Rattle.word.proofs.Every.{every-place}
 use Rattle.lists.specs.Obey.{tables_of, no_table}
-use Rattle.lists.specs.HowKeep.{has_room, has_words, words_from}
+use Rattle.lists.specs.HowKeep.{has_room, has_words}
 use Rattle.lists.proofs.Lent.{lent_length}
 use Rattle.lists.proofs.Exact.{says_room}
 use Rattle.lists.proofs.Take.{has_words_lem, fill_put, past_put, fill_ends}

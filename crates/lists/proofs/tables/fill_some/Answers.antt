@@ -1,8 +1,8 @@
 -- `lists::tables::fill_some` meets its contract: at every turn what is written and the words of the tables that are left are all of
-use Rattle.std.proofs.Common.{◌≡◌, ℕ, ◌-◌, ◌/◌, ◌≤◌, List, ◌++◌, length, take, drop, refl, ap, ◌∙◌, arith, length-set}
+use Rattle.std.proofs.Common.{ℕ, List, ◌++◌, take, refl, ap, ◌∙◌, arith, length-set}
 use Rattle.word.proofs.Every.{every-place}
 use Rattle.lists.specs.Obey.{tables_of, no_table}
-use Rattle.lists.specs.HowKeep.{has_room, words_from}
+use Rattle.lists.specs.HowKeep.{has_room}
 use Rattle.lists.proofs.Lent.{lent_length}
 use Rattle.lists.proofs.Exact.{says_room}
 use Rattle.lists.proofs.Take.{fill_skip, fill_put, past_put, fill_ends}

@@ -1,5 +1,5 @@
 -- `lists::tables::fill_words` meets its contract: either way fills.
-use Rattle.std.proofs.Common.{sym, ◌∙◌, rules}
+use Rattle.std.proofs.Common.{sym, ◌∙◌}
 use Rattle.lists.proofs.tables.fill_words.Goals as goal
 
 pub fill_all-requires : goal.fill_all-requires

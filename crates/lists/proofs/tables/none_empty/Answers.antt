@@ -1,8 +1,6 @@
 -- `lists::tables::none_empty` meets its contract: at every turn what was or'ed so far and the rest of the tables decide.
-use Rattle.std.proofs.Common.{◌≡◌, ◌-◌, ◌/◌, ◌^◌, ◌≤◌, ◌&&◌, ltb, length, drop, refl, arith, rules}
-use Rattle.word.specs.Lists.{every}
+use Rattle.std.proofs.Common.{refl, arith}
 use Rattle.lists.specs.Obey.{tables_of}
-use Rattle.lists.specs.HowKeep.{has_words}
 use Rattle.lists.proofs.Lent.{lent_length}
 use Rattle.lists.proofs.Take.{full_more, full_ends}
 use Rattle.lists.proofs.tables.none_empty.Goals as goal
