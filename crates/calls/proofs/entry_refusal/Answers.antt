@@ -1,10 +1,9 @@
 -- `calls::entry_refusal` meets its contract: its tests are those of `entry_refusal`, in that order.
 use mathlib.Core.Path.{sym, ◌∙◌}
 use native.Mathlib.Omega.{arith}
-use borrow.Author.Tests.{not-true, not-false, eq-eqb, ne_eqb, lt-ltb, le-ltb}
+use borrow.Author.Tests.{eq-eqb, ne_eqb, lt-ltb, le-ltb}
 use Rattle.desk.proofs.Facts.{sound-long}
 use Rattle.calls.specs.Entry.{entry_refusal}
-use borrow.Author.Rules.{rules}
 use Rattle.calls.proofs.entry_refusal.Goals as goal
 
 pub returns-then-not-is_sound : goal.returns-then-not-is_sound

@@ -1,6 +1,5 @@
 -- `calls::pack` meets its contract: each return by the tests that led to it.
 use native.Mathlib.Omega.{arith}
-use borrow.Author.Rules.{rules}
 use Rattle.calls.proofs.pack.Goals as goal
 
 pub pack_fault-requires : goal.pack_fault-requires

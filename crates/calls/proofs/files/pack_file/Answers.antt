@@ -1,6 +1,5 @@
 -- `calls::files::pack_file` meets its contract: each return by the case that led to it.
 use native.Mathlib.Omega.{arith}
-use borrow.Author.Rules.{rules}
 use Rattle.calls.proofs.files.pack_file.Goals as goal
 
 pub pack_fault-requires : goal.pack_fault-requires

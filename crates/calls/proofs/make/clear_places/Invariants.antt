@@ -1,10 +1,8 @@
 -- `calls::make::clear_places` meets its contract: after p turns the first p places are free.
 use Prim.Native.Nat.{◌≤◌, ◌-◌}
 use mathlib.Core.Path.{◌≡◌}
-use native.Mathlib.Omega.{arith}
-use lib.ListN.{length, length-set}
+use lib.ListN.{length}
 use Rattle.calls.specs.Make.{freed}
-use Rattle.calls.proofs.Made.{freed-none, freed_more}
 use Rattle.calls.proofs.make.clear_places.Given as goal
 
 abbrev pub invariant-loop-p : goal.invariant-loop-p

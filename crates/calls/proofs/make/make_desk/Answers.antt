@@ -1,8 +1,7 @@
 -- `calls::make::make_desk` meets its contract: its tests are those of `make_of`, in that order.
 use mathlib.Core.Path.{refl, sym, ◌∙◌}
-use borrow.Author.Tests.{eq-eqb, ne_eqb, le-leb, lt-leb, not-true, not-false}
+use borrow.Author.Tests.{eq-eqb, ne_eqb, le-leb, lt-leb}
 use Rattle.calls.specs.Make.{make_of}
-use borrow.Author.Rules.{rules}
 use Rattle.calls.proofs.make.make_desk.Goals as goal
 
 pub returns-then-desk-ne-DESK_WORDS : goal.returns-then-desk-ne-DESK_WORDS

@@ -4,7 +4,6 @@ use native.Mathlib.Omega.{arith}
 use lib.ListN.{length, length-set}
 use Rattle.calls.specs.Make.{freed}
 use Rattle.calls.proofs.Made.{length-freed, fixed_length, fresh_as}
-use borrow.Author.Rules.{rules}
 use Rattle.calls.proofs.make.write_fresh.Goals as goal
 
 pub write_map-requires : goal.write_map-requires

@@ -2,7 +2,6 @@
 use mathlib.Core.Path.{ap, ◌∙◌}
 use Rattle.word.specs.Lists.{splice}
 use Rattle.calls.proofs.Made.{map-copied}
-use borrow.Author.Rules.{rules}
 use Rattle.calls.proofs.make.write_map.Goals as goal
 
 pub returns : goal.returns

@@ -1,14 +1,8 @@
 -- `calls::open::all_beside` meets its contract: by the loop's invariant.
 use Rattle.desk.proofs.Tested.{places_more, places_fail, places_end}
-use Prim.Native.Nat.{◌≤◌, ◌-◌}
-use mathlib.Core.Path.{◌≡◌, refl, sym, ◌∙◌}
+use mathlib.Core.Path.{refl, sym, ◌∙◌}
 use native.Mathlib.Omega.{arith}
-use borrow.Author.Tests.{not-true, not-false}
-use lib.ListN.{drop}
-use Rattle.word.specs.Lists.{every}
-use Rattle.layout.specs.Layout.{places}
 use Rattle.layout.proofs.Places.{place-length}
-use Rattle.calls.specs.Open.{beside_own}
 use Rattle.calls.proofs.open.all_beside.Goals as goal
 
 pub loop-p-init : goal.loop-p-init

@@ -1,13 +1,9 @@
 -- `calls::open::all_beside` meets its contract: by the loop's invariant.
-use Rattle.desk.proofs.Tested.{places_more, places_fail, places_end}
 use Prim.Native.Nat.{◌≤◌, ◌-◌}
-use mathlib.Core.Path.{◌≡◌, refl, sym, ◌∙◌}
-use native.Mathlib.Omega.{arith}
-use borrow.Author.Tests.{not-true, not-false}
+use mathlib.Core.Path.{◌≡◌}
 use lib.ListN.{drop}
 use Rattle.word.specs.Lists.{every}
 use Rattle.layout.specs.Layout.{places}
-use Rattle.layout.proofs.Places.{place-length}
 use Rattle.calls.specs.Open.{beside_own}
 use Rattle.calls.proofs.open.all_beside.Given as goal
 

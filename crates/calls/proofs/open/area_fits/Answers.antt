@@ -1,9 +1,7 @@
 -- `calls::open::area_fits` meets its contract: each return by the tests that led to it.
 use mathlib.Core.Path.{sym, ap, ◌∙◌}
-use borrow.Author.Tests.{not-true, not-false}
 use Rattle.map.specs.Map.{map_of}
 use Rattle.calls.proofs.Grant.{area_outside, area-inside}
-use borrow.Author.Rules.{rules}
 use Rattle.calls.proofs.open.area_fits.Goals as goal
 
 pub returns-then-not-area_in : goal.returns-then-not-area_in

@@ -1,7 +1,6 @@
 -- `calls::open::beside_own` meets its contract: each return by the tests that led to it.
 use mathlib.Core.Path.{◌∙◌}
 use Rattle.calls.proofs.Grant.{beside_others, beside_held}
-use borrow.Author.Rules.{rules}
 use Rattle.calls.proofs.open.beside_own.Goals as goal
 
 pub returns-then-place-room : goal.returns-then-place-room

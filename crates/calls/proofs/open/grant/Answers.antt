@@ -4,7 +4,6 @@ use mathlib.Core.List.{List}
 use mathlib.Core.Path.{◌≡◌, refl, sym, ap, ◌∙◌}
 use native.Mathlib.Omega.{arith}
 use lib.ListN.{length}
-use borrow.Author.Tests.{not-true, not-false}
 use Rattle.lists.proofs.Take.{taken_words, taken_nothing}
 use Rattle.layout.proofs.Places.{lists_length}
 use Rattle.word.specs.Limits.{place_count}
@@ -14,7 +13,6 @@ use Rattle.desk.proofs.Facts.{sound-long}
 use Rattle.calls.specs.Entry.{Entered}
 use Rattle.calls.proofs.Grant.{area_in_core, area_small, none-due, place_inside, place-long, desk_written, words_inside}
 use Rattle.calls.proofs.Grant.{words_lent, grant_denied, grant_outside, grant_unlisted, grant_given}
-use borrow.Author.Rules.{rules}
 use Rattle.calls.proofs.open.grant.Goals as goal
 
 -- the place that is given is one of the desk's

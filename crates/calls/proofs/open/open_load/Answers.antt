@@ -1,7 +1,6 @@
 -- `calls::open::open_load` meets its contract: refusals 1, 2 and 4, or what `grant` leaves.
 use Rattle.calls.specs.Open.{open_of}
 use Rattle.calls.proofs.Entry.{entry_shows, entered-refused, entered_on}
-use borrow.Author.Rules.{rules}
 use Rattle.calls.proofs.open.open_load.Goals as goal
 
 pub returns-then-n-ne0 : goal.returns-then-n-ne0

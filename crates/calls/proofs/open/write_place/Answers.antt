@@ -1,6 +1,5 @@
 -- `calls::open::write_place` meets its contract: its own numbers, and then the lists (`place-written`).
 use Rattle.calls.proofs.Grant.{place-written}
-use borrow.Author.Rules.{rules}
 use Rattle.calls.proofs.open.write_place.Goals as goal
 
 pub returns : goal.returns

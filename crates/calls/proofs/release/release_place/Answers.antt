@@ -1,12 +1,10 @@
 -- `calls::release::release_place` meets its contract: refusals 1, 2 and 4, refusal 9, or the place freed.
 use mathlib.Core.Path.{refl, sym, ◌∙◌}
 use native.Mathlib.Omega.{arith}
-use borrow.Author.Tests.{not-true, not-false}
 use Rattle.layout.proofs.Places.{holds-inside}
 use Rattle.desk.proofs.Facts.{sound-long}
 use Rattle.calls.specs.Release.{release_of}
 use Rattle.calls.proofs.Entry.{entry_shows, entered-refused, entered_on}
-use borrow.Author.Rules.{rules}
 use Rattle.calls.proofs.release.release_place.Goals as goal
 
 pub returns-then-n-ne0 : goal.returns-then-n-ne0
