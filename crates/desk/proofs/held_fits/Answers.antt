@@ -1,4 +1,4 @@
--- `desk::held_fits_lem` meets its contract: each return by the tests that led to it.
+-- `desk::held_fits` meets its contract: each return by the tests that led to it.
 use Rattle.desk.proofs.Tested.{lists_readable, area_small}
 use mathlib.Core.Path.{sym, ◌∙◌}
 use Rattle.desk.specs.Sound.{held_fits}
