@@ -9,6 +9,9 @@ ghost use Rattle.label.specs.Label.{Carried};
 use block::{BLOCK_WORDS, Verdict};
 use console::{FileRead, Input};
 use label::{Label, LabelRead};
+use std::env::FillError;
+use std::io;
+use std::rt::{Env, Files};
 use word::limits::{IO_MOST, TABLES_MOST};
 
 // "A book of more than 57,344 bytes (4,096 records): input bad": there is room for one byte more, by which such a book is known.
@@ -23,6 +26,9 @@ const FRONT_WORDS: usize = FRONT_BLOCKS * BLOCK_WORDS;
 
 const PAIRS_MOST: usize = 2 * TABLES_MOST;
 
+// Room for any path.
+const NAME_ROOM: usize = 4096;
+
 // What the whole input is: so many blocks, or bad.
 #[derive(Clone, Copy)]
 enum Whole {
@@ -31,25 +37,25 @@ enum Whole {
 }
 
 // The beginning of a line.
-fn say_usage() {
-    console::say(b"usage: assign BOOK <FILE");
+fn say_usage(rt: &impl Print) -> io::Result<()> {
+    console::say(rt, b"usage: assign BOOK <FILE")
 }
 
 // Block n of the input, kept where there is room for it. The others are read to see whether they are bad.
-fn read_next(kept: &mut [u64], n: usize) -> Input {
+fn read_next(rt: &impl io::Input, kept: &mut [u64], n: usize) -> Input {
     if n < kept.len() / BLOCK_WORDS {
         let a = BLOCK_WORDS * n;
-        return console::read_block(&mut kept[a..a + BLOCK_WORDS]);
+        return console::read_block(rt, &mut kept[a..a + BLOCK_WORDS]);
     }
     let mut other = [0u64; BLOCK_WORDS];
-    console::read_block(&mut other)
+    console::read_block(rt, &mut other)
 }
 
 // A proved loop has to end, and nothing says that the input does: it ends where the numbers do.
-fn read_input(kept: &mut [u64]) -> Whole {
+fn read_input(rt: &impl io::Input, kept: &mut [u64]) -> Whole {
     let mut n: usize = 0;
     while n < usize::MAX {
-        match read_next(kept, n) {
+        match read_next(rt, kept, n) {
             Input::End => return Whole::Blocks(n),
             Input::Bad => return Whole::Bad,
             Input::Block => {
@@ -69,85 +75,107 @@ fn first_blocks(blocks: &[u64], n: usize) -> &[u64] {
 }
 
 // Prints the lists that the book gives the file with this front, or the refusal. The two that are lent are as long as the lists.
-fn say_lists(book: &[u8], front: &[u64], io: &mut [u64], tables: &mut [u64]) {
+fn say_lists(
+    rt: &impl Print,
+    book: &[u8],
+    front: &[u64],
+    io: &mut [u64],
+    tables: &mut [u64],
+) -> io::Result<()> {
     match book::assign(book, front, io, tables) {
         Verdict::Pass => {
-            console::say_list(b"io", io);
-            console::say_list(b"tables", tables);
+            console::say_list(rt, b"io", io)?;
+            console::say_list(rt, b"tables", tables)
         }
-        Verdict::Refused(f) => console::say_line(b"refused ", f.number),
+        Verdict::Refused(f) => console::say_line(rt, b"refused ", f.number),
     }
 }
 
 // The same, for a label that has so many I/O entries and core entries.
-fn assign_front(book: &[u8], front: &[u64], io: usize, tables: usize)
+fn assign_front(
+    rt: &impl Print,
+    book: &[u8],
+    front: &[u64],
+    io: usize,
+    tables: usize,
+) -> io::Result<()>
     requires { (io ≤ io_most) × (tables ≤ tables_most) }
 {
     let mut numbers = [0u64; IO_MOST];
     let mut pairs = [0u64; PAIRS_MOST];
-    say_lists(book, front, &mut numbers[0..io], &mut pairs[0..2 * tables]);
+    say_lists(
+        rt,
+        book,
+        front,
+        &mut numbers[0..io],
+        &mut pairs[0..2 * tables],
+    )
 }
 
 // Lends the blocks that the label makes due, as far as they are there.
-fn assign_label(book: &[u8], blocks: &[u64], l: Label)
+fn assign_label(rt: &impl Print, book: &[u8], blocks: &[u64], l: Label) -> io::Result<()>
     requires { Carried l }
 {
     let io = l.switches + l.channels + l.units;
     let due = 1 + modification::entry_blocks(io, l.tables);
     assign_front(
+        rt,
         book,
         first_blocks(blocks, due as usize),
         io as usize,
         l.tables as usize,
-    );
+    )
 }
 
 // Where there is no good label, that is what is refused: it is lent alone, with no lists.
-fn assign_blocks(book: &[u8], blocks: &[u64]) {
+fn assign_blocks(rt: &impl Print, book: &[u8], blocks: &[u64]) -> io::Result<()> {
     let first = first_blocks(blocks, 1);
     match front::read_label_block(first) {
-        LabelRead::Good(l) => assign_label(book, blocks, l),
-        LabelRead::Bad(_) => assign_front(book, first, 0, 0),
+        LabelRead::Good(l) => assign_label(rt, book, blocks, l),
+        LabelRead::Bad(_) => assign_front(rt, book, first, 0, 0),
     }
 }
 
 // The input is read to its end before anything is printed.
-fn assign_input(book: &[u8]) {
+fn assign_input(rt: &(impl io::Input + Print), book: &[u8]) -> io::Result<()> {
     let mut kept = [0u64; FRONT_WORDS];
-    match read_input(&mut kept) {
-        Whole::Blocks(n) => assign_blocks(book, first_blocks(&kept, n)),
-        Whole::Bad => console::say_bad(),
+    match read_input(rt, &mut kept) {
+        Whole::Blocks(n) => assign_blocks(rt, book, first_blocks(&kept, n)),
+        Whole::Bad => console::say_bad(rt),
     }
 }
 
 // The book is read before the input, which is left alone where there is no book to read or it is too long.
-fn assign_named(name: &[u8]) {
+fn assign_named(rt: &(impl Files + io::Input + Print), name: &[u8]) -> io::Result<()> {
     let mut book = [0u8; BOOK_ROOM];
-    match console::read_file(name, &mut book) {
+    match console::read_file(rt, name, &mut book) {
         FileRead::Bytes(n) => {
             if BOOK_MOST < n {
-                console::say_bad();
-                return;
+                return console::say_bad(rt);
             }
-            assign_input(&book[0..n]);
+            assign_input(rt, &book[0..n])
         }
         FileRead::Unread => {
-            say_usage();
-            console::say(b"; cannot read ");
-            console::say(name);
-            console::say(b"\n");
+            say_usage(rt)?;
+            console::say(rt, b"; cannot read ")?;
+            console::say(rt, name)?;
+            console::say(rt, b"\n")
         }
     }
 }
 
+// Whether the program was given argument i. No room is lent for it: one that is there does not fit, or is empty.
+fn has_argument(rt: &impl Env, i: usize) -> bool {
+    !matches!(rt.arg(i, &mut []), Err(FillError::NotPresent))
+}
+
 // Argument 0 is the program's own name. A name that is longer than any path is taken for an empty one, which no file has.
-fn main() {
-    if os::arg_count() != 2 {
-        say_usage();
-        console::say(b"\n");
-        return;
+fn main(rt: HostRuntime) -> io::Result<()> {
+    if !has_argument(&rt, 1) || has_argument(&rt, 2) {
+        say_usage(&rt)?;
+        return console::say(&rt, b"\n");
     }
-    let mut name = io::buffer();
-    let n = os::arg(1, &mut name);
-    assign_named(&name[..n]);
+    let mut name = [0u8; NAME_ROOM];
+    let n = rt.arg(1, &mut name).unwrap_or(0);
+    assign_named(&rt, &name[..n])
 }

@@ -30,6 +30,10 @@ start_most Peripheral = omega arith
 start_most Address = omega arith
 start_most Length = omega arith
 
+-- so its entries, as a function has found where they begin and how many they are, lie among what is kept
+pub lent_in : (l : Label) (k : Kind) (a n : ℕ) → Carried l → a ≡ start_of k → n ≡ entries_of l k → a + n ≤ kept_words
+lent_in l k a n c p q = let m = start_most k in let f = few_entries l k c in omega arith
+
 -- ---- the tags of a kind
 module _ (blocks : List ℕ) (l : Label) (k : Kind) where
   pub tags_long : length (tags_of blocks l k) ≡ entries_of l k

@@ -2,10 +2,12 @@
 // files read by name.
 #![tactic(auto)]
 
-ghost use Rattle.std.specs.Prelude.{◌≡◌, length};
+ghost use Rattle.std.specs.Prelude.{◌≡◌, ◌≤◌, length};
 ghost use Rattle.word.specs.Limits.{words_in_block};
 
-use libc::{STDIN_FILENO, STDOUT_FILENO};
+use std::io::Read;
+use std::rt::Files;
+use std::{fs, io};
 
 // What comes next on standard input.
 #[derive(Clone, Copy)]
@@ -22,45 +24,45 @@ pub enum FileRead {
     Unread,
 }
 
-// Whether all of it was written is not asked: a program has nowhere else to say that it was not.
-pub fn say(text: &[u8]) {
-    io::write_all(STDOUT_FILENO, text);
+// An error says that not all of it was written.
+pub fn say(rt: &impl Print, text: &[u8]) -> io::Result<()> {
+    rt.write_all(text)
 }
 
-pub fn say_number(n: u64) {
-    io::print_decimal(STDOUT_FILENO, n);
+pub fn say_number(rt: &impl Print, n: u64) -> io::Result<()> {
+    rt.print(n)
 }
 
 // The end of a line: a text and a number.
-pub fn say_line(text: &[u8], n: u64) {
-    say(text);
-    say_number(n);
-    say(b"\n");
+pub fn say_line(rt: &impl Print, text: &[u8], n: u64) -> io::Result<()> {
+    say(rt, text)?;
+    say_number(rt, n)?;
+    say(rt, b"\n")
 }
 
 // A line: a text and a list, with a blank before each number.
-pub fn say_list(text: &[u8], list: &[u64]) {
-    say(text);
+pub fn say_list(rt: &impl Print, text: &[u8], list: &[u64]) -> io::Result<()> {
+    say(rt, text)?;
     let mut i: usize = 0;
     while i < list.len() {
-        say(b" ");
-        say_number(list[i]);
+        say(rt, b" ")?;
+        say_number(rt, list[i])?;
         i += 1;
     }
-    say(b"\n");
+    say(rt, b"\n")
 }
 
 // What every program says of a bad line or a part of a block.
-pub fn say_bad() {
-    say(b"input bad\n");
+pub fn say_bad(rt: &impl Print) -> io::Result<()> {
+    say(rt, b"input bad\n")
 }
 
 // The next block. Where the input ends, or is bad, the block is none.
-pub fn read_block(block: &mut [u64]) -> Input
+pub fn read_block(rt: &impl io::Input, block: &mut [u64]) -> Input
     requires { length block.old ≡ words_in_block }
 {
     let mut text = [0u8; octal::TEXT];
-    let n = io::read_full(STDIN_FILENO, &mut text);
+    let n = read_full(&mut rt.reader(), &mut text);
     if n == 0 {
         return Input::End;
     }
@@ -74,35 +76,47 @@ pub fn read_block(block: &mut [u64]) -> Input
     }
 }
 
+// Reads until there is no more room, the input ends or a read fails: input that cannot be read has ended. How many bytes came.
+fn read_full(from: &mut impl Read, bytes: &mut [u8]) -> usize
+    ensures { result ≤ length bytes.new }
+{
+    let mut n: usize = 0;
+    while n < bytes.len() {
+        match from.read(&mut bytes[n..]) {
+            Ok(0) | Err(_) => return n,
+            Ok(more) => n += more,
+        }
+    }
+    n
+}
+
 // The block as 256 lines.
-pub fn say_block(block: &[u64])
+pub fn say_block(rt: &impl Print, block: &[u64]) -> io::Result<()>
     requires { length block.now ≡ words_in_block }
 {
     let mut text = [0u8; octal::TEXT];
     octal::write_lines(block, &mut text);
-    say(&text);
+    say(rt, &text)
 }
 
-// The start of the file of this name, as much of it as there is room for.
-pub fn read_file(name: &[u8], bytes: &mut [u8]) -> FileRead {
-    let fd = os::open_read(name);
-    if fd < 0 {
+// The start of the file of this name, as much of it as there is room for. A name that is not UTF-8 cannot be opened.
+pub fn read_file(rt: &impl Files, name: &[u8], bytes: &mut [u8]) -> FileRead {
+    let Ok(path) = str::from_utf8(name) else {
         return FileRead::Unread;
+    };
+    match fs::open(rt, path) {
+        Ok(mut file) => read_bytes(&mut file, bytes),
+        Err(_) => FileRead::Unread,
     }
-    let r = read_bytes(fd, bytes);
-    libc::close(fd);
-    r
 }
 
-// A folder opens, and only its first read fails: so each read is asked whether it failed, which io::read_full does not tell.
-fn read_bytes(fd: i32, bytes: &mut [u8]) -> FileRead {
+// A folder opens, and only its first read fails: so each read is asked whether it failed, which read_full does not tell.
+fn read_bytes(file: &mut impl Read, bytes: &mut [u8]) -> FileRead {
     let mut n: usize = 0;
     while n < bytes.len() {
-        let got = libc::read(fd, &mut bytes[n..]);
-        if got < 0 {
+        let Ok(more) = file.read(&mut bytes[n..]) else {
             return FileRead::Unread;
-        }
-        let more = io::count(got, &bytes[n..]);
+        };
         if more == 0 {
             return FileRead::Bytes(n);
         }

@@ -1,5 +1,5 @@
 -- The lists that are lent to open, written into the numbers of a load's lists part after part, and read back.
-use Rattle.std.proofs.Common.{◌≡◌, ℕ, ◌+◌, ◌-◌, ◌≤◌, true, List, ◌++◌, length, take, drop, ◌∙◌, arith}
+use Rattle.std.proofs.Common.{◌≡◌, ℕ, ◌+◌, ◌≤◌, true, List, ◌++◌, length, take, drop, ◌∙◌, arith}
 use Rattle.word.specs.Limits.{core_most}
 use Rattle.word.specs.declared.Area.{Area}
 use Rattle.word.specs.Lists.{range, splice}

@@ -5,6 +5,7 @@
 use calls::Answer;
 use console::{Input, read_block, say, say_line, say_number};
 use layout::DESK_WORDS;
+use std::io;
 use word::limits::MAP_WORDS;
 use word::{Absolute, Area};
 
@@ -16,42 +17,54 @@ const AREA: u64 = 512;
 const AREA_WORDS: u64 = 64;
 
 // The block's index and what feed answers; the other answers are of the other calls.
-fn say_answer(index: u64, a: Answer) {
-    say_number(index);
+fn say_answer(rt: &impl Print, index: u64, a: Answer) -> io::Result<()> {
+    say_number(rt, index)?;
     match a {
-        Answer::More => say(b" more\n"),
-        Answer::Done(start) => say_line(b" done ", start.0),
-        Answer::Refused(f) => say_line(b" refused ", f.number),
-        _ => say(b"\n"),
+        Answer::More => say(rt, b" more\n"),
+        Answer::Done(start) => say_line(rt, b" done ", start.0),
+        Answer::Refused(f) => say_line(rt, b" refused ", f.number),
+        _ => say(rt, b"\n"),
     }
 }
 
 // Feeds the next block, and answers whether to go on.
-fn feed_next(desk: &mut [u64], core: &mut [u64], place: u64, index: u64) -> bool {
+fn feed_next(
+    rt: &(impl io::Input + Print),
+    desk: &mut [u64],
+    core: &mut [u64],
+    place: u64,
+    index: u64,
+) -> io::Result<bool> {
     let mut block = [0u64; octal::LINES];
-    match read_block(&mut block) {
-        Input::End => false,
+    match read_block(rt, &mut block) {
+        Input::End => Ok(false),
         Input::Bad => {
-            console::say_bad();
-            false
+            console::say_bad(rt)?;
+            Ok(false)
         }
         Input::Block => {
-            say_answer(index, feed::feed_block(desk, core, 0, place, &block));
-            true
+            say_answer(rt, index, feed::feed_block(desk, core, 0, place, &block))?;
+            Ok(true)
         }
     }
 }
 
 // A proved loop has to end, and nothing says that the input does: it ends where the indices do.
-fn feed_all(desk: &mut [u64], core: &mut [u64], place: u64) {
+fn feed_all(
+    rt: &(impl io::Input + Print),
+    desk: &mut [u64],
+    core: &mut [u64],
+    place: u64,
+) -> io::Result<()> {
     let mut index: u64 = 0;
-    while index < u64::MAX && feed_next(desk, core, place, index) {
+    while index < u64::MAX && feed_next(rt, desk, core, place, index)? {
         index += 1;
     }
+    Ok(())
 }
 
 // "core 4,096 words, room 0's stretch all of them, other stretches empty, area 512 of size 64, no lists"
-fn main() {
+fn main(rt: HostRuntime) -> io::Result<()> {
     let mut desk = [0u64; DESK_WORDS];
     let mut core = [0u64; CORE];
     let mut map = [0u64; MAP_WORDS];
@@ -63,7 +76,7 @@ fn main() {
     };
     let none = &map[..0];
     match calls::open::open_load(&mut desk, &mut core, 0, area, none, none) {
-        Answer::Opened(place) => feed_all(&mut desk, &mut core, place),
-        _ => say(b"not opened\n"),
+        Answer::Opened(place) => feed_all(&rt, &mut desk, &mut core, place),
+        _ => say(&rt, b"not opened\n"),
     }
 }

@@ -1,5 +1,5 @@
 -- The map's rule as facts, from the test and to the test.
-use Rattle.std.proofs.Common.{◌≡◌, ℕ, ◌+◌, ◌-◌, ◌<◌, ◌≤◌, List, length, get_or, sym, arith}
+use Rattle.std.proofs.Common.{◌≡◌, ℕ, ◌+◌, ◌<◌, ◌≤◌, List, length, get_or, sym, arith}
 use Rattle.word.specs.Limits.{room_count}
 use Rattle.word.specs.Runs.{Says}
 use Rattle.word.proofs.Cases.{by-lt}

@@ -1,6 +1,6 @@
 -- The map: "eight pairs, start and length of each room's stretch, as eight records handled whole. The stretches lie inside the
 -- core and share no word." (01, "The desk"; refusal 3)
-use Rattle.std.specs.Prelude.{◌≡◌, ℕ, ◌+◌, ◌*◌, ◌<◌, ◌≤◌, Bool, ◌&&◌, List, ◌≢◌, slice_index}
+use Rattle.std.specs.Prelude.{ℕ, ◌+◌, ◌*◌, ◌<◌, ◌≤◌, Bool, ◌&&◌, List, ◌≢◌, slice_index}
 use Rattle.word.specs.Lists.{every, every_two, tab}
 use Rattle.word.specs.Limits.{room_count}
 use Rattle.word.specs.Runs.{within, apart, Apart}

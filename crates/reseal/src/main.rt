@@ -7,42 +7,44 @@ ghost use Rattle.word.specs.Limits.{words_in_block};
 
 use block::Verdict;
 use console::Input;
+use std::io;
 
 // Prints the block with this index sealed anew; or, in its place, that it is refused. Answers whether to go on: a file with such a
 // line in it is no file of octal lines, and so no loader takes what was printed.
-fn reseal_block(words: &mut [u64], index: u64) -> bool
+fn reseal_block(rt: &impl Print, words: &mut [u64], index: u64) -> io::Result<bool>
     requires { length words.old ≡ words_in_block }
 {
     match old_seal::reseal(words, index) {
         Verdict::Pass => {
-            console::say_block(words);
-            true
+            console::say_block(rt, words)?;
+            Ok(true)
         }
         Verdict::Refused(f) => {
-            console::say_number(index);
-            console::say_line(b" refused ", f.number);
-            false
+            console::say_number(rt, index)?;
+            console::say_line(rt, b" refused ", f.number)?;
+            Ok(false)
         }
     }
 }
 
 // Reseals the next block, and answers whether to go on.
-fn reseal_next(index: u64) -> bool {
+fn reseal_next(rt: &(impl io::Input + Print), index: u64) -> io::Result<bool> {
     let mut words = [0u64; octal::LINES];
-    match console::read_block(&mut words) {
-        Input::End => false,
+    match console::read_block(rt, &mut words) {
+        Input::End => Ok(false),
         Input::Bad => {
-            console::say_bad();
-            false
+            console::say_bad(rt)?;
+            Ok(false)
         }
-        Input::Block => reseal_block(&mut words, index),
+        Input::Block => reseal_block(rt, &mut words, index),
     }
 }
 
 // A proved loop has to end, and nothing says that the input does: it ends where the indices do.
-fn main() {
+fn main(rt: HostRuntime) -> io::Result<()> {
     let mut index: u64 = 0;
-    while index < u64::MAX && reseal_next(index) {
+    while index < u64::MAX && reseal_next(&rt, index)? {
         index += 1;
     }
+    Ok(())
 }

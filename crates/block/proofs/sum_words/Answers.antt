@@ -23,12 +23,12 @@ loop-i-preserved c =
     let l = c.loop-i in
     let b = c.args.block.now in (
       omega arith,
-      omega (arith, c.wrapping_add_u64-sum-in-loop-i-3.ensures),
+      omega (arith, c.wrapping_add_u64-sum-in-loop-i-3.type_inv),
       rw (
-        c.wrapping_add_u64-sum-in-loop-i-3.ensures,
-        c.wrapping_add_u64-sum-in-loop-i-2.ensures,
-        c.wrapping_add_u64-sum-in-loop-i.ensures,
-        c.wrapping_add_u64-sum.ensures,
+        c.wrapping_add_u64-sum-in-loop-i-3.ensures.value,
+        c.wrapping_add_u64-sum-in-loop-i-2.ensures.value,
+        c.wrapping_add_u64-sum-in-loop-i.ensures.value,
+        c.wrapping_add_u64-sum.ensures.value,
       )
           (sums_more b l.i (omega arith) l.sum (total b) (omega arith) l.invariant.2),
       words_more b l.i (omega arith) l.any (every is_word b) (omega arith) l.invariant.3,

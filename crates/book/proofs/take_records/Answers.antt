@@ -1,0 +1,45 @@
+-- `book::take_records` meets its contract: at every turn the records passed have left their marks, and no two are for one tag.
+use Prim.Native.Nat.{◌≤◌, ◌-◌}
+use mathlib.Core.Path.{◌≡◌}
+use lib.ListN.{length}
+use borrow.Author.Tests.{not-true, not-false}
+use Rattle.book.specs.Book.{record_count, assignments_of}
+use Rattle.book.proofs.Taking.{TakenTo, taken_none, take_ready, taken_more, taken_stops, taken-all}
+use native.Mathlib.Omega.{arith}
+use Rattle.book.proofs.take_records.Goals as goal
+
+pub loop-i-init : goal.loop-i-init
+loop-i-init c =
+    let p = c.requires in
+    (omega arith, omega arith, taken_none _ _ _ _ p.look.long p.look.carried p.none)
+
+pub read_record-requires : goal.read_record-requires
+read_record-requires c = (c.requires.look.right, omega arith)
+
+pub take_record-requires : goal.take_record-requires
+take_record-requires c =
+    let p = c.requires in
+    let l = c.loop-i in
+    take_ready _ _ _ _ l.i p.look (omega arith) _ c.read_record.ensures l.invariant.2.marks-kept.long
+
+pub returns-then-not-take_record : goal.returns-then-not-take_record
+returns-then-not-take_record c =
+    let p = c.requires in
+    let l = c.loop-i in
+    taken_stops _ _ _ _ l.i p.look (omega arith) _ c.read_record.ensures
+    _ _
+    c.take_record.ensures l.invariant.2 (c.if-not-take_record.true)
+
+pub loop-i-preserved : goal.loop-i-preserved
+loop-i-preserved c =
+    let p = c.requires in
+    let l = c.loop-i in (
+      omega arith,
+      omega arith,
+      taken_more _ _ _ _ l.i p.look (omega arith) _ c.read_record.ensures
+          _ _
+          c.take_record.ensures l.invariant.2 (c.if-not-take_record.false),
+    )
+
+pub returns : goal.returns
+returns c = let l = c.loop-i in taken-all _ _ _ _ l.i (omega arith) (omega arith) l.invariant.2

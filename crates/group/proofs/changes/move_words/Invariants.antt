@@ -1,0 +1,21 @@
+-- `changes::move_words`: a run of the commonest change leaves what the loop's turns leave.
+use Prim.Native.Nat.{◌-◌, ◌<◌, ◌≤◌}
+use mathlib.Core.Path.{◌≡◌, refl, ◌∙◌}
+use native.Mathlib.Omega.{arith}
+use lib.ListN.{length-set}
+use Rattle.word.proofs.Cases.{by-lt}
+use Rattle.field.specs.Field.{assigned_by}
+use Rattle.group.specs.HowLoop.{Reached}
+use Rattle.group.specs.HowWords.{program_in}
+use Rattle.group.proofs.LoopTurn.{turn_many, turn_word, run_goes, run_stops, run_at, run_stop, fewer_left}
+use borrow.Author.Rules.{rules}
+use Rattle.group.proofs.changes.move_words.Given as goal
+
+abbrev pub invariant-loop-c : goal.invariant-loop-c
+invariant-loop-c l = (l.initial.k ≤ l.k)
+    × (28 < l.c.left)
+    × (l.k ≡ l.initial.k → l.c ≡ l.initial.c)
+    × (Reached (assigned_by l.s l.lists) l.words l.n (program_in l.words l.n) l.out l.c l.k)
+
+abbrev pub decreases-loop-c : goal.decreases-loop-c
+decreases-loop-c l = l.n - l.k

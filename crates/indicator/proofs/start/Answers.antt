@@ -1,0 +1,6 @@
+-- `start`: from what `beyond_last` ensures.
+use borrow.Author.Rules.{rules}
+use Rattle.indicator.proofs.start.Goals as goal
+
+pub returns : goal.returns
+returns c = rw c.beyond_last.ensures

@@ -1,0 +1,6 @@
+-- `label::bad_at` meets its contract: what it calls meets theirs.
+use native.Mathlib.Omega.{arith}
+use Rattle.label.proofs.bad_at.Goals as goal
+
+pub returns : goal.returns
+returns c = rw c.further.ensures

@@ -1,0 +1,17 @@
+-- `label::read_tables` meets its contract: at every turn the tables read so far stand, and are counted. The measure is how many are
+use Prim.Native.Nat.{◌≤◌, ◌-◌}
+use mathlib.Core.Path.{sym, ◌∙◌}
+use native.Mathlib.Omega.{arith}
+use borrow.Author.Rules.{rules}
+use lib.ListN.{get_or}
+use Rattle.word.specs.Word.{bits}
+use Rattle.label.specs.Tables.{table_words}
+use Rattle.label.proofs.TableTurns.{ReadTo, of_bad, read_none, word_short, word_more, word_bad, word_all}
+use Rattle.label.proofs.read_tables.Given as goal
+
+-- left.
+abbrev pub invariant-loop-i : goal.invariant-loop-i
+invariant-loop-i l = (l.i ≤ bits 28 18 (get_or l.block 3 0)) × ReadTo (table_words l.block) l.i l.least l.c
+
+abbrev pub decreases-loop-i : goal.decreases-loop-i
+decreases-loop-i l = l.n - l.i

@@ -1,0 +1,19 @@
+-- `layout::read_holders` meets its contract: after p turns the first p holders are those of the desk.
+use Prim.Native.Nat.{◌≤◌, ◌-◌}
+use mathlib.Core.Path.{◌≡◌, refl}
+use native.Mathlib.Omega.{arith}
+use lib.ListN.{length, length-set}
+use Rattle.word.specs.Limits.{place_count}
+use Rattle.word.proofs.Fill.{filled, filled_none, filled_more, filled-all}
+use Rattle.layout.specs.Layout.{holder_in, holders}
+use Rattle.layout.proofs.read_holders.Goals as goal
+
+pub loop-p-init : goal.loop-p-init
+loop-p-init c = (omega arith, refl, filled_none _ _)
+
+pub loop-p-preserved : goal.loop-p-preserved
+loop-p-preserved c = (omega arith, simp length-set (omega arith), filled_more _ _ _ _ _ (omega arith) refl c.loop-p.invariant.2)
+
+pub returns : goal.returns
+unfolding holders
+returns c = filled-all _ _ place_count _ _ (omega arith) refl c.loop-p.invariant.2

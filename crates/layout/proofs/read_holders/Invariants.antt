@@ -1,0 +1,15 @@
+-- `layout::read_holders` meets its contract: after p turns the first p holders are those of the desk.
+use Prim.Native.Nat.{◌≤◌, ◌-◌}
+use mathlib.Core.Path.{◌≡◌, refl}
+use native.Mathlib.Omega.{arith}
+use lib.ListN.{length, length-set}
+use Rattle.word.specs.Limits.{place_count}
+use Rattle.word.proofs.Fill.{filled, filled_none, filled_more, filled-all}
+use Rattle.layout.specs.Layout.{holder_in, holders}
+use Rattle.layout.proofs.read_holders.Given as goal
+
+abbrev pub invariant-loop-p : goal.invariant-loop-p
+invariant-loop-p l = (l.p ≤ place_count) × (length l.h ≡ place_count) × (l.h ≡ filled (holder_in l.desk) l.initial.h l.p)
+
+abbrev pub decreases-loop-p : goal.decreases-loop-p
+decreases-loop-p l = place_count - l.p

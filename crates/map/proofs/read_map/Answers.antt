@@ -1,0 +1,20 @@
+-- `map::read_map` meets its contract: after r turns the first r stretches are those that the list tells.
+use Rattle.std.proofs.Common.{refl, arith, length-set}
+use Rattle.map.specs.Map.{map_of}
+use Rattle.word.proofs.Fill.{filled_none, filled_more, filled-all}
+use Rattle.map.proofs.read_map.Goals as goal
+
+pub loop-r-init : goal.loop-r-init
+loop-r-init c = (omega arith, refl, filled_none _ _)
+
+pub loop-r-preserved : goal.loop-r-preserved
+loop-r-preserved c = (
+  omega arith,
+  simp length-set (omega arith),
+  filled_more _ _ _ _ _ (omega arith) c.stretch_of-s.ensures
+      c.loop-r.invariant.2,
+)
+
+pub returns : goal.returns
+unfolding map_of
+returns c = filled-all _ _ 8 _ _ (omega arith) refl c.loop-r.invariant.2

@@ -1,0 +1,7 @@
+-- `rooms::held_by_lem` meets its contract, by what `how_many` ensures.
+use Rattle.rooms.specs.Rooms.{held}
+use Rattle.rooms.proofs.held_by.Goals as goal
+
+pub returns : goal.returns
+unfolding held
+returns c = c.how_many.ensures
