@@ -1,5 +1,5 @@
 -- `block::check_block` meets its contract: by what is known where the pass has found a sum.
-use Rattle.std.proofs.Common.{◌≡◌, ◌<◌, ℕ, List, sym, ◌∙◌, arith, rules}
+use Rattle.std.proofs.Common.{◌≡◌, ◌<◌, ℕ, List, sym, ◌∙◌, arith}
 use Rattle.word.specs.Limits.{words_in_block}
 use Rattle.block.specs.Checksum.{checksum}
 use Rattle.block.specs.Records.{checksum_place}

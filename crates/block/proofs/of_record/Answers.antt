@@ -1,7 +1,6 @@
 -- `block::of_record` meets its contract: each return by the tests that led to it.
 use Rattle.block.specs.Fieldata.{spelt}
 use Rattle.block.specs.Records.{modification, program, termination}
-use Rattle.std.proofs.Common.{rules}
 use Rattle.block.proofs.of_record.Goals as goal
 
 pub returns-in-Modification : goal.returns-in-Modification

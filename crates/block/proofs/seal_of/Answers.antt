@@ -1,6 +1,5 @@
 -- `block::seal_of` meets its contract: what its callees give, last call first.
 use Rattle.block.specs.HowChecksum.{seal_of}
-use Rattle.std.proofs.Common.{rules}
 use Rattle.block.proofs.seal_of.Goals as goal
 
 pub returns : goal.returns

@@ -1,12 +1,8 @@
 -- `block::sum_words` meets its contract: by the loop's invariant, over what is left of the four quarters.
-use Rattle.std.proofs.Common.{◌≡◌, ◌+◌, ◌-◌, ◌%◌, ◌^◌, ◌<◌, ◌≤◌, ◌&&◌, ◌∙◌, arith, rules, le-ltb, lt-ltb}
-use Rattle.word.specs.Word.{word_limit, is_word}
+use Rattle.std.proofs.Common.{◌≡◌, ◌+◌, ◌-◌, ◌%◌, ◌^◌, ◌<◌, ◌≤◌, ◌&&◌}
+use Rattle.word.specs.Word.{is_word}
 use Rattle.word.specs.Lists.{every}
-use Rattle.word.proofs.Tests.{tests}
-use Rattle.block.specs.Block.{whole_block}
-use Rattle.block.specs.HowChecksum.{total, summed, quarter, quarters, left_of}
-use Rattle.block.proofs.Quarters.{left-all, sums_more, sums_end, words_more, words_end}
-use Rattle.block.proofs.OnePass.{summed-none, summed-sum}
+use Rattle.block.specs.HowChecksum.{total, quarter, quarters, left_of}
 use Rattle.block.proofs.sum_words.Given as goal
 
 abbrev pub invariant-loop-i : goal.invariant-loop-i

@@ -1,8 +1,6 @@
 -- `book::all_given` meets its contract: kind after kind.
 use mathlib.Core.Path.{sym, ◌∙◌}
-use borrow.Author.Tests.{not-true, not-false}
 use Rattle.book.specs.HowKept.{all_marked}
-use borrow.Author.Rules.{rules}
 use Rattle.book.proofs.all_given.Goals as goal
 
 pub returns-then-not-kind_given : goal.returns-then-not-kind_given

@@ -1,12 +1,5 @@
 -- `book::all_in_file` meets its contract: the rest of the records decides.
-use Prim.Native.Nat.{◌≤◌, ◌-◌}
-use mathlib.Core.Path.{◌≡◌, refl}
-use lib.ListN.{drop}
-use borrow.Author.Tests.{not-true, not-false}
-use Rattle.word.specs.Lists.{every}
-use Rattle.book.specs.Book.{record_count, assignments_of}
-use Rattle.book.specs.Assign.{in_file}
-use Rattle.book.specs.HowKept.{kept_tags}
+use mathlib.Core.Path.{refl}
 use Rattle.book.proofs.Looking.{looked_more, looked_fails, looked_ends}
 use native.Mathlib.Omega.{arith}
 use Rattle.book.proofs.all_in_file.Goals as goal

@@ -1,11 +1,9 @@
 -- `book::all_marks` meets its contract: the rest decides.
 use Prim.Native.Nat.{◌≤◌, ◌-◌}
-use mathlib.Core.Path.{◌≡◌, refl}
+use mathlib.Core.Path.{◌≡◌}
 use lib.ListN.{length, drop}
 use Rattle.word.specs.Lists.{every}
 use Rattle.book.specs.HowKept.{is_mark}
-use Rattle.book.proofs.Marking.{marks_more, marks_fails, marks-ends}
-use native.Mathlib.Omega.{arith}
 use Rattle.book.proofs.all_marks.Given as goal
 
 abbrev pub invariant-loop-j : goal.invariant-loop-j

@@ -2,7 +2,6 @@
 use mathlib.Core.Path.{sym, ◌∙◌}
 use Rattle.front.proofs.Carried.{front-carried}
 use Rattle.book.proofs.Answers.{gives-front, gives-fault}
-use borrow.Author.Rules.{rules}
 use Rattle.book.proofs.assign.Goals as goal
 
 pub assign_by-requires : goal.assign_by-requires

@@ -4,29 +4,27 @@ use mathlib.Core.List.{List}
 use Rattle.book.specs.HowKept.{kept_tags}
 use mathlib.Core.Path.{refl, sym, ap, ◌∙◌}
 use lib.ListN.{length}
-use borrow.Author.Tests.{not-true, not-false}
 use Rattle.book.proofs.Kept.{all-long, all-kept}
 use Rattle.book.proofs.Answers.{io_unfit, tables_unfit, book_fit, gives_24, gives_on}
-use borrow.Author.Rules.{rules}
 use Rattle.book.proofs.assign_by.Goals as goal
 
 pub returns-then-io-count_of : goal.returns-then-io-count_of
 returns-then-io-count_of c =
     let a = c.args in
-    gives_24 _ _ _ _ _ (io_unfit a.book.now a.blocks.now a.l a.io.now a.tables.now
+    gives_24 _ _ _ _ _ (io_unfit a.book.now c.args.blocks.now a.l a.io.now a.tables.now
     (λ e. c.if-io-count_of.true (e ∙ sym c.count_of.ensures)))
 
 pub returns-then-tables-count_of : goal.returns-then-tables-count_of
 returns-then-tables-count_of c =
     let a = c.args in
-    gives_24 _ _ _ _ _ (tables_unfit a.book.now a.blocks.now a.l a.io.now a.tables.now
+    gives_24 _ _ _ _ _ (tables_unfit a.book.now c.args.blocks.now a.l a.io.now a.tables.now
     (c.if-io-count_of.false ∙ c.count_of.ensures)
     (λ e. c.if-tables-count_of.true (e ∙ sym (ap (λ (n : ℕ). 2 * n) c.count_of-2.ensures))))
 
 pub returns-then-not-is_book : goal.returns-then-not-is_book
 returns-then-not-is_book c =
     let a = c.args in
-    gives_24 _ _ _ _ _ (book_fit a.book.now a.blocks.now a.l a.io.now a.tables.now _
+    gives_24 _ _ _ _ _ (book_fit a.book.now c.args.blocks.now a.l a.io.now a.tables.now _
     (c.if-io-count_of.false ∙ c.count_of.ensures)
     (c.if-tables-count_of.false ∙ ap (λ (n : ℕ). 2 * n) c.count_of-2.ensures)
     c.is_book.ensures
@@ -50,10 +48,10 @@ returns c =
     let a = c.args in
     let t = c.read_tags in
     gives_on _ _ _ _ _ _ _ _ _
-    (book_fit a.book.now a.blocks.now a.l a.io.now a.tables.now _
+    (book_fit a.book.now c.args.blocks.now a.l a.io.now a.tables.now _
     (c.if-io-count_of.false ∙ c.count_of.ensures)
     (c.if-tables-count_of.false ∙ ap (λ (n : ℕ). 2 * n) c.count_of-2.ensures)
     c.is_book.ensures
     ∙ c.if-not-is_book.false)
-    (ap (λ (k : List ℕ). kept_tags k a.l) t.ensures ∙ all-kept a.blocks.now a.l c.requires _ refl)
+    (ap (λ (k : List ℕ). kept_tags k a.l) t.ensures ∙ all-kept c.args.blocks.now a.l c.requires _ refl)
     c.look_up.ensures

@@ -1,7 +1,5 @@
 -- `book::find` meets its contract: at every turn no place passed has the tag.
-use Prim.Native.Nat.{◌≤◌, ◌-◌}
-use lib.ListN.{length}
-use Rattle.book.proofs.Finding.{NoneTo, none_yet, none_more, found_at, found_none}
+use Rattle.book.proofs.Finding.{none_yet, none_more, found_at, found_none}
 use native.Mathlib.Omega.{arith}
 use Rattle.book.proofs.find.Goals as goal
 

@@ -1,8 +1,7 @@
 -- `book::find` meets its contract: at every turn no place passed has the tag.
 use Prim.Native.Nat.{◌≤◌, ◌-◌}
 use lib.ListN.{length}
-use Rattle.book.proofs.Finding.{NoneTo, none_yet, none_more, found_at, found_none}
-use native.Mathlib.Omega.{arith}
+use Rattle.book.proofs.Finding.{NoneTo}
 use Rattle.book.proofs.find.Given as goal
 
 abbrev pub invariant-loop-j : goal.invariant-loop-j

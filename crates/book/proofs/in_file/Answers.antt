@@ -1,11 +1,8 @@
 -- `book::in_file` meets its contract: by the place where the tag is found in its kind's stretch.
 use native.Mathlib.Omega.{arith}
-use Prim.Native.Nat.{◌+◌, ◌≤◌}
 use mathlib.Core.Path.{ap, ◌∙◌}
 use Rattle.book.specs.Assign.{place_of}
-use Rattle.book.specs.HowKept.{kept_words}
 use Rattle.book.proofs.Kept.{lent_in, kept-lent, in_kept}
-use borrow.Author.Rules.{rules}
 use Rattle.book.proofs.in_file.Goals as goal
 
 pub overflow_add-a : goal.overflow_add-a

@@ -1,11 +1,9 @@
 -- `book::kind_given` meets its contract: the marks of its stretch.
 use native.Mathlib.Omega.{arith}
-use Prim.Native.Nat.{◌+◌, ◌≤◌}
 use mathlib.Core.Path.{ap, ◌∙◌}
 use Rattle.word.specs.Lists.{every}
-use Rattle.book.specs.HowKept.{kept_words, is_mark}
+use Rattle.book.specs.HowKept.{is_mark}
 use Rattle.book.proofs.Kept.{lent_in, kept-lent}
-use borrow.Author.Rules.{rules}
 use Rattle.book.proofs.kind_given.Goals as goal
 
 pub overflow_add-a : goal.overflow_add-a

@@ -1,9 +1,7 @@
 -- `book::look_up` meets its contract: each answer by what the passes over the records told.
 use mathlib.Core.Path.{refl, sym, ◌∙◌}
-use borrow.Author.Tests.{not-true, not-false}
 use Rattle.book.proofs.Given.{all-given, io-numbers, table-numbers}
 use Rattle.book.proofs.Answers.{gives_25_or_26, gives_27, gives_lists}
-use borrow.Author.Rules.{rules}
 use Rattle.book.proofs.look_up.Goals as goal
 
 pub take_records-requires : goal.take_records-requires

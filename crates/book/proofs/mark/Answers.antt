@@ -1,11 +1,10 @@
 -- `book::mark` meets its contract: at every turn the places before this one of the tag are marked.
-use Prim.Native.Nat.{◌+◌, ◌≤◌, ◌-◌}
-use mathlib.Core.Path.{◌≡◌, ap, ◌∙◌}
-use lib.ListN.{length, length-set, set}
+use Prim.Native.Nat.{◌+◌}
+use mathlib.Core.Path.{ap, ◌∙◌}
+use lib.ListN.{length-set}
 use Rattle.book.specs.Assign.{place_of}
-use Rattle.book.proofs.Marking.{rest-lent, MarkedTo, marks_begin, marks_next, marks_end}
+use Rattle.book.proofs.Marking.{rest-lent, marks_begin, marks_next, marks_end}
 use native.Mathlib.Omega.{arith}
-use borrow.Author.Rules.{rules}
 use Rattle.book.proofs.mark.Goals as goal
 
 pub loop-j-init : goal.loop-j-init
@@ -19,7 +18,7 @@ overflow_add-j-in-loop-j c =
     let l = c.loop-j in
     let a = c.args in
     let k = marks_next _ _ _ _ c.requires.0 l.j _ _ (omega arith) l.invariant.2
-        (c.find-j.ensures ∙ ap (place_of a.tag) (rest-lent a.tags.now (l.j + 1))) in
+    (c.find-j.ensures ∙ ap (place_of a.tag) (rest-lent a.tags.now (l.j + 1))) in
     omega (arith, k.most)
 
 pub loop-j-smaller : goal.loop-j-smaller
@@ -27,7 +26,7 @@ loop-j-smaller c =
     let l = c.loop-j in
     let a = c.args in
     let k = marks_next _ _ _ _ c.requires.0 l.j _ _ (omega arith) l.invariant.2
-        (c.find-j.ensures ∙ ap (place_of a.tag) (rest-lent a.tags.now (l.j + 1))) in
+    (c.find-j.ensures ∙ ap (place_of a.tag) (rest-lent a.tags.now (l.j + 1))) in
     omega (arith, k.most)
 
 pub loop-j-preserved : goal.loop-j-preserved
@@ -35,7 +34,7 @@ loop-j-preserved c =
     let l = c.loop-j in
     let a = c.args in
     let k = marks_next _ _ _ _ c.requires.0 l.j _ _ (omega arith) l.invariant.2
-        (c.find-j.ensures ∙ ap (place_of a.tag) (rest-lent a.tags.now (l.j + 1))) in
+    (c.find-j.ensures ∙ ap (place_of a.tag) (rest-lent a.tags.now (l.j + 1))) in
     (omega (arith, k.most), simp length-set (omega arith), k)
 
 pub returns : goal.returns

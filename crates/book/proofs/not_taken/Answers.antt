@@ -1,7 +1,6 @@
 -- `book::not_taken` meets its contract: each return by its test.
 use mathlib.Core.Path.{sym, ◌∙◌}
 use Rattle.book.specs.HowKept.{not_taken}
-use borrow.Author.Rules.{rules}
 use Rattle.book.proofs.not_taken.Goals as goal
 
 pub returns-then-all_in_file : goal.returns-then-all_in_file

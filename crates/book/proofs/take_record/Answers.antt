@@ -1,12 +1,9 @@
 -- `book::take_record` meets its contract: by where the tag is found, by the mark there, and then by what marking leaves.
-use Prim.Native.Nat.{◌+◌, ◌≤◌}
-use mathlib.Core.Path.{◌≡◌, refl, ap, ◌∙◌}
+use mathlib.Core.Path.{refl, ap, ◌∙◌}
 use Rattle.book.specs.Assign.{place_of}
-use Rattle.book.specs.HowKept.{kept_words, kept_of}
 use Rattle.book.proofs.Kept.{lent_in, kept-lent}
 use Rattle.book.proofs.Marking.{marked-none_such, marked-before, marked_now}
 use native.Mathlib.Omega.{arith}
-use borrow.Author.Rules.{rules}
 use Rattle.book.proofs.take_record.Goals as goal
 
 pub overflow_add-a : goal.overflow_add-a
@@ -18,8 +15,8 @@ offset_bounds-tags-a c = omega (arith, lent_in c.args.l c.args.r.kind _ _ c.requ
 pub returns-then-n-j : goal.returns-then-n-j
 returns-then-n-j c =
     marked-none_such _ _ c.args.r _ _ _ _ c.requires.tags_long c.requires.marks-long c.requires.carried (c.find-j.ensures
-            ∙ ap (place_of c.args.r.tag)
-            (kept-lent c.args.tags.now c.args.l c.args.r.kind _ _ c.start_of-a.ensures c.count_of-n.ensures))
+    ∙ ap (place_of c.args.r.tag)
+    (kept-lent c.args.tags.now c.args.l c.args.r.kind _ _ c.start_of-a.ensures c.count_of-n.ensures))
     c.start_of-a.ensures c.count_of-n.ensures _ c.if-n-j.true
 
 pub overflow_add-old : goal.overflow_add-old
@@ -34,8 +31,8 @@ bounds-marks-a c = omega (arith, lent_in c.args.l c.args.r.kind _ _ c.requires.c
 pub returns-then-old-ne0 : goal.returns-then-old-ne0
 returns-then-old-ne0 c =
     marked-before _ _ c.args.r _ _ _ _ c.requires.tags_long c.requires.marks-long c.requires.carried (c.find-j.ensures
-            ∙ ap (place_of c.args.r.tag)
-            (kept-lent c.args.tags.now c.args.l c.args.r.kind _ _ c.start_of-a.ensures c.count_of-n.ensures))
+    ∙ ap (place_of c.args.r.tag)
+    (kept-lent c.args.tags.now c.args.l c.args.r.kind _ _ c.start_of-a.ensures c.count_of-n.ensures))
     c.start_of-a.ensures c.count_of-n.ensures (omega arith) _ c.if-old-ne0.true
 
 pub overflow_add-a-2 : goal.overflow_add-a-2
@@ -53,8 +50,8 @@ offset_bounds-marks-a-2 c = omega (arith, lent_in c.args.l c.args.r.kind _ _ c.r
 pub returns : goal.returns
 returns c =
     marked_now _ _ c.args.r _ _ _ _ c.requires.tags_long c.requires.marks-long c.requires.carried (c.find-j.ensures
-            ∙ ap (place_of c.args.r.tag)
-            (kept-lent c.args.tags.now c.args.l c.args.r.kind _ _ c.start_of-a.ensures c.count_of-n.ensures))
+    ∙ ap (place_of c.args.r.tag)
+    (kept-lent c.args.tags.now c.args.l c.args.r.kind _ _ c.start_of-a.ensures c.count_of-n.ensures))
     c.start_of-a.ensures c.count_of-n.ensures
     (omega (arith, c.if-n-j.false)) _ _ _ _
     c.if-old-ne0.false refl refl refl c.mark.ensures

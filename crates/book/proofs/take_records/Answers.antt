@@ -1,10 +1,5 @@
 -- `book::take_records` meets its contract: at every turn the records passed have left their marks, and no two are for one tag.
-use Prim.Native.Nat.{◌≤◌, ◌-◌}
-use mathlib.Core.Path.{◌≡◌}
-use lib.ListN.{length}
-use borrow.Author.Tests.{not-true, not-false}
-use Rattle.book.specs.Book.{record_count, assignments_of}
-use Rattle.book.proofs.Taking.{TakenTo, taken_none, take_ready, taken_more, taken_stops, taken-all}
+use Rattle.book.proofs.Taking.{taken_none, take_ready, taken_more, taken_stops, taken-all}
 use native.Mathlib.Omega.{arith}
 use Rattle.book.proofs.take_records.Goals as goal
 

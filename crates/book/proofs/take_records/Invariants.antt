@@ -2,10 +2,8 @@
 use Prim.Native.Nat.{◌≤◌, ◌-◌}
 use mathlib.Core.Path.{◌≡◌}
 use lib.ListN.{length}
-use borrow.Author.Tests.{not-true, not-false}
 use Rattle.book.specs.Book.{record_count, assignments_of}
-use Rattle.book.proofs.Taking.{TakenTo, taken_none, take_ready, taken_more, taken_stops, taken-all}
-use native.Mathlib.Omega.{arith}
+use Rattle.book.proofs.Taking.{TakenTo}
 use Rattle.book.proofs.take_records.Given as goal
 
 abbrev pub invariant-loop-i : goal.invariant-loop-i

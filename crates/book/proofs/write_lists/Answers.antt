@@ -1,6 +1,5 @@
 -- `book::write_lists` meets its contract: the marks of each kind, as numbers.
 use Rattle.book.proofs.Filling.{first-long, io_ready, pairs_ready, lists_filled}
-use borrow.Author.Rules.{rules}
 use Rattle.book.proofs.write_lists.Goals as goal
 
 pub slice_bounds-write_numbers-end : goal.slice_bounds-write_numbers-end

@@ -1,10 +1,8 @@
 -- `book::write_numbers` meets its contract: at every turn the numbers of the marks passed are written.
 use Prim.Native.Nat.{◌≤◌, ◌-◌}
-use mathlib.Core.Path.{◌≡◌, refl}
-use lib.ListN.{length, length-set}
-use Rattle.book.proofs.Marking.{mark_some, numbers_to, numbers-none, numbers_more, numbers-all}
-use native.Mathlib.Omega.{arith}
-use borrow.Author.Rules.{rules}
+use mathlib.Core.Path.{◌≡◌}
+use lib.ListN.{length}
+use Rattle.book.proofs.Marking.{numbers_to}
 use Rattle.book.proofs.write_numbers.Given as goal
 
 abbrev pub invariant-loop-j : goal.invariant-loop-j

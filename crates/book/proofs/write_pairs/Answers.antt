@@ -1,8 +1,7 @@
 -- `book::write_pairs` meets its contract: at every turn the numbers of the pairs passed are written.
-use Prim.Native.Nat.{◌≤◌, ◌-◌, ◌*◌}
-use mathlib.Core.Path.{◌≡◌, refl}
-use lib.ListN.{length, length-set}
-use Rattle.book.proofs.Marking.{mark_some, pairs_to, pairs_none, pairs_more, pairs_all}
+use mathlib.Core.Path.{refl}
+use lib.ListN.{length-set}
+use Rattle.book.proofs.Marking.{mark_some, pairs_none, pairs_more, pairs_all}
 use native.Mathlib.Omega.{arith}
 use Rattle.book.proofs.write_pairs.Goals as goal
 

@@ -1,9 +1,8 @@
 -- `book::write_pairs` meets its contract: at every turn the numbers of the pairs passed are written.
 use Prim.Native.Nat.{◌≤◌, ◌-◌, ◌*◌}
-use mathlib.Core.Path.{◌≡◌, refl}
-use lib.ListN.{length, length-set}
-use Rattle.book.proofs.Marking.{mark_some, pairs_to, pairs_none, pairs_more, pairs_all}
-use native.Mathlib.Omega.{arith}
+use mathlib.Core.Path.{◌≡◌}
+use lib.ListN.{length}
+use Rattle.book.proofs.Marking.{pairs_to}
 use Rattle.book.proofs.write_pairs.Given as goal
 
 abbrev pub invariant-loop-t : goal.invariant-loop-t

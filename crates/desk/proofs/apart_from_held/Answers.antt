@@ -2,7 +2,6 @@
 use borrow.Author.Tests.{eq-eqb, ne_eqb}
 use Rattle.layout.specs.Layout.{own_of}
 use Rattle.desk.specs.Sound.{areas_apart}
-use borrow.Author.Rules.{rules}
 use Rattle.desk.proofs.apart_from_held.Goals as goal
 
 pub returns-then-other-eq0 : goal.returns-then-other-eq0

@@ -1,7 +1,6 @@
 -- `desk::apart_from_last` meets its contract: each return by the test that led to it.
 use Prim.Native.Nat.{◌-◌, ◌<◌}
 use native.Mathlib.Omega.{arith}
-use borrow.Author.Rules.{rules}
 use borrow.Author.Tests.{eq-eqb, ne_eqb}
 use Rattle.layout.proofs.Places.{place-length}
 use Rattle.desk.proofs.apart_from_last.Goals as goal

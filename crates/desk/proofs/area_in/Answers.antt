@@ -1,7 +1,6 @@
 -- `desk::area_in` meets its contract: each return by the tests that led to it.
 use borrow.Author.Tests.{le-leb, lt-leb}
 use Rattle.desk.specs.Sound.{area_in}
-use borrow.Author.Rules.{rules}
 use Rattle.desk.proofs.area_in.Goals as goal
 
 pub returns-then-a-lt1 : goal.returns-then-a-lt1

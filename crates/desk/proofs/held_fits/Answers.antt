@@ -1,9 +1,7 @@
--- `desk::held_fits_lem` meets its contract: each return by the tests that led to it.
+-- `desk::held_fits` meets its contract: each return by the tests that led to it.
 use Rattle.desk.proofs.Tested.{lists_readable, area_small}
 use mathlib.Core.Path.{sym, ◌∙◌}
-use borrow.Author.Tests.{not-true, not-false}
 use Rattle.desk.specs.Sound.{held_fits}
-use borrow.Author.Rules.{rules}
 use Rattle.desk.proofs.held_fits.Goals as goal
 
 pub returns-then-not-area_in : goal.returns-then-not-area_in

@@ -3,14 +3,12 @@ use Prim.Native.Nat.{ℕ, ◌≤◌}
 use mathlib.Core.List.{List}
 use mathlib.Core.Path.{◌≡◌, sym, ap, ◌∙◌}
 use native.Mathlib.Omega.{arith}
-use borrow.Author.Tests.{not-true, not-false}
 use lib.ListN.{length, take}
 use Rattle.word.specs.Lists.{splice}
 use Rattle.rooms.specs.Rooms.{held_places}
 use Rattle.layout.specs.Layout.{holders}
 use Rattle.rooms.proofs.Held.{held_few, held-lent}
 use Rattle.layout.proofs.Places.{length-holders}
-use borrow.Author.Rules.{rules}
 use Rattle.desk.proofs.Looked.{nothing_held}
 use Rattle.desk.proofs.holders_fit.Goals as goal
 

@@ -3,11 +3,10 @@ use Prim.Native.Nat.{ℕ}
 use mathlib.Core.Bool.{Bool}
 use mathlib.Core.List.{List}
 use mathlib.Core.Path.{sym, ◌∙◌, ◌≡◌}
-use borrow.Author.Tests.{eq-eqb, ne_eqb, le-leb, lt-leb, not-true, not-false}
+use borrow.Author.Tests.{eq-eqb, ne_eqb, le-leb, lt-leb}
 use Rattle.layout.specs.Layout.{core_length, map_numbers}
 use Rattle.map.specs.Map.{map_of, map_obeys}
 use Rattle.desk.specs.Sound.{sound}
-use borrow.Author.Rules.{rules}
 use Rattle.desk.proofs.is_sound.Goals as goal
 
 -- the map's test, as it was made

@@ -1,8 +1,6 @@
 -- `desk::load_fits` meets its contract: each return by the tests that led to it.
 use Rattle.desk.proofs.Tested.{load_is}
 use mathlib.Core.Path.{sym, ◌∙◌}
-use borrow.Author.Tests.{not-true, not-false}
-use borrow.Author.Rules.{rules}
 use Rattle.desk.proofs.load_fits.Goals as goal
 
 pub kept_fits-requires : goal.kept_fits-requires

@@ -1,8 +1,7 @@
 -- `front::block_at` meets its contract: the part that is lent is the block, as far as it is there.
 use Rattle.front.proofs.Blocks.{last-part}
-use Prim.Native.Nat.{◌-◌, ◌*◌}
+use Prim.Native.Nat.{◌*◌}
 use native.Mathlib.Omega.{arith}
-use borrow.Author.Rules.{rules}
 use Rattle.word.proofs.Lists.{range-lent}
 use Rattle.word.specs.Limits.{words_in_block}
 use Rattle.front.specs.Front.{block_at}

@@ -1,7 +1,6 @@
 -- `front::check_behind` meets its contract: what is over, once the blocks that are due are right.
 use mathlib.Core.Path.{sym, ◌∙◌}
 use Rattle.front.proofs.Blocks.{behind_right, behind_wrong}
-use borrow.Author.Rules.{rules}
 use Rattle.front.proofs.check_behind.Goals as goal
 
 pub returns-in-Pass : goal.returns-in-Pass

@@ -2,7 +2,6 @@
 use mathlib.Core.Path.{sym, ◌∙◌}
 use Rattle.front.proofs.Blocks.{missing, right_record, other_record, refused-block}
 use native.Mathlib.Omega.{arith}
-use borrow.Author.Rules.{rules}
 use Rattle.front.proofs.check_modification.Goals as goal
 
 pub returns-then-blocks-i : goal.returns-then-blocks-i

@@ -1,11 +1,8 @@
 -- `front::check_modifications` meets its contract: at every turn the blocks passed are right.
 use Prim.Native.Nat.{◌≤◌, ◌-◌}
-use mathlib.Core.Path.{◌≡◌, sym, ◌∙◌}
+use mathlib.Core.Path.{◌≡◌}
 use Rattle.block.specs.declared.Verdict.TheVariants.{Pass}
 use Rattle.front.specs.Front.{modifications_to}
-use Rattle.front.proofs.Blocks.{none_yet, one_more, first_wrong_lem, all_right}
-use native.Mathlib.Omega.{arith}
-use borrow.Author.Rules.{rules}
 use Rattle.front.proofs.check_modifications.Given as goal
 
 abbrev pub invariant-loop-i : goal.invariant-loop-i

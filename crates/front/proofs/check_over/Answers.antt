@@ -2,7 +2,6 @@
 use mathlib.Core.Path.{sym, ◌∙◌}
 use Rattle.front.proofs.Blocks.{none_over, over, refused_over}
 use native.Mathlib.Omega.{arith}
-use borrow.Author.Rules.{rules}
 use Rattle.front.proofs.check_over.Goals as goal
 
 pub returns-then-blocks-i : goal.returns-then-blocks-i

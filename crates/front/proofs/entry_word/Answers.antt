@@ -6,7 +6,6 @@ use Rattle.word.specs.Limits.{words_in_block}
 use Rattle.modification.specs.declared.Spot.{Spot}
 use Rattle.front.specs.Front.{entry_word}
 use native.Mathlib.Omega.{arith}
-use borrow.Author.Rules.{rules}
 use Rattle.front.proofs.entry_word.Goals as goal
 
 pub overflow_add-s : goal.overflow_add-s

@@ -2,7 +2,6 @@
 use mathlib.Core.Path.{sym, ◌∙◌}
 use Rattle.front.proofs.Carried.{front-none, label-block-carried, front_good, front_bad}
 use native.Mathlib.Omega.{arith}
-use borrow.Author.Rules.{rules}
 use Rattle.front.proofs.read_front.Goals as goal
 
 pub returns-then-blocks-eq0 : goal.returns-then-blocks-eq0

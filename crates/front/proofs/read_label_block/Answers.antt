@@ -2,7 +2,6 @@
 use mathlib.Core.Path.{sym, ◌∙◌}
 use Rattle.front.proofs.Blocks.{passed_long}
 use Rattle.front.proofs.Carried.{label_passed, label-refused}
-use borrow.Author.Rules.{rules}
 use Rattle.front.proofs.read_label_block.Goals as goal
 
 pub read_label-requires : goal.read_label-requires

@@ -1,7 +1,6 @@
 -- `front::with_blocks` meets its contract: by the verdict on the blocks behind the label.
 use Rattle.front.proofs.Carried.{with_right, with_wrong}
 use mathlib.Core.Path.{sym, ◌∙◌}
-use borrow.Author.Rules.{rules}
 use Rattle.front.proofs.with_blocks.Goals as goal
 
 pub returns-in-Pass : goal.returns-in-Pass

@@ -1,5 +1,4 @@
 -- `label::bad_at` meets its contract: what it calls meets theirs.
-use native.Mathlib.Omega.{arith}
 use Rattle.label.proofs.bad_at.Goals as goal
 
 pub returns : goal.returns

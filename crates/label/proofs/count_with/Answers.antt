@@ -2,7 +2,6 @@
 use native.Mathlib.Omega.{arith}
 use Rattle.label.proofs.Tables.{counted_most}
 use Rattle.label.specs.HowTables.{counted_with}
-use borrow.Author.Rules.{rules}
 use Rattle.label.proofs.count_with.Goals as goal
 
 pub overflow_add-result : goal.overflow_add-result

@@ -1,6 +1,5 @@
 -- `label::entries_if` meets its contract: each return by the tests that led to it, which speak of the bits read.
 use Rattle.word.proofs.Tests.{tests}
-use borrow.Author.Rules.{rules}
 use Rattle.label.proofs.entries_if.Goals as goal
 
 pub returns-then-bits-t : goal.returns-then-bits-t

@@ -1,8 +1,7 @@
 -- `label::finish` meets its contract: each return by the tests that led to it, which speak of the bits read.
 use mathlib.Core.Path.{sym, ◌∙◌}
-use borrow.Author.Tests.{eq-eqb, ne_eqb, not-true, not-false}
+use borrow.Author.Tests.{eq-eqb, ne_eqb}
 use Rattle.label.specs.Label.{finished}
-use borrow.Author.Rules.{rules}
 use Rattle.label.proofs.finish.Goals as goal
 
 pub returns-then-c-bits : goal.returns-then-c-bits

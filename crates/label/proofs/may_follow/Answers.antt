@@ -1,7 +1,6 @@
 -- `label::may_follow` meets its contract: each return by the tests that led to it, which speak of the bits read.
 use Rattle.word.proofs.Tests.{tests}
 use Rattle.label.specs.HowTables.{may_follow}
-use borrow.Author.Rules.{rules}
 use Rattle.label.proofs.may_follow.Goals as goal
 
 pub returns-then-t-least : goal.returns-then-t-least

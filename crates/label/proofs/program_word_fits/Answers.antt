@@ -1,7 +1,6 @@
 -- `label::program_word_fits` meets its contract: each return by the tests that led to it, of the bits read.
 use Rattle.word.proofs.Tests.{tests}
 use Rattle.label.specs.Label.{program_word_fits}
-use borrow.Author.Rules.{rules}
 use Rattle.label.proofs.program_word_fits.Goals as goal
 
 pub returns-then-bits-ne0 : goal.returns-then-bits-ne0

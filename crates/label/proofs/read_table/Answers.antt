@@ -1,9 +1,7 @@
 -- `label::read_table` meets its contract: each return by the tests that led to it.
 use mathlib.Core.Path.{sym, ◌∙◌}
-use borrow.Author.Tests.{not-true, not-false}
 use Rattle.label.specs.HowTables.{table_read}
 use Rattle.label.proofs.Tables.{few, counted_few}
-use borrow.Author.Rules.{rules}
 use Rattle.label.proofs.read_table.Goals as goal
 
 pub returns-then-not-may_follow : goal.returns-then-not-may_follow

@@ -1,12 +1,9 @@
 -- `label::read_tables` meets its contract: at every turn the tables read so far stand, and are counted. The measure is how many are
 use Prim.Native.Nat.{◌≤◌, ◌-◌}
-use mathlib.Core.Path.{sym, ◌∙◌}
-use native.Mathlib.Omega.{arith}
-use borrow.Author.Rules.{rules}
 use lib.ListN.{get_or}
 use Rattle.word.specs.Word.{bits}
 use Rattle.label.specs.Tables.{table_words}
-use Rattle.label.proofs.TableTurns.{ReadTo, of_bad, read_none, word_short, word_more, word_bad, word_all}
+use Rattle.label.proofs.TableTurns.{ReadTo}
 use Rattle.label.proofs.read_tables.Given as goal
 
 -- left.

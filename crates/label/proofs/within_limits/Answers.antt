@@ -1,7 +1,6 @@
 -- `label::within_limits` meets its contract: each return by the tests that led to it.
 use Rattle.word.proofs.Tests.{tests}
 use Rattle.label.specs.Tables.{within_limits}
-use borrow.Author.Rules.{rules}
 use Rattle.label.proofs.within_limits.Goals as goal
 
 pub returns-then-c-gt-CHANNELS_MOST : goal.returns-then-c-gt-CHANNELS_MOST

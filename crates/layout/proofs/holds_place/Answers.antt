@@ -1,7 +1,6 @@
 -- `layout::holds_place` meets its contract: its tests are those of `holds`.
 use Rattle.word.proofs.Tests.{tests}
 use Rattle.layout.specs.Layout.{holds}
-use borrow.Author.Rules.{rules}
 use Rattle.layout.proofs.holds_place.Goals as goal
 
 pub returns-then-place : goal.returns-then-place

@@ -2,7 +2,6 @@
 use Rattle.lists.specs.Load.{list_words}
 use Rattle.word.proofs.Lists.{range-lent}
 use Rattle.layout.specs.Layout.{lists_in}
-use borrow.Author.Rules.{rules}
 use Rattle.layout.proofs.lists_of.Goals as goal
 
 pub returns : goal.returns

@@ -1,7 +1,6 @@
 -- `layout::map_numbers` meets its contract: each return by the tests that led to it.
 use Rattle.word.proofs.Lists.{range-lent}
 use Rattle.layout.specs.Layout.{map_numbers}
-use borrow.Author.Rules.{rules}
 use Rattle.layout.proofs.map_numbers.Goals as goal
 
 pub returns : goal.returns

@@ -2,7 +2,6 @@
 use Rattle.word.proofs.Lists.{range-lent}
 use Prim.Native.Nat.{◌+◌, ◌*◌}
 use Rattle.layout.specs.Layout.{place_words, place_in}
-use borrow.Author.Rules.{rules}
 use Rattle.layout.proofs.place_at.Goals as goal
 
 pub returns : goal.returns

@@ -1,11 +1,10 @@
 -- `layout::read_holders` meets its contract: after p turns the first p holders are those of the desk.
-use Prim.Native.Nat.{◌≤◌, ◌-◌}
-use mathlib.Core.Path.{◌≡◌, refl}
+use mathlib.Core.Path.{refl}
 use native.Mathlib.Omega.{arith}
-use lib.ListN.{length, length-set}
+use lib.ListN.{length-set}
 use Rattle.word.specs.Limits.{place_count}
-use Rattle.word.proofs.Fill.{filled, filled_none, filled_more, filled-all}
-use Rattle.layout.specs.Layout.{holder_in, holders}
+use Rattle.word.proofs.Fill.{filled_none, filled_more, filled-all}
+use Rattle.layout.specs.Layout.{holders}
 use Rattle.layout.proofs.read_holders.Goals as goal
 
 pub loop-p-init : goal.loop-p-init

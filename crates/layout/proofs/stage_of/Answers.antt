@@ -3,7 +3,6 @@ use mathlib.Core.Path.{ap, ◌∙◌}
 use Rattle.word.proofs.Lists.{range-lent}
 use Rattle.stage.specs.Stage.{stage_of}
 use Rattle.layout.specs.Layout.{stage_in}
-use borrow.Author.Rules.{rules}
 use Rattle.layout.proofs.stage_of.Goals as goal
 
 pub returns : goal.returns

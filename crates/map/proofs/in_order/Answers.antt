@@ -1,4 +1,4 @@
--- `map::in_order_lem` meets its contract: what is left of the core and the stretches not yet looked at decide.
+-- `map::in_order` meets its contract: what is left of the core and the stretches not yet looked at decide.
 use Rattle.std.proofs.Common.{arith}
 use Rattle.map.proofs.Order.{order_past, order_away, order_skip, order_long, order_next, order_starts, order_fails}
 use Rattle.map.proofs.Order.{order_more, order_ends}
@@ -15,9 +15,8 @@ returns-then-s-ne0 c =
     let w = c.wrapping_sub_u64-x in
     let a = c.stretch_at-s in
     let l = c.loop-r in
-    let f = c.struct_known-1.given in
     order_fails _ l.left _ l.r _ l.invariant.2 a.result (omega arith) a.ensures
-    (order_away _ l.left w.result _ _ l.invariant.1 w.ensures.value f.0.0.fits (omega arith) c.if-left-x.true
+    (order_away _ l.left w.result _ _ l.invariant.1 w.ensures.value (omega arith) (omega arith) c.if-left-x.true
     c.if-s-ne0.true)
 
 pub returns-then-core-x : goal.returns-then-core-x
@@ -25,20 +24,18 @@ returns-then-core-x c =
     let w = c.wrapping_sub_u64-x in
     let a = c.stretch_at-s in
     let l = c.loop-r in
-    let f = c.struct_known-1.given in
     order_fails _ l.left _ l.r _ l.invariant.2 a.result (omega arith) a.ensures
-    (order_past _ l.left w.result _ _ l.invariant.1 w.ensures.value f.0.0.fits (omega arith) c.if-core-x.true)
+    (order_past _ l.left w.result _ _ l.invariant.1 w.ensures.value (omega arith) (omega arith) c.if-core-x.true)
 
 pub loop-r-preserved-else-core-x : goal.loop-r-preserved-else-core-x
 loop-r-preserved-else-core-x c =
     let w = c.wrapping_sub_u64-x in
     let a = c.stretch_at-s in
-    let l = c.loop-r in
-    let f = c.struct_known-1.given in (
+    let l = c.loop-r in (
       omega arith,
       l.invariant.1,
       order_more _ l.left _ l.r _ l.invariant.2 l.left a.result (omega arith) a.ensures
-          (order_skip _ l.left w.result _ _ l.invariant.1 w.ensures.value f.0.0.fits (omega arith)
+          (order_skip _ l.left w.result _ _ l.invariant.1 w.ensures.value (omega arith) (omega arith)
           c.if-left-x.true c.if-s-ne0.false c.if-core-x.false),
     )
 
@@ -47,9 +44,8 @@ returns-then-x-s c =
     let w = c.wrapping_sub_u64-x in
     let a = c.stretch_at-s in
     let l = c.loop-r in
-    let f = c.struct_known-else-left-x-1.given in
     order_fails _ l.left _ l.r _ l.invariant.2 a.result (omega arith) a.ensures
-    (order_long _ l.left w.result _ _ l.invariant.1 w.ensures.value f.0.0.fits (omega arith) c.if-left-x.false
+    (order_long _ l.left w.result _ _ l.invariant.1 w.ensures.value (omega arith) (omega arith) c.if-left-x.false
     c.if-x-s.true)
 
 pub loop-r-preserved : goal.loop-r-preserved
@@ -57,12 +53,11 @@ loop-r-preserved c =
     let w = c.wrapping_sub_u64-x in
     let a = c.stretch_at-s in
     let l = c.loop-r in
-    let f = c.struct_known-else-left-x-2-1.given in
     let e = c.if-left-x.false in (
       omega arith,
       omega arith,
       order_more _ l.left _ l.r _ l.invariant.2 _ a.result (omega arith) a.ensures
-          (order_next _ l.left w.result _ _ l.invariant.1 w.ensures.value f.0.0.fits (omega arith) e c.if-x-s.false),
+          (order_next _ l.left w.result _ _ l.invariant.1 w.ensures.value (omega arith) (omega arith) e c.if-x-s.false),
     )
 
 pub returns : goal.returns

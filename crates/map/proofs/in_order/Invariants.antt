@@ -1,4 +1,4 @@
--- `map::in_order_lem` meets its contract: what is left of the core and the stretches not yet looked at decide.
+-- `map::in_order` meets its contract: what is left of the core and the stretches not yet looked at decide.
 use Rattle.std.proofs.Common.{◌≡◌, ◌-◌, ◌≤◌, drop}
 use Rattle.map.specs.Map.{map_of}
 use Rattle.map.specs.HowOrder.{in_order}

@@ -10,7 +10,6 @@ use Rattle.lists.proofs.Reading.{io-length}
 use Rattle.modification.specs.Assignments.{assignments_fit}
 use Rattle.modification.proofs.Channels.{take-numbers}
 use Prim.Native.Nat.{◌+◌}
-use borrow.Author.Rules.{rules}
 use Rattle.modification.proofs.assignments_fit.Goals as goal
 
 pub returns-then-g-l : goal.returns-then-g-l

@@ -1,11 +1,6 @@
 -- `modification::channels_fit` meets its contract: by the loop's invariant.
-use Prim.Native.Nat.{◌≤◌, ◌-◌}
-use mathlib.Core.Path.{◌≡◌, refl}
+use mathlib.Core.Path.{refl}
 use native.Mathlib.Omega.{arith}
-use lib.ListN.{drop}
-use Rattle.word.specs.Lists.{every}
-use Rattle.lists.specs.HowKept.{numbers_in}
-use Rattle.modification.specs.Assignments.{is_channel}
 use Rattle.modification.proofs.Channels.{channels_more, channels_fails, channels_ends}
 use Rattle.modification.proofs.channels_fit.Goals as goal
 

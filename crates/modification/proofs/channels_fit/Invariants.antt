@@ -1,12 +1,10 @@
 -- `modification::channels_fit` meets its contract: by the loop's invariant.
 use Prim.Native.Nat.{◌≤◌, ◌-◌}
-use mathlib.Core.Path.{◌≡◌, refl}
-use native.Mathlib.Omega.{arith}
+use mathlib.Core.Path.{◌≡◌}
 use lib.ListN.{drop}
 use Rattle.word.specs.Lists.{every}
 use Rattle.lists.specs.HowKept.{numbers_in}
 use Rattle.modification.specs.Assignments.{is_channel}
-use Rattle.modification.proofs.Channels.{channels_more, channels_fails, channels_ends}
 use Rattle.modification.proofs.channels_fit.Given as goal
 
 abbrev pub invariant-loop-k : goal.invariant-loop-k

@@ -1,7 +1,6 @@
 -- `modification::length_spot` meets its contract: the spot of the word that is two behind the entry's first.
 use Prim.Native.Nat.{ℕ, ◌+◌}
 use mathlib.Core.Path.{ap, ◌∙◌}
-use borrow.Author.Rules.{rules}
 use Rattle.modification.specs.Entries.{spot_of}
 use Rattle.modification.proofs.length_spot.Goals as goal
 

@@ -14,7 +14,6 @@ use Rattle.old_seal.specs.OldRule.{old_checksum}
 use Rattle.old_seal.specs.Reseal.{seal_place, old_verdict, sealed_anew}
 use Rattle.old_seal.proofs.OldRule.{old-total}
 use Rattle.old_seal.proofs.Promises.{seal_place_small, refused_reseals, passed_reseals}
-use borrow.Author.Rules.{rules}
 use Rattle.old_seal.proofs.reseal.Goals as goal
 
 -- what is known once the words are summed

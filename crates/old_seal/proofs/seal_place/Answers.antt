@@ -1,7 +1,6 @@
 -- `old_seal::seal_place` meets its contract: each return by the test that led to it.
 use Rattle.word.proofs.Tests.{tests}
 use Rattle.old_seal.specs.Reseal.{seal_place}
-use borrow.Author.Rules.{rules}
 use Rattle.old_seal.proofs.seal_place.Goals as goal
 
 pub returns-then-index-eq0 : goal.returns-then-index-eq0

@@ -1,4 +1,4 @@
--- `rooms::held_by_lem` meets its contract, by what `how_many` ensures.
+-- `rooms::held_by` meets its contract, by what `how_many` ensures.
 use Rattle.rooms.specs.Rooms.{held}
 use Rattle.rooms.proofs.held_by.Goals as goal
 

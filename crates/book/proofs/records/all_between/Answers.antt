@@ -1,10 +1,6 @@
 -- `book::records::all_between` meets its contract: by the loop's invariant.
-use Prim.Native.Nat.{◌≤◌, ◌-◌}
-use mathlib.Core.Path.{◌≡◌, refl}
+use mathlib.Core.Path.{refl}
 use native.Mathlib.Omega.{arith}
-use lib.ListN.{length, drop}
-use Rattle.word.specs.Lists.{every}
-use Rattle.book.specs.Book.{between}
 use Rattle.book.proofs.Record.{between_more, between_low, between_high, between_ends}
 use Rattle.book.proofs.records.all_between.Goals as goal
 

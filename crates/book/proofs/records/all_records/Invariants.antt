@@ -1,10 +1,8 @@
 -- `book::records::all_records` meets its contract: by the loop's invariant.
 use Prim.Native.Nat.{◌≤◌, ◌-◌}
-use mathlib.Core.Path.{◌≡◌, refl, sym, ◌∙◌}
-use native.Mathlib.Omega.{arith}
-use borrow.Author.Tests.{not-true, not-false}
+use mathlib.Core.Path.{◌≡◌}
 use Rattle.book.specs.Book.{record_count, all_records}
-use Rattle.book.proofs.Record.{length_record, records_from, records_more, records_fails, records_ends}
+use Rattle.book.proofs.Record.{records_from}
 use Rattle.book.proofs.records.all_records.Given as goal
 
 abbrev pub invariant-loop-i : goal.invariant-loop-i

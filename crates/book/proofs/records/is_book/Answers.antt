@@ -1,5 +1,4 @@
 -- `book::records::is_book` meets its contract: each return by the tests that led to it.
-use borrow.Author.Rules.{rules}
 use Rattle.word.proofs.Tests.{tests}
 use Rattle.book.specs.Book.{is_book}
 use Rattle.book.proofs.records.is_book.Goals as goal

@@ -1,7 +1,5 @@
 -- `book::records::is_record` meets its contract: each return by the tests that led to it.
 use mathlib.Core.Path.{sym, ◌∙◌}
-use borrow.Author.Tests.{not-true, not-false}
-use borrow.Author.Rules.{rules}
 use Rattle.word.specs.Lists.{range}
 use Rattle.book.specs.Book.{is_record}
 use Rattle.book.proofs.records.is_record.Goals as goal

@@ -1,6 +1,5 @@
 -- `book::records::read_number` meets its contract: each digit is one, so six of them fit.
 use native.Mathlib.Omega.{arith}
-use borrow.Author.Rules.{rules}
 use Rattle.book.specs.Book.{decimal}
 use Rattle.book.proofs.Record.{digits_are, digits_in_lem}
 use Rattle.book.proofs.records.read_number.Goals as goal

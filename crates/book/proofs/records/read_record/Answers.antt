@@ -1,6 +1,5 @@
 -- `book::records::read_record` meets its contract: a record of a book has its digits.
 use native.Mathlib.Omega.{arith}
-use borrow.Author.Rules.{rules}
 use Rattle.book.specs.Book.{assignment_of}
 use Rattle.book.proofs.Record.{length_record, record_digits, book_record}
 use Rattle.book.proofs.records.read_record.Goals as goal

@@ -1,6 +1,5 @@
 -- `book::records::record_at` meets its contract: the part that is lent is the record's bytes.
 use Prim.Native.Nat.{◌*◌}
-use borrow.Author.Rules.{rules}
 use Rattle.word.proofs.Lists.{range-lent}
 use Rattle.book.specs.Book.{record_bytes, record_at}
 use Rattle.book.proofs.records.record_at.Goals as goal

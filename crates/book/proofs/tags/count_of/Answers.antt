@@ -1,7 +1,6 @@
 -- `book::tags::count_of` meets its contract: each arm by its kind.
 use mathlib.Core.Path.{sym, ap}
 use Rattle.book.specs.Tags.{entries_of}
-use borrow.Author.Rules.{rules}
 use Rattle.book.proofs.tags.count_of.Goals as goal
 
 pub returns-in-Peripheral : goal.returns-in-Peripheral

@@ -1,13 +1,10 @@
 -- `book::tags::read_kind` meets its contract: at every turn the tags of the entries passed are written.
-use Prim.Native.Nat.{◌+◌, ◌≤◌, ◌-◌}
-use mathlib.Core.Path.{◌≡◌, sym, ◌∙◌}
-use lib.ListN.{length, length-set}
-use Rattle.word.proofs.Lists.{copied, copied_none, copied_more, copied_all}
-use Rattle.book.specs.Tags.{tags_of}
-use Rattle.book.specs.HowKept.{kept_words, with_tags}
-use Rattle.book.proofs.Kept.{few_entries, start_most, lent_in, tags_long, tags_at}
+use mathlib.Core.Path.{sym, ◌∙◌}
+use lib.ListN.{length-set}
+use Rattle.word.proofs.Lists.{copied_none, copied_more, copied_all}
+use Rattle.book.specs.HowKept.{with_tags}
+use Rattle.book.proofs.Kept.{few_entries, lent_in, tags_long, tags_at}
 use native.Mathlib.Omega.{arith}
-use borrow.Author.Rules.{rules}
 use Rattle.book.proofs.tags.read_kind.Goals as goal
 
 pub loop-j-init : goal.loop-j-init

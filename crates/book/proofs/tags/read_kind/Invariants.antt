@@ -1,13 +1,10 @@
 -- `book::tags::read_kind` meets its contract: at every turn the tags of the entries passed are written.
-use Prim.Native.Nat.{◌+◌, ◌≤◌, ◌-◌}
-use mathlib.Core.Path.{◌≡◌, sym, ◌∙◌}
-use lib.ListN.{length, length-set}
-use Rattle.word.proofs.Lists.{copied, copied_none, copied_more, copied_all}
+use Prim.Native.Nat.{◌≤◌, ◌-◌}
+use mathlib.Core.Path.{◌≡◌}
+use lib.ListN.{length}
+use Rattle.word.proofs.Lists.{copied}
 use Rattle.book.specs.Tags.{tags_of}
-use Rattle.book.specs.HowKept.{kept_words, with_tags}
-use Rattle.book.proofs.Kept.{few_entries, start_most, tags_long, tags_at}
-use native.Mathlib.Omega.{arith}
-use borrow.Author.Rules.{rules}
+use Rattle.book.specs.HowKept.{kept_words}
 use Rattle.book.proofs.tags.read_kind.Given as goal
 
 abbrev pub invariant-loop-j : goal.invariant-loop-j

@@ -1,6 +1,5 @@
 -- `book::tags::read_tags` meets its contract: kind after kind.
 use Rattle.book.specs.HowKept.{with_all_tags}
-use borrow.Author.Rules.{rules}
 use Rattle.book.proofs.tags.read_tags.Goals as goal
 
 pub returns : goal.returns

@@ -1,7 +1,6 @@
 -- `book::tags::start_of` meets its contract: each arm by its kind.
 use mathlib.Core.Path.{sym, ap}
 use Rattle.book.specs.HowKept.{start_of}
-use borrow.Author.Rules.{rules}
 use Rattle.book.proofs.tags.start_of.Goals as goal
 
 pub returns-in-Peripheral : goal.returns-in-Peripheral

@@ -3,7 +3,6 @@ use Prim.Native.Nat.{ℕ, ◌+◌}
 use mathlib.Core.Path.{ap, ◌∙◌}
 use Rattle.front.specs.Front.{entry_word}
 use Rattle.book.specs.Tags.{tag_of}
-use borrow.Author.Rules.{rules}
 use Rattle.book.proofs.tags.tag_of.Goals as goal
 
 pub returns-in-Peripheral : goal.returns-in-Peripheral

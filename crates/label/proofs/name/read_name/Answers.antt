@@ -1,8 +1,6 @@
 -- `label::name::read_name` meets its contract: a spelling goes wrong in the word of the first wrong character.
 use mathlib.Core.Path.{sym, ◌∙◌}
-use native.Mathlib.Omega.{arith}
 use Rattle.label.proofs.Spelt.{six, name_first, name_second, name_right}
-use borrow.Author.Rules.{rules}
 use Rattle.label.proofs.name.read_name.Goals as goal
 
 pub returns-then-is_wrong : goal.returns-then-is_wrong

@@ -1,6 +1,5 @@
 -- `label::name::spell` meets its contract: each return by the tests that led to it.
 use Rattle.label.specs.HowSpelling.{next_spelling}
-use borrow.Author.Rules.{rules}
 use Rattle.label.proofs.name.spell.Goals as goal
 
 pub returns-in-First : goal.returns-in-First

@@ -1,7 +1,6 @@
 -- `label::name::spell_first` meets its contract: each return by the tests that led to it.
 use mathlib.Core.Path.{sym, ◌∙◌}
 use Rattle.label.specs.HowSpelling.{next_spelling}
-use borrow.Author.Rules.{rules}
 use Rattle.label.proofs.name.spell_first.Goals as goal
 
 pub returns-then-letter_or_digit : goal.returns-then-letter_or_digit

@@ -2,7 +2,6 @@
 use mathlib.Core.Path.{sym, ◌∙◌}
 use Rattle.word.proofs.Tests.{tests}
 use Rattle.label.specs.HowSpelling.{next_spelling}
-use borrow.Author.Rules.{rules}
 use Rattle.label.proofs.name.spell_inside.Goals as goal
 
 pub returns-then-c-eq-SPACE : goal.returns-then-c-eq-SPACE

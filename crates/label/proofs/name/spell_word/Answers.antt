@@ -1,10 +1,6 @@
 -- `label::name::spell_word` meets its contract: by the loop's invariant.
-use Prim.Native.Nat.{◌≤◌}
-use mathlib.Core.Path.{◌≡◌, refl}
+use mathlib.Core.Path.{refl}
 use native.Mathlib.Omega.{arith}
-use borrow.Author.Rules.{rules}
-use Rattle.block.specs.Fieldata.{characters}
-use Rattle.label.specs.HowSpelling.{spelled}
 use Rattle.label.proofs.Spelt.{spelled_more, spelled_end}
 use Rattle.label.proofs.name.spell_word.Goals as goal
 

@@ -1,0 +1,15 @@
+-- `records::read_entries` meets its contract: at every turn the entries of the tables passed fit.
+use Prim.Native.Nat.{◌≤◌, ◌-◌}
+use mathlib.Core.Path.{sym, ◌∙◌}
+use native.Mathlib.Omega.{arith}
+use borrow.Author.Rules.{rules}
+use Rattle.lists.specs.Load.{core_tables}
+use Rattle.lists.proofs.Reading.{core-length}
+use Rattle.records.proofs.Turns.{PassedTo, passed_none, passed_more, passed_fails, passed_all}
+use Rattle.records.proofs.read_entries.Given as goal
+
+abbrev pub invariant-loop-t : goal.invariant-loop-t
+invariant-loop-t l = (l.t ≤ l.g.tables) × PassedTo l.g.io (core_tables l.g l.lists) l.exact l.b l.block l.t
+
+abbrev pub decreases-loop-t : goal.decreases-loop-t
+decreases-loop-t l = l.g.tables - l.t
