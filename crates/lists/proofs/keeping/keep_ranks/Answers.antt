@@ -1,11 +1,11 @@
 -- `lists::keeping::keep_ranks` meets its contract: the words alone (ranking_full), or the two calls one after the other
+-- (ranking_kept).
 use Rattle.std.proofs.Common.{sym, ap, ◌∙◌, arith}
 use Rattle.lists.specs.HowKeep.{ranked}
 use Rattle.lists.proofs.Lent.{lent_length}
 use Rattle.lists.proofs.Ranking.{ranking_below, ranking_kept, ranking_full}
 use Rattle.lists.proofs.keeping.keep_ranks.Goals as goal
 
--- (ranking_kept).
 pub rank_words-requires : goal.rank_words-requires
 rank_words-requires c = ranking_below _ _ c.args.ranks.now c.requires _ c.requires.ranks
 

@@ -1,4 +1,5 @@
 -- `lists::tables::fill_all` meets its contract: at every turn what is written and the words of the tables that are left are all of
+-- them.
 use Rattle.std.proofs.Common.{refl, arith, length-set}
 use Rattle.word.proofs.Every.{every-place}
 use Rattle.lists.specs.Obey.{tables_of, no_table}

@@ -1,10 +1,10 @@
 -- `lists::tables::fill_some` meets its contract: at every turn what is written and the words of the tables that are left are all of
+-- them.
 use Rattle.std.proofs.Common.{◌≡◌, ◌-◌, ◌/◌, ◌≤◌, ◌++◌, length, take, drop}
 use Rattle.lists.specs.Obey.{tables_of}
 use Rattle.lists.specs.HowKeep.{words_from}
 use Rattle.lists.proofs.tables.fill_some.Given as goal
 
--- them.
 abbrev pub invariant-loop-k : goal.invariant-loop-k
 invariant-loop-k l = (l.k ≤ length l.tables / 2)
     × (l.n ≤ l.k)
