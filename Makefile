@@ -20,22 +20,22 @@ help:
 	@echo 'make test      the tests outside Rattle: the library by programs in C, its stack, the header, the install, the programs'
 	@echo 'make fuzz SECONDS=60    the library and the second loader compared for this many seconds, with a seed from the clock'
 	@echo 'make check     the gate: every crate proved from nothing, every wrong loader refused, and the tests'
-	@echo 'make clean     removes build/ and target/: everything is then proved again'
+	@echo 'make clean     removes build/ and the out/ of each crate: everything is then proved again'
 	@echo 'What is not proved yet is proved first, which takes 4 to 7 minutes on two cores. It needs rt, the Rattle kit.'
 
 # what a crate is made from: the files of it and of the crates that it needs, their folders (a file may be gone), the list of crates
 # and the kit
-kit := $(patsubst %/docs/START-HERE.md,%,$(shell command -v rt >/dev/null && rt doc))
+kit := $(patsubst %/START-HERE.md,%,$(shell command -v rt >/dev/null && rt doc))
 sources = crates.txt $(wildcard $(kit)/KIT-ID) \
-	$(shell find $(patsubst %,crates/%,$(shell tools/prove --needs $(1))) -name must-fail -prune -o -print)
+	$(shell find $(wildcard $(foreach part,src specs proofs,$(patsubst %,crates/%/$(part),$(shell tools/prove --needs $(1))))))
 
 lib: build/libclamp.a build/clamp.h
 	@echo 'build/libclamp.a and build/clamp.h: ready'
 
-build/libclamp.a: $(call sources,clamp)
-	@tools/prove --library clamp
+build/libclamp.a: $(call sources,clamp_c)
+	@tools/prove clamp_c
 	@mkdir -p build
-	@cp target/staticlib/libclamp.a build/
+	@cp crates/clamp_c/out/libclamp_c.a $@
 
 build/clamp.h: include/clamp.h
 	@mkdir -p build
@@ -49,24 +49,17 @@ build/assign: $(call sources,assign)
 build/load_printer build/reseal build/assign:
 	@tools/prove $(@F)
 	@mkdir -p build
-	@cp target/bin/$(@F) build/
-
-# Run as rt runs a program: under the kit's loader and C library and, where the machine is not an x86-64, under the kit's emulator.
-toolchain = $(kit)/on/$(shell uname -m)/toolchain
-define run
-@command -v rt >/dev/null || { echo '$@: the program rt of the Rattle kit is not on the path' >&2; exit 2; }
-@$(wildcard $(toolchain)/bin/qemu-x86_64) $(toolchain)/lib/ld-linux-x86-64.so.2 --library-path $(toolchain)/lib $<
-endef
+	@cp crates/$(@F)/out/$(@F) build/
 
 load: build/load_printer
-	$(run)
+	@$<
 
 reseal: build/reseal
-	$(run)
+	@$<
 
 # make hands BOOK on in the environment; where there is none the program says how it is used
 assign: build/assign
-	$(run) $${BOOK:+"$$BOOK"}
+	@$< $${BOOK:+"$$BOOK"}
 
 deck:
 	@$(MAKE) -s load <crates/load_printer/stdin
@@ -84,4 +77,4 @@ check:
 	@bash .ci/run
 
 clean:
-	@rm -rf build target
+	@rm -rf build crates/*/out

@@ -1,4 +1,5 @@
-// The library that the emulator links: the calls with C linkage, and nothing else. Answers are packed as docs/ANSWERS.md says.
+// The calls of the library that the emulator links, and nothing else: clamp_c gives each of them C linkage. Answers are packed as
+// docs/ANSWERS.md says.
 #![tactic(auto)]
 
 ghost use Rattle.std.specs.Prelude.{◌≡◌, []};
@@ -18,24 +19,21 @@ use layout::DESK_WORDS;
 use word::{Absolute, Area};
 
 // The fixed length of a desk.
-#[unsafe(no_mangle)]
-pub extern "C" fn clamp_desk_words() -> u64
+pub fn clamp_desk_words() -> u64
     ensures { result ≡ desk_words }
 {
     DESK_WORDS as u64
 }
 
 // A fresh desk, from the core length and the map's numbers.
-#[unsafe(no_mangle)]
-pub extern "C" fn clamp_make(desk: &mut [u64], core: u64, numbers: &[u64]) -> u64
+pub fn clamp_make(desk: &mut [u64], core: u64, numbers: &[u64]) -> u64
     ensures { Returned (make_of desk.old core numbers.now) result desk.new [] }
 {
     calls::pack(calls::make::make_desk(desk, core, numbers))
 }
 
 // A place for a load: its room, its area, its two lists.
-#[unsafe(no_mangle)]
-pub extern "C" fn clamp_open(
+pub fn clamp_open(
     desk: &mut [u64],
     core: &mut [u64],
     room: u64,
@@ -56,22 +54,14 @@ pub extern "C" fn clamp_open(
 }
 
 // A place given back.
-#[unsafe(no_mangle)]
-pub extern "C" fn clamp_release(desk: &mut [u64], core: u64, room: u64, place: u64) -> u64
+pub fn clamp_release(desk: &mut [u64], core: u64, room: u64, place: u64) -> u64
     ensures { Returned (release_of desk.old core room place) result desk.new [] }
 {
     calls::pack(calls::release::release_place(desk, core, room, place))
 }
 
 // A block for a load.
-#[unsafe(no_mangle)]
-pub extern "C" fn clamp_feed(
-    desk: &mut [u64],
-    core: &mut [u64],
-    room: u64,
-    place: u64,
-    block: &[u64],
-) -> u64
+pub fn clamp_feed(desk: &mut [u64], core: &mut [u64], room: u64, place: u64, block: &[u64]) -> u64
     ensures { Returned (feed_of desk.old core.old room place block.now)
         result desk.new core.new }
 {
@@ -79,8 +69,7 @@ pub extern "C" fn clamp_feed(
 }
 
 // A block of the checksum rule before #104, sealed anew by the rule in force.
-#[unsafe(no_mangle)]
-pub extern "C" fn clamp_reseal(block: &mut [u64], index: u64) -> u64
+pub fn clamp_reseal(block: &mut [u64], index: u64) -> u64
     ensures { ResealReturned index block.old result block.new }
 {
     match old_seal::reseal(block, index) {
@@ -90,8 +79,7 @@ pub extern "C" fn clamp_reseal(block: &mut [u64], index: u64) -> u64
 }
 
 // What a file needs of the lists, by its label.
-#[unsafe(no_mangle)]
-pub extern "C" fn clamp_needs(label: &[u64]) -> u64
+pub fn clamp_needs(label: &[u64]) -> u64
     ensures { result ≡ file_packed (needs_answer (label_block label.now)) }
 {
     match front::read_label_block(label) {
@@ -101,13 +89,7 @@ pub extern "C" fn clamp_needs(label: &[u64]) -> u64
 }
 
 // The two lists for open, from a facility book and the front of a file.
-#[unsafe(no_mangle)]
-pub extern "C" fn clamp_assign(
-    book: &[u8],
-    blocks: &[u64],
-    io: &mut [u64],
-    tables: &mut [u64],
-) -> u64
+pub fn clamp_assign(book: &[u8], blocks: &[u64], io: &mut [u64], tables: &mut [u64]) -> u64
     ensures { AssignReturned book.now blocks.now io.old tables.old
         result io.new tables.new }
 {

@@ -2,7 +2,6 @@
 use Rattle.feed.proofs.Waiting.{entry_block_small, label_met, entry_met}
 use mathlib.Core.Path.{refl}
 use Rattle.feed.specs.Block.{due_step}
-use borrow.Author.Rules.{rules}
 use Rattle.feed.proofs.due_step.Goals as goal
 
 pub label_step-requires : goal.label_step-requires

@@ -1,12 +1,10 @@
 -- `feed::feed_block` meets its contract: refusals 1, 2 and 4, refusal 9, or what `feed_held` leaves.
 use mathlib.Core.Path.{refl, sym, ◌∙◌}
 use native.Mathlib.Omega.{arith}
-use borrow.Author.Tests.{not-true, not-false}
 use Rattle.layout.proofs.Places.{holds-inside, holds_holder}
 use Rattle.desk.proofs.Facts.{sound-long}
 use Rattle.calls.proofs.Entry.{entry_shows, entered-refused, entered_on}
 use Rattle.feed.specs.Feed.{feed_of}
-use borrow.Author.Rules.{rules}
 use Rattle.feed.proofs.feed_block.Goals as goal
 
 pub returns-then-n-ne0 : goal.returns-then-n-ne0

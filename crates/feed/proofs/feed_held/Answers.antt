@@ -6,7 +6,6 @@ use Rattle.layout.proofs.Places.{place-length}
 use Rattle.feed.specs.Feed.{held_of, checked_of}
 use Rattle.feed.proofs.Held.{held-kept_waits}
 use Rattle.feed.proofs.Fed.{verdict_pass}
-use borrow.Author.Rules.{rules}
 use Rattle.feed.proofs.feed_held.Goals as goal
 
 pub place_at-requires : goal.place_at-requires

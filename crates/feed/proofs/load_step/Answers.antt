@@ -1,8 +1,6 @@
 -- `feed::load_step`: each return by the test that led to it.
 use mathlib.Core.Path.{refl, sym, ◌∙◌}
-use borrow.Author.Tests.{not-true, not-false}
 use Rattle.feed.specs.Block.{block_step}
-use borrow.Author.Rules.{rules}
 use Rattle.feed.proofs.load_step.Goals as goal
 
 pub returns-then-not-of_record : goal.returns-then-not-of_record

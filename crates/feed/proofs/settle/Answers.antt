@@ -1,7 +1,6 @@
 -- `feed::settle` meets its contract: each return by the tests that led to it.
 use Rattle.feed.specs.Feed.{settled_of}
 use mathlib.Core.Path.{refl}
-use borrow.Author.Rules.{rules}
 use Rattle.feed.proofs.settle.Goals as goal
 
 pub returns-in-More : goal.returns-in-More

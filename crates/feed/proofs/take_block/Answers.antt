@@ -3,7 +3,6 @@ use native.Mathlib.Omega.{arith}
 use Rattle.layout.proofs.Places.{place-length}
 use Rattle.feed.specs.Feed.{load_in}
 use Rattle.feed.proofs.Fed.{taken_met}
-use borrow.Author.Rules.{rules}
 use Rattle.feed.proofs.take_block.Goals as goal
 
 pub own_of-own-requires : goal.own_of-own-requires

@@ -1,6 +1,5 @@
 -- `feed::write_stage` meets its contract: each return by the tests that led to it.
 use Rattle.feed.specs.Feed.{staged}
-use borrow.Author.Rules.{rules}
 use Rattle.feed.proofs.write_stage.Goals as goal
 
 pub returns : goal.returns

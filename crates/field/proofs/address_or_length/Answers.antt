@@ -1,7 +1,6 @@
 -- `field::address_or_length` meets its contract: either way out by the law of a kept table.
 use Rattle.field.proofs.Field.{address-or-length-kept}
 use mathlib.Core.Bool.{true, false}
-use borrow.Author.Rules.{rules}
 use Rattle.field.proofs.address_or_length.Goals as goal
 
 pub returns-then-sized : goal.returns-then-sized

@@ -1,7 +1,6 @@
 -- `field::field_step` meets its contract: a refusal gets its half and bit.
 use mathlib.Core.Path.{sym, ◌∙◌}
 use Rattle.field.specs.Field.{field_step}
-use borrow.Author.Rules.{rules}
 use Rattle.field.proofs.field_step.Goals as goal
 
 pub returns-in-Word : goal.returns-in-Word

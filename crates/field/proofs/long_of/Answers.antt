@@ -3,7 +3,6 @@ use mathlib.Core.Path.{sym, ◌∙◌}
 use borrow.Author.Tests.{le-ltb}
 use Rattle.word.proofs.Tests.{tests}
 use Rattle.field.specs.Field.{long}
-use borrow.Author.Rules.{rules}
 use Rattle.field.proofs.long_of.Goals as goal
 
 pub returns-then-amount-lt-LONG_LEAST : goal.returns-then-amount-lt-LONG_LEAST

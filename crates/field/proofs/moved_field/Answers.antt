@@ -1,6 +1,5 @@
 -- `field::moved_field` meets its contract: what `valued_of` gives for the address that `placed` gives.
 use Rattle.field.specs.Field.{moved_field}
-use borrow.Author.Rules.{rules}
 use Rattle.field.proofs.moved_field.Goals as goal
 
 pub returns : goal.returns

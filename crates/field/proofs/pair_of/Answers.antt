@@ -4,7 +4,6 @@ use borrow.Author.Tests.{lt-ltb, le-ltb}
 use Rattle.word.proofs.Tests.{tests}
 use Rattle.field.specs.Field.{pair}
 use Rattle.lists.proofs.Reading.{core-length}
-use borrow.Author.Rules.{rules}
 use Rattle.field.proofs.pair_of.Goals as goal
 
 pub returns-then-is_set : goal.returns-then-is_set

@@ -1,7 +1,6 @@
 -- `field::plus_or_minus` meets its contract: each way out by the tests on its way.
 use Rattle.field.specs.Field.{plus_or_minus}
 use Rattle.word.proofs.Tests.{tests}
-use borrow.Author.Rules.{rules}
 use Rattle.field.proofs.plus_or_minus.Goals as goal
 
 pub returns-then-amount-base : goal.returns-then-amount-base

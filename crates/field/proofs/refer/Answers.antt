@@ -2,7 +2,6 @@
 use Rattle.field.specs.Field.{referred}
 use Rattle.word.proofs.Tests.{tests}
 use Rattle.lists.proofs.Reading.{core-length}
-use borrow.Author.Rules.{rules}
 use Rattle.field.proofs.refer.Goals as goal
 
 pub returns-then-k-g : goal.returns-then-k-g

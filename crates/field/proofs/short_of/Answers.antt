@@ -2,7 +2,6 @@
 use mathlib.Core.Path.{sym, ◌∙◌}
 use Rattle.word.proofs.Tests.{tests}
 use Rattle.field.specs.Field.{short}
-use borrow.Author.Rules.{rules}
 use Rattle.field.proofs.short_of.Goals as goal
 
 pub returns-then-minus_zero : goal.returns-then-minus_zero

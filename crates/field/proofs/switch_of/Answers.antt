@@ -2,7 +2,6 @@
 use borrow.Author.Tests.{lt-leb}
 use Rattle.word.proofs.Tests.{tests}
 use Rattle.field.specs.Field.{switch}
-use borrow.Author.Rules.{rules}
 use Rattle.field.proofs.switch_of.Goals as goal
 
 pub returns-then-channels-k : goal.returns-then-channels-k

@@ -2,7 +2,6 @@
 use Rattle.field.specs.Field.{unit}
 use Rattle.word.proofs.Tests.{tests}
 use Rattle.lists.proofs.Reading.{io-length}
-use borrow.Author.Rules.{rules}
 use Rattle.field.proofs.unit_of.Goals as goal
 
 pub returns-then-k-channels : goal.returns-then-k-channels

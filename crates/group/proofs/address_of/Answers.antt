@@ -1,7 +1,6 @@
 -- `address_of`: by section, from what the two conversions ensure.
 use native.Mathlib.Omega.{arith}
 use Rattle.group.specs.Group.{address_of}
-use borrow.Author.Rules.{rules}
 use Rattle.group.proofs.address_of.Goals as goal
 
 pub from_table-requires : goal.from_table-requires

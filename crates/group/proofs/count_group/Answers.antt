@@ -1,7 +1,6 @@
 -- `count_group`: from what its callees ensure; the count says which answer stands.
 use native.Mathlib.Omega.{arith}
 use Rattle.group.proofs.Steps.{lent_ready, fault_ready, bits_most, counted_done, counted_wrong, counted_stop}
-use borrow.Author.Rules.{rules}
 use Rattle.group.proofs.count_group.Goals as goal
 
 pub change_group-requires : goal.change_group-requires

@@ -1,7 +1,6 @@
 -- `fill_group`: the tests of the code are those of the definition.
 use borrow.Author.Tests.{lt-leb, le-leb}
 use Rattle.group.specs.HowGroup.{fill_of}
-use borrow.Author.Rules.{rules}
 use Rattle.group.proofs.fill_group.Goals as goal
 
 pub returns-then-i-g-gt-LAST_WORD : goal.returns-then-i-g-gt-LAST_WORD

@@ -11,7 +11,6 @@ use Rattle.word.specs.declared.Absolute.{Absolute}
 use Rattle.field.specs.Field.{assigned_by}
 use Rattle.program.specs.declared.Group.{Group}
 use Rattle.group.specs.Group.{InArea, words_lie, address_of, read_outcome, group_step}
-use Rattle.group.specs.HowGroup.{Sized}
 use Rattle.group.proofs.Places.{words_lie_lem, group_sized}
 use Rattle.group.proofs.Steps.{outcome_filled, outcome_outside}
 use borrow.Author.Rules.{rules}

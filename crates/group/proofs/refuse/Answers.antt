@@ -1,7 +1,6 @@
 -- `refuse`: zeros in all of the words.
 use mathlib.Core.Path.{refl, ◌∙◌}
 use Rattle.group.proofs.Steps.{cleared-whole}
-use borrow.Author.Rules.{rules}
 use Rattle.group.proofs.refuse.Goals as goal
 
 pub returns : goal.returns

@@ -1,6 +1,5 @@
 -- `words_lie`: by section and bit 16.
 use Rattle.group.specs.Group.{words_lie}
-use borrow.Author.Rules.{rules}
 use Rattle.group.proofs.words_lie.Goals as goal
 
 pub returns-then-g : goal.returns-then-g

@@ -1,8 +1,6 @@
 -- `count_fits`: the cursor sees the group's bits, and the indicators of the words that are left, read from its place, end where
 use Prim.Native.Nat.{◌≤◌, ◌-◌}
-use native.Mathlib.Omega.{arith}
-use Rattle.indicator.proofs.Turns.{Counts, counts_start, counts_full, counts_on, counts_end}
-use borrow.Author.Rules.{rules}
+use Rattle.indicator.proofs.Turns.{Counts}
 use Rattle.indicator.proofs.count_fits.Given as goal
 
 -- those of all words end.

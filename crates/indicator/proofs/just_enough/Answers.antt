@@ -1,6 +1,5 @@
 -- `just_enough_lem`: the tests of the code are those of the definition.
 use borrow.Author.Tests.{le-leb, lt-leb}
-use borrow.Author.Rules.{rules}
 use Rattle.indicator.proofs.just_enough.Goals as goal
 
 pub returns-then-bits-n : goal.returns-then-bits-n

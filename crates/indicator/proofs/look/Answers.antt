@@ -2,7 +2,6 @@
 use mathlib.Core.Path.{sym, ◌∙◌}
 use Rattle.word.proofs.Tests.{tests}
 use Rattle.indicator.specs.HowCursor.{look_of}
-use borrow.Author.Rules.{rules}
 use Rattle.indicator.proofs.look.Goals as goal
 
 pub returns-then-ahead-lt-NEXT_BIT : goal.returns-then-ahead-lt-NEXT_BIT

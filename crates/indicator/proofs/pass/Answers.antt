@@ -2,7 +2,6 @@
 use native.Mathlib.Omega.{arith}
 use Rattle.indicator.proofs.Places.{width_most}
 use Rattle.indicator.specs.HowCursor.{past_of}
-use borrow.Author.Rules.{rules}
 use Rattle.indicator.proofs.pass.Goals as goal
 
 pub pass_bits-requires : goal.pass_bits-requires

@@ -1,6 +1,5 @@
 -- `pass_field`: from what its callees ensure.
 use Rattle.indicator.specs.HowCursor.{past_field}
-use borrow.Author.Rules.{rules}
 use Rattle.indicator.proofs.pass_field.Goals as goal
 
 pub returns : goal.returns

@@ -2,7 +2,6 @@
 use native.Mathlib.Omega.{arith}
 use Rattle.indicator.specs.HowCursor.{past_word}
 use Rattle.indicator.proofs.Reading.{past_left}
-use borrow.Author.Rules.{rules}
 use Rattle.indicator.proofs.pass_word.Goals as goal
 
 pub pass_field-requires : goal.pass_field-requires

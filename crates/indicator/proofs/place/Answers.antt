@@ -1,7 +1,6 @@
 -- `place`: from what `beyond_last` ensures.
 use native.Mathlib.Omega.{arith}
 use Rattle.indicator.proofs.Reading.{beyond_most}
-use borrow.Author.Rules.{rules}
 use Rattle.indicator.proofs.place.Goals as goal
 
 pub overflow_add-result : goal.overflow_add-result

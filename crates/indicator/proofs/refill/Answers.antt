@@ -6,7 +6,6 @@ use Rattle.indicator.specs.HowCursor.{place_of, refilled}
 use Rattle.indicator.proofs.Bits.{number_below_lem}
 use Rattle.indicator.proofs.Reading.{beyond_most, few_wants, refill_number}
 use Rattle.word.proofs.Tests.{tests}
-use borrow.Author.Rules.{rules}
 use borrow.Author.Tests.{le-ltb}
 use Rattle.indicator.proofs.refill.Goals as goal
 

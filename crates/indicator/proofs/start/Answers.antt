@@ -1,5 +1,4 @@
 -- `start`: from what `beyond_last` ensures.
-use borrow.Author.Rules.{rules}
 use Rattle.indicator.proofs.start.Goals as goal
 
 pub returns : goal.returns

@@ -1,6 +1,5 @@
 -- `program::read_bank` meets its contract: each return by the tests that led to it, which speak of the bits read.
 use Rattle.word.proofs.Tests.{tests}
-use borrow.Author.Rules.{rules}
 use Rattle.program.specs.Sections.{bank_of}
 use Rattle.program.proofs.read_bank.Goals as goal
 

@@ -1,7 +1,6 @@
 -- `program::read_group` meets its contract: each return by the tests that led to it, which speak of the bits read.
 use Rattle.word.proofs.Tests.{tests}
 use Rattle.program.specs.Groups.{group_of}
-use borrow.Author.Rules.{rules}
 use Rattle.program.proofs.read_group.Goals as goal
 
 pub returns-then-bits-ne2 : goal.returns-then-bits-ne2

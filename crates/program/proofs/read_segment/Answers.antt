@@ -2,7 +2,6 @@
 use mathlib.Core.Path.{sym, ◌∙◌}
 use borrow.Author.Tests.{eq-eqb, ne_eqb}
 use Rattle.program.specs.Sections.{segment_of}
-use borrow.Author.Rules.{rules}
 use Rattle.program.proofs.read_segment.Goals as goal
 
 pub returns-then-ibank-eq0 : goal.returns-then-ibank-eq0

@@ -1,5 +1,4 @@
 -- `program::read_start` meets its contract: the bits read, of the word read.
-use borrow.Author.Rules.{rules}
 use Rattle.program.proofs.read_start.Goals as goal
 
 pub returns : goal.returns

@@ -1,7 +1,6 @@
 -- `program::read_table_section` meets its contract: each return by the tests that led to it, of the bits read.
 use Rattle.word.proofs.Tests.{tests}
 use Rattle.program.specs.Sections.{table_section_of}
-use borrow.Author.Rules.{rules}
 use Rattle.program.proofs.read_table_section.Goals as goal
 
 pub returns-then-bits-ne1 : goal.returns-then-bits-ne1

@@ -4,7 +4,6 @@ use borrow.Author.Tests.{lt-ltb, le-ltb}
 use Rattle.lists.proofs.Reading.{core-length}
 use Rattle.records.specs.Entries.{after_entries, entry_step}
 use Rattle.records.proofs.Turns.{entries_good, entries_bad}
-use borrow.Author.Rules.{rules}
 use Rattle.records.proofs.entry_step.Goals as goal
 
 pub returns-then-next-entry_blocks : goal.returns-then-next-entry_blocks

@@ -2,7 +2,6 @@
 use mathlib.Core.Path.{sym, ◌∙◌}
 use Rattle.label.proofs.Carried.{label-carried}
 use Rattle.records.specs.Label.{label_step, with_label}
-use borrow.Author.Rules.{rules}
 use Rattle.records.proofs.label_step.Goals as goal
 
 pub take_label-requires : goal.take_label-requires

@@ -1,11 +1,8 @@
 -- `records::read_entries` meets its contract: at every turn the entries of the tables passed fit.
-use Prim.Native.Nat.{◌≤◌, ◌-◌}
 use mathlib.Core.Path.{sym, ◌∙◌}
 use native.Mathlib.Omega.{arith}
-use borrow.Author.Rules.{rules}
-use Rattle.lists.specs.Load.{core_tables}
 use Rattle.lists.proofs.Reading.{core-length}
-use Rattle.records.proofs.Turns.{PassedTo, passed_none, passed_more, passed_fails, passed_all}
+use Rattle.records.proofs.Turns.{passed_none, passed_more, passed_fails, passed_all}
 use Rattle.records.proofs.read_entries.Goals as goal
 
 pub loop-t-init : goal.loop-t-init

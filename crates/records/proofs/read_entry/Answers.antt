@@ -1,11 +1,8 @@
 -- `records::read_entry` meets its contract: each return by the tests that led to it, at the spot of the entry's third word.
-use mathlib.Core.Path.{◌∙◌, ◌≡◌}
+use mathlib.Core.Path.{◌∙◌}
 use native.Mathlib.Omega.{arith}
-use Rattle.lists.specs.Load.{core_tables}
-use Rattle.records.specs.Entries.{entry_fits}
 use Rattle.records.specs.HowEntries.{entry_read}
 use Rattle.records.proofs.Turns.{fits_elsewhere, fits-here}
-use borrow.Author.Rules.{rules}
 use Rattle.records.proofs.read_entry.Goals as goal
 
 pub returns-then-s-b : goal.returns-then-s-b

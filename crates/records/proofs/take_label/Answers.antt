@@ -1,10 +1,8 @@
 -- `records::take_label` meets its contract: each return by the tests that led to it.
 use mathlib.Core.Path.{sym, ◌∙◌}
-use native.Mathlib.Omega.{arith}
-use borrow.Author.Tests.{eq-eqb, ne_eqb, not-true, not-false}
+use borrow.Author.Tests.{eq-eqb, ne_eqb}
 use Rattle.lists.proofs.Reading.{io-length}
 use Rattle.records.specs.Label.{with_label, after_label}
-use borrow.Author.Rules.{rules}
 use Rattle.records.proofs.take_label.Goals as goal
 
 pub returns-then-not-assignments_fit : goal.returns-then-not-assignments_fit

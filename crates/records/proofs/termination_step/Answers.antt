@@ -1,9 +1,7 @@
 -- `records::termination_step` meets its contract: each return by the tests that led to it.
 use mathlib.Core.Path.{sym, ◌∙◌}
 use native.Mathlib.Omega.{arith}
-use borrow.Author.Tests.{not-true, not-false}
 use Rattle.records.specs.Termination.{termination_step}
-use borrow.Author.Rules.{rules}
 use Rattle.records.proofs.termination_step.Goals as goal
 
 pub returns-then-not-in_bank : goal.returns-then-not-in_bank

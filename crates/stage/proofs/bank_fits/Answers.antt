@@ -1,6 +1,5 @@
 -- `stage::bank_fits` meets its contract: it is the one test.
 use Rattle.stage.specs.Ranges.{bank_fits}
-use borrow.Author.Rules.{rules}
 use Rattle.stage.proofs.bank_fits.Goals as goal
 
 pub returns : goal.returns

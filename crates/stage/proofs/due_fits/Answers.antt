@@ -1,8 +1,6 @@
 -- `stage::due_fits`: by what is due, and the tests of it.
 use mathlib.Core.Path.{sym, ◌∙◌}
-use borrow.Author.Tests.{not-true, not-false}
 use Rattle.stage.specs.Ranges.{due_fits}
-use borrow.Author.Rules.{rules}
 use Rattle.stage.proofs.due_fits.Goals as goal
 
 pub returns-then-not-bank_fits : goal.returns-then-not-bank_fits

@@ -1,6 +1,5 @@
 -- `stage::due_numbers`: by what is due.
 use Rattle.stage.specs.Stage.{numbers_of}
-use borrow.Author.Rules.{rules}
 use Rattle.stage.proofs.due_numbers.Goals as goal
 
 pub returns-in-Segment : goal.returns-in-Segment

@@ -1,6 +1,5 @@
 -- `stage::is_over`: by the stage.
 use Rattle.stage.specs.Record.{is_over}
-use borrow.Author.Rules.{rules}
 use Rattle.stage.proofs.is_over.Goals as goal
 
 pub returns-in-Label : goal.returns-in-Label

@@ -1,7 +1,6 @@
 -- `stage::read_stage` meets its contract: each return by the tests that led to it.
 use Rattle.word.proofs.Tests.{tests}
 use Rattle.stage.specs.Stage.{stage_of}
-use borrow.Author.Rules.{rules}
 use Rattle.stage.proofs.read_stage.Goals as goal
 
 pub returns-in-0 : goal.returns-in-0

@@ -1,6 +1,5 @@
 -- `stage::record_due`: by the stage.
 use Rattle.stage.specs.Record.{record_due}
-use borrow.Author.Rules.{rules}
 use Rattle.stage.proofs.record_due.Goals as goal
 
 pub returns-in-Label : goal.returns-in-Label

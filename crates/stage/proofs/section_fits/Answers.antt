@@ -3,7 +3,6 @@ use borrow.Author.Tests.{lt-ltb}
 use Rattle.word.proofs.Tests.{tests}
 use Rattle.lists.proofs.Reading.{core-length, core_at_lem}
 use Rattle.stage.specs.Ranges.{section_fits}
-use borrow.Author.Rules.{rules}
 use Rattle.stage.proofs.section_fits.Goals as goal
 
 pub returns-then-g-number : goal.returns-then-g-number

@@ -1,11 +1,9 @@
 -- `stage::stage_fits`: by the stage, and the tests of it.
 use mathlib.Core.Path.{sym, ◌∙◌}
 use mathlib.Core.Bool.{and-false}
-use borrow.Author.Tests.{not-true, not-false}
 use Rattle.word.proofs.Cases.{and_true}
 use Rattle.lists.proofs.Reading.{core-length}
 use Rattle.stage.specs.Ranges.{label_counts_fit, stage_fits}
-use borrow.Author.Rules.{rules}
 use Rattle.stage.proofs.stage_fits.Goals as goal
 
 pub returns-then-not-label_counts_fit : goal.returns-then-not-label_counts_fit

@@ -1,6 +1,5 @@
 -- `stage::stage_numbers`: by the stage.
 use Rattle.stage.specs.Stage.{numbers_of}
-use borrow.Author.Rules.{rules}
 use Rattle.stage.proofs.stage_numbers.Goals as goal
 
 pub returns-in-Label : goal.returns-in-Label

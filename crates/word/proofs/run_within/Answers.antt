@@ -1,6 +1,5 @@
 -- `word::run_within` meets its contract: each return by the tests that led to it.
 use Rattle.word.proofs.Runs.{within-before, within-after, within-left}
-use borrow.Author.Rules.{rules}
 use Rattle.word.proofs.run_within.Goals as goal
 
 pub returns-then-a-b : goal.returns-then-a-b

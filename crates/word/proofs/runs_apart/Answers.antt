@@ -1,6 +1,5 @@
 -- `word::runs_apart` meets its contract: each return by the tests that led to it.
 use Rattle.word.proofs.Runs.{apart-first_empty, apart-second_empty, apart_rising, apart_falling}
-use borrow.Author.Rules.{rules}
 use Rattle.word.proofs.runs_apart.Goals as goal
 
 pub returns-then-n-eq0 : goal.returns-then-n-eq0

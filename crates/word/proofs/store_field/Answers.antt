@@ -1,6 +1,5 @@
 -- `word::store_field` meets its contract: each half by the bits that its field is.
 use native.Mathlib.Omega.{arith}
-use borrow.Author.Rules.{rules}
 use Rattle.word.proofs.store_field.Goals as goal
 
 pub returns-in-Left : goal.returns-in-Left

@@ -1,7 +1,6 @@
 -- `word::word_at` meets its contract: each return by the tests that led to it.
 use mathlib.Core.Path.{sym}
 use lib.ListN.{get_or-eq_default}
-use borrow.Author.Rules.{rules}
 use Rattle.word.proofs.word_at.Goals as goal
 
 pub returns-else-i-words : goal.returns-else-i-words

@@ -1,11 +1,8 @@
 -- `changes::all_zero`: the words not yet looked at decide.
 use Prim.Native.Nat.{◌≤◌, ◌-◌}
-use mathlib.Core.Path.{◌≡◌, refl}
-use native.Mathlib.Omega.{arith}
+use mathlib.Core.Path.{◌≡◌}
 use lib.ListN.{length, drop}
-use borrow.Author.Tests.{eq-eqb, ne_eqb}
 use Rattle.word.specs.Lists.{every}
-use Rattle.word.proofs.Lists.{every_more, every_fails, every-ends}
 use Rattle.group.specs.HowWords.{is_zero}
 use Rattle.group.proofs.changes.all_zero.Given as goal
 

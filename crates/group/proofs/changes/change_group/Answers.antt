@@ -1,7 +1,6 @@
 -- `changes::change_group`: from what its callees ensure; where every indicator word is 0, no word changes.
 use mathlib.Core.Path.{sym, ◌∙◌}
 use Rattle.group.proofs.LoopTurn.{lent-given, no_change}
-use borrow.Author.Rules.{rules}
 use Rattle.group.proofs.changes.change_group.Goals as goal
 
 pub returns-then-all_zero : goal.returns-then-all_zero

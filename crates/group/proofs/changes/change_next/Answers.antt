@@ -2,7 +2,6 @@
 use native.Mathlib.Omega.{arith}
 use Rattle.group.proofs.Loop.{unchanged_next}
 use Rattle.group.proofs.LoopTurn.{lent-given, next_turns, one_turns, pass_ready, half_ready, store_ready, out_many}
-use borrow.Author.Rules.{rules}
 use Rattle.group.proofs.changes.change_next.Goals as goal
 
 pub move_words-requires : goal.move_words-requires

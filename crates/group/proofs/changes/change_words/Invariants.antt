@@ -1,12 +1,8 @@
 -- `changes::change_words`: what is left to do after some words is what there was to do.
 use Prim.Native.Nat.{◌-◌}
-use native.Mathlib.Omega.{arith}
 use Rattle.field.specs.Field.{assigned_by}
 use Rattle.group.specs.HowLoop.{Reached}
 use Rattle.group.specs.HowWords.{program_in}
-use Rattle.group.proofs.Loop.{reached_end}
-use Rattle.group.proofs.LoopTurn.{many, first-here, turn_refills, turn_place, turn_ready, turn_stops}
-use borrow.Author.Rules.{rules}
 use Rattle.group.proofs.changes.change_words.Given as goal
 
 abbrev pub invariant-loop-k : goal.invariant-loop-k

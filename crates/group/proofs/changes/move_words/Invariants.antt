@@ -1,14 +1,9 @@
 -- `changes::move_words`: a run of the commonest change leaves what the loop's turns leave.
 use Prim.Native.Nat.{◌-◌, ◌<◌, ◌≤◌}
-use mathlib.Core.Path.{◌≡◌, refl, ◌∙◌}
-use native.Mathlib.Omega.{arith}
-use lib.ListN.{length-set}
-use Rattle.word.proofs.Cases.{by-lt}
+use mathlib.Core.Path.{◌≡◌}
 use Rattle.field.specs.Field.{assigned_by}
 use Rattle.group.specs.HowLoop.{Reached}
 use Rattle.group.specs.HowWords.{program_in}
-use Rattle.group.proofs.LoopTurn.{turn_many, turn_word, run_goes, run_stops, run_at, run_stop, fewer_left}
-use borrow.Author.Rules.{rules}
 use Rattle.group.proofs.changes.move_words.Given as goal
 
 abbrev pub invariant-loop-c : goal.invariant-loop-c

@@ -8,7 +8,6 @@ use Rattle.word.specs.Lists.{splice}
 use Rattle.word.proofs.Lists.{length-range, range-lent}
 use Rattle.indicator.proofs.Reading.{plain_words_lem}
 use Rattle.group.specs.HowWords.{unchanged_step}
-use borrow.Author.Rules.{rules}
 use Rattle.group.proofs.changes.pass_unchanged.Goals as goal
 
 pub returns-then-c-ne0 : goal.returns-then-c-ne0

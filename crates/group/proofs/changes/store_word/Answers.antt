@@ -1,7 +1,6 @@
 -- `changes::store_word`: what became of the word is stored, or the refusal given on.
 use mathlib.Core.Path.{refl}
 use Rattle.group.specs.HowWords.{stored_step}
-use borrow.Author.Rules.{rules}
 use Rattle.group.proofs.changes.store_word.Goals as goal
 
 pub returns-in-Next : goal.returns-in-Next

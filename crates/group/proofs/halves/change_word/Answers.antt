@@ -7,7 +7,6 @@ use Rattle.field.specs.Field.{assigned_by}
 use Rattle.indicator.proofs.Reading.{past_left}
 use Rattle.group.specs.HowHalves.{both_of}
 use Rattle.group.proofs.Both.{half_fits, half_reach}
-use borrow.Author.Rules.{rules}
 use Rattle.group.proofs.halves.change_word.Goals as goal
 
 pub right_half-requires : goal.right_half-requires

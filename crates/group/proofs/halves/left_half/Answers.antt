@@ -4,7 +4,6 @@ use native.Mathlib.Omega.{arith}
 use Rattle.word.specs.declared.Half.TheVariants.{Left}
 use Rattle.field.specs.Field.{assigned_by}
 use Rattle.group.proofs.Both.{half_same, half_steps}
-use borrow.Author.Rules.{rules}
 use Rattle.group.proofs.halves.left_half.Goals as goal
 
 pub returns-then-c-lt-NEXT_BIT : goal.returns-then-c-lt-NEXT_BIT

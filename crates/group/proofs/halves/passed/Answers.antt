@@ -1,5 +1,4 @@
 -- `halves::passed`: four bits are passed, and nine more of a long one.
-use borrow.Author.Rules.{rules}
 use Rattle.group.proofs.halves.passed.Goals as goal
 
 pub returns-in-Word : goal.returns-in-Word

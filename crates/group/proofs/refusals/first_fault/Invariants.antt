@@ -1,10 +1,7 @@
 -- `refusals::first_fault`: no word before is refused, so the words that are left tell the first refusal.
-use native.Mathlib.Omega.{arith}
 use Prim.Native.Nat.{◌-◌}
 use Rattle.field.specs.Field.{assigned_by}
-use Rattle.group.proofs.FirstFault.{Looks, looks_start, looks_end, look_refills, look_place, look_bit, look_ready}
-use Rattle.group.proofs.FirstFault.{look_word, look_stops, look_on}
-use borrow.Author.Rules.{rules}
+use Rattle.group.proofs.FirstFault.{Looks}
 use Rattle.group.proofs.refusals.first_fault.Given as goal
 
 abbrev pub invariant-loop-k : goal.invariant-loop-k

@@ -3,7 +3,6 @@ use native.Mathlib.Omega.{arith}
 use Rattle.field.specs.Field.{assigned_by}
 use Rattle.group.specs.HowFaults.{group_fault}
 use Rattle.group.proofs.FirstFault.{first_below}
-use borrow.Author.Rules.{rules}
 use Rattle.group.proofs.refusals.group_fault.Goals as goal
 
 pub further-requires : goal.further-requires

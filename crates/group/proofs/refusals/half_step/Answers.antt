@@ -1,6 +1,5 @@
 -- `refusals::half_step`: by its indicator.
 use Rattle.group.specs.Group.{half_step}
-use borrow.Author.Rules.{rules}
 use Rattle.group.proofs.refusals.half_step.Goals as goal
 
 pub returns-in-Same : goal.returns-in-Same

@@ -6,7 +6,6 @@ use Rattle.field.specs.Field.{assigned_by}
 use Rattle.indicator.specs.HowCursor.{look_of}
 use Rattle.indicator.proofs.Places.{width_most}
 use Rattle.group.proofs.Both.{half_word, word_goes, word_stops}
-use borrow.Author.Rules.{rules}
 use Rattle.group.proofs.refusals.word_step.Goals as goal
 
 pub pass-d-requires : goal.pass-d-requires

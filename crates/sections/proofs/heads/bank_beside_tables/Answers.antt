@@ -1,13 +1,10 @@
 -- `heads::bank_beside_tables` meets its contract: at every turn the rest of the tables decide.
-use Prim.Native.Nat.{ℕ, ◌≤◌, ◌<◌, ◌-◌}
+use Prim.Native.Nat.{ℕ, ◌<◌}
 use mathlib.Core.Path.{◌≡◌, refl, sym, ◌∙◌}
 use mathlib.Core.Bool.{Bool}
 use mathlib.Core.List.{List}
 use native.Mathlib.Omega.{arith}
-use lib.ListN.{drop, get_or}
-use borrow.Author.Rules.{rules}
-use borrow.Author.Tests.{not-true, not-false}
-use Rattle.word.specs.Lists.{every}
+use lib.ListN.{get_or}
 use Rattle.word.specs.Runs.{apart}
 use Rattle.word.specs.Sorts.{absolute_of}
 use Rattle.word.specs.declared.Absolute.{Absolute}

@@ -1,10 +1,8 @@
 -- `heads::banks_fit` meets its contract: each return by the tests that led to it.
 use mathlib.Core.Path.{sym, ◌∙◌}
 use native.Mathlib.Omega.{arith}
-use borrow.Author.Tests.{not-true, not-false}
 use Rattle.sections.specs.Heads.{banks_fit}
 use Rattle.sections.proofs.Ranges.{bank_inside}
-use borrow.Author.Rules.{rules}
 use Rattle.sections.proofs.heads.banks_fit.Goals as goal
 
 pub returns-then-not-bank_fits : goal.returns-then-not-bank_fits

@@ -1,7 +1,6 @@
 -- `heads::section_head` meets its contract: each return by the word read and the tests that led to it.
 use borrow.Author.Tests.{lt-leb, le-leb}
 use Rattle.sections.specs.Heads.{section_step, with_section}
-use borrow.Author.Rules.{rules}
 use Rattle.sections.proofs.heads.section_head.Goals as goal
 
 pub returns-then-t-o : goal.returns-then-t-o

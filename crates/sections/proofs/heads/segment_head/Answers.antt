@@ -1,7 +1,6 @@
 -- `heads::segment_head` meets its contract: each return by the words read and the tests that led to it.
 use borrow.Author.Tests.{lt-leb, le-leb}
 use Rattle.sections.specs.Heads.{segment_step, with_segment}
-use borrow.Author.Rules.{rules}
 use Rattle.sections.proofs.heads.segment_head.Goals as goal
 
 pub returns-then-i-gt-LAST_WORD : goal.returns-then-i-gt-LAST_WORD

@@ -1,5 +1,4 @@
 -- `items::after_group` meets its contract: each return by the answer and the test that led to it.
-use borrow.Author.Rules.{rules}
 use Rattle.sections.proofs.items.after_group.Goals as goal
 
 pub returns-then-last : goal.returns-then-last

@@ -3,7 +3,6 @@ use native.Mathlib.Omega.{arith}
 use Rattle.sections.specs.Program.{item_step}
 use Rattle.sections.proofs.Ranges.{segment_ready, table_ready}
 use Rattle.sections.proofs.Turns.{assigned_same, head_met, group_met, table_number, table-read}
-use borrow.Author.Rules.{rules}
 use Rattle.sections.proofs.items.item_step.Goals as goal
 
 pub group_step-r-requires : goal.group_step-r-requires

@@ -1,15 +1,11 @@
 -- `items::program_step`: at every turn the items from place i on, onto the core as it is, give what the block gives.
 use Prim.Native.Nat.{◌≤◌, ◌-◌}
-use mathlib.Core.Path.{◌≡◌, refl, ap, ◌∙◌}
-use native.Mathlib.Omega.{arith}
+use mathlib.Core.Path.{◌≡◌}
 use lib.ListN.{length}
-use borrow.Author.Rules.{rules}
 use Rattle.stage.specs.declared.Stage.TheVariants.{Program}
 use Rattle.lists.specs.Load.{load_of}
 use Rattle.sections.specs.Waits.{Waits}
 use Rattle.sections.specs.Program.{program_from, program_step}
-use Rattle.sections.specs.HowTurns.{item_of}
-use Rattle.sections.proofs.Turns.{turn_zero, turn_end, turn_on, turn_last, turn_refused, turn_place, turn_waits, turn_length}
 use Rattle.sections.proofs.items.program_step.Given as goal
 
 abbrev pub invariant-loop-i : goal.invariant-loop-i

@@ -1,5 +1,4 @@
 -- `items::turn_of` meets its contract: each return by the item that led to it.
-use borrow.Author.Rules.{rules}
 use Rattle.sections.proofs.items.turn_of.Goals as goal
 
 pub returns-in-Go : goal.returns-in-Go

@@ -1,10 +1,9 @@
 -- `word::slices::clear` meets its contract: by the loop's invariant.
-use Prim.Native.Nat.{◌≤◌, ◌-◌}
-use mathlib.Core.Path.{◌≡◌, sym}
+use mathlib.Core.Path.{sym}
 use native.Mathlib.Omega.{arith}
-use lib.ListN.{length, length-set, replicate, length-replicate, get_or-replicate}
+use lib.ListN.{length-set, replicate, length-replicate, get_or-replicate}
 use Rattle.word.specs.Lists.{cleared}
-use Rattle.word.proofs.Lists.{copied, copied_none, copied_more, copied_all}
+use Rattle.word.proofs.Lists.{copied_none, copied_more, copied_all}
 use Rattle.word.proofs.slices.clear.Goals as goal
 
 pub loop-i-init : goal.loop-i-init

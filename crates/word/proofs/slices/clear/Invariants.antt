@@ -1,10 +1,8 @@
 -- `word::slices::clear` meets its contract: by the loop's invariant.
 use Prim.Native.Nat.{◌≤◌, ◌-◌}
-use mathlib.Core.Path.{◌≡◌, sym}
-use native.Mathlib.Omega.{arith}
-use lib.ListN.{length, length-set, replicate, length-replicate, get_or-replicate}
-use Rattle.word.specs.Lists.{cleared}
-use Rattle.word.proofs.Lists.{copied, copied_none, copied_more, copied_all}
+use mathlib.Core.Path.{◌≡◌}
+use lib.ListN.{length, replicate}
+use Rattle.word.proofs.Lists.{copied}
 use Rattle.word.proofs.slices.clear.Given as goal
 
 abbrev pub invariant-loop-i : goal.invariant-loop-i

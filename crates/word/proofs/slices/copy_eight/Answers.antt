@@ -2,7 +2,6 @@
 use native.Mathlib.Omega.{arith}
 use lib.ListN.{length-set}
 use Rattle.word.proofs.Lists.{length-range, copied-first, copied_at, copied_all}
-use borrow.Author.Rules.{rules}
 use Rattle.word.proofs.slices.copy_eight.Goals as goal
 
 pub bounds-dst-i-2 : goal.bounds-dst-i-2

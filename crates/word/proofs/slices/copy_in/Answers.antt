@@ -1,9 +1,8 @@
 -- `word::slices::copy_in` meets its contract: by the loop's invariant.
-use Prim.Native.Nat.{◌≤◌, ◌-◌}
-use mathlib.Core.Path.{◌≡◌, refl}
+use mathlib.Core.Path.{refl}
 use native.Mathlib.Omega.{arith}
-use lib.ListN.{length, length-set}
-use Rattle.word.proofs.Lists.{copied, copied_none, copied_more, copied_all}
+use lib.ListN.{length-set}
+use Rattle.word.proofs.Lists.{copied_none, copied_more, copied_all}
 use Rattle.word.proofs.slices.copy_in.Goals as goal
 
 pub loop-i-init : goal.loop-i-init

@@ -1,9 +1,8 @@
 -- `word::slices::copy_in` meets its contract: by the loop's invariant.
 use Prim.Native.Nat.{◌≤◌, ◌-◌}
-use mathlib.Core.Path.{◌≡◌, refl}
-use native.Mathlib.Omega.{arith}
-use lib.ListN.{length, length-set}
-use Rattle.word.proofs.Lists.{copied, copied_none, copied_more, copied_all}
+use mathlib.Core.Path.{◌≡◌}
+use lib.ListN.{length}
+use Rattle.word.proofs.Lists.{copied}
 use Rattle.word.proofs.slices.copy_in.Given as goal
 
 abbrev pub invariant-loop-i : goal.invariant-loop-i

@@ -1,10 +1,7 @@
 -- `word::slices::copy_whole` meets its contract: by the loop's invariant, that both are alike up to place i.
 use Prim.Native.Nat.{◌≤◌, ◌-◌}
-use mathlib.Core.Path.{◌≡◌, refl, ◌∙◌}
-use native.Mathlib.Omega.{arith}
-use lib.ListN.{length, take, length-take, length-drop}
-use Rattle.word.specs.Lists.{range}
-use Rattle.word.proofs.Lists.{alike_more, alike_all}
+use mathlib.Core.Path.{◌≡◌}
+use lib.ListN.{length, take}
 use Rattle.word.proofs.slices.copy_whole.Given as goal
 
 abbrev pub invariant-loop-i : goal.invariant-loop-i
