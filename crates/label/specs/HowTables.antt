@@ -1,6 +1,6 @@
 -- how the code goes, not a rule of 01
 -- The tables of a label taken one after another: each is carried, has entries, its type is none below a least one, and with its
--- entries the counts are within the limits. That this tells of each table what `table_stands` tells is `Stands-read` in
+-- entries the counts are within the limits. That this tells of each table what `table_stands` tells is `stands_read` in
 -- proofs/TableTurns.antt.
 use Rattle.std.specs.Prelude.{ℕ, ◌+◌, ◌≤◌, ◌^◌, Bool, cond, ◌&&◌, List, leb}
 use Rattle.word.specs.Fault.{fault}

@@ -68,7 +68,7 @@ kept_lists ios tables l =
     words_place (words_kept (tables_of tables)))
     ranks_place (ranks_kept (tables_of tables))
 
--- "copies the lists": what is kept reads back as what was lent, wherever refusal 8 is not given (`Kept-back`, proofs/Back.antt)
+-- "copies the lists": what is kept reads back as what was lent, wherever refusal 8 is not given (`kept_back`, proofs/Back.antt)
 abbrev pub ReadsBack : Area → List ℕ → List ℕ → List ℕ → Type 0
 ReadsBack area ios tables l =
     load_of (given_by area ios tables) (kept_lists ios tables l) ≡ record { area = area; tables = tables_of tables; ios = ios }

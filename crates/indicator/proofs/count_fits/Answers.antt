@@ -1,4 +1,5 @@
 -- `count_fits`: the cursor sees the group's bits, and the indicators of the words that are left, read from its place, end where
+-- those of all words end.
 use native.Mathlib.Omega.{arith}
 use Rattle.indicator.proofs.Turns.{counts_start, counts_full, counts_on, counts_end}
 use borrow.Author.Rules.{rules}

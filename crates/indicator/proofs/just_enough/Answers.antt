@@ -1,4 +1,4 @@
--- `just_enough_lem`: the tests of the code are those of the definition.
+-- `just_enough`: the tests of the code are those of the definition.
 use borrow.Author.Tests.{le-leb, lt-leb}
 use Rattle.indicator.proofs.just_enough.Goals as goal
 

@@ -1,4 +1,5 @@
 -- `label::read_tables` meets its contract: at every turn the tables read so far stand, and are counted. The measure is how many are
+-- left.
 use mathlib.Core.Path.{sym, ◌∙◌}
 use native.Mathlib.Omega.{arith}
 use Rattle.label.proofs.TableTurns.{of_bad, read_none, word_short, word_more, word_bad, word_all}

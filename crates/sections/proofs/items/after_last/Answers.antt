@@ -1,4 +1,4 @@
--- `items::after_last_lem` meets its contract: each return by the test that led to it.
+-- `items::after_last` meets its contract: each return by the test that led to it.
 use Rattle.word.proofs.Tests.{tests}
 use Rattle.sections.specs.Program.{after_last}
 use Rattle.sections.proofs.items.after_last.Goals as goal
