@@ -155,7 +155,9 @@ fn moved_field(area: Area, r: Relative) -> Becomes
     valued_of(a.0)
 }
 
-// Type 001: bits 13-7 are the number of the table with the address, bits 6-0 of the one with the length.
+// Type 001: bits 13-7 are the number of the table with the address, bits 6-0 of the one with the length. A call of it, the deepest in
+// feed, would take more stack than feed may (tests/stack): it is compiled into its callers.
+#[inline(always)]
 fn pair_of(g: Given, lists: &[u64], f: u64) -> Becomes
     requires { Readable g lists.now }
     ensures { result ≡ pair (core_tables g lists.now) f }
