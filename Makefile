@@ -19,7 +19,7 @@ help:
 	@echo 'make assign BOOK=FILE <FILE    the lists that a facility book gives a file of octal lines'
 	@echo 'make test      the tests outside Rattle: the library by programs in C, its stack, the header, the install, the programs'
 	@echo 'make fuzz SECONDS=60    the library and the second loader compared for this many seconds, with a seed from the clock'
-	@echo 'make check     the gate: every crate proved from nothing, every wrong loader refused, and the tests'
+	@echo 'make check     the gate: every crate proved, every wrong loader refused, and the tests'
 	@echo 'make clean     removes build/ and the out/ of each crate: everything is then proved again'
 	@echo 'What is not proved yet is proved first, which takes 4 to 7 minutes on two cores. It needs rt, the Rattle kit.'
 
