@@ -21,7 +21,7 @@ help:
 	@echo 'make fuzz SECONDS=60    the library and the second loader compared for this many seconds, with a seed from the clock'
 	@echo 'make check     the gate: every crate proved, every wrong loader refused, and the tests'
 	@echo 'make clean     removes build/ and the out/ of each crate: everything is then proved again'
-	@echo 'What is not proved yet is proved first, which takes 4 to 7 minutes on two cores. It needs rt, the Rattle kit.'
+	@echo 'What is not proved yet is proved first, which takes minutes. It needs rt, the Rattle kit.'
 
 # what a crate is made from: the files of it and of the crates that it needs, their folders (a file may be gone), the list of crates
 # and the kit
