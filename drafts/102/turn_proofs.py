@@ -6,7 +6,11 @@ usage: rt check --generated NAMES --old-names      in the crate: NAMES/names.jso
        turn_proofs.py NAMES/names.json CRATE [F..]  CRATE is the crate's folder; F a function, as slices.copy_in
 
 What the tactics find is left out. A file that is turned becomes Proof.antt.txt, to look things up in: it goes once the crate is
-proved. Lines `note:` say what is left to do by hand. All that landed was turned with it; the crates in this folder are still to be.
+proved. Lines `note:` say what is left to do by hand.
+
+What had landed was turned with an earlier form of this script, and then by hand: of the 175 functions of the 15 crates whose first run was
+kept, 131 proved at once. This form has the mends that those runs led to. It was run once, on the crate `group`, and what it wrote
+then was not checked.
 """
 import json, os, re, shutil, sys
 NAMES = json.load(open(sys.argv[1]))
