@@ -6,9 +6,9 @@ ghost use Rattle.std.specs.Prelude.{◌≤◌};
 ghost use Rattle.word.specs.Limits.{io_most, tables_most};
 ghost use Rattle.label.specs.Label.{Carried};
 
-use block::{BLOCK_WORDS, Verdict};
-use console::{FileRead, Input};
-use label::{Label, LabelRead};
+use block::BLOCK_WORDS;
+use console::Input;
+use label::Label;
 use std::env::FillError;
 use std::io;
 use std::rt::{Env, Files};
@@ -29,16 +29,16 @@ const PAIRS_MOST: usize = 2 * TABLES_MOST;
 // Room for any path.
 const NAME_ROOM: usize = 4096;
 
-// What the whole input is: so many blocks, or bad.
-#[derive(Clone, Copy)]
-enum Whole {
-    Blocks(usize),
-    Bad,
-}
-
 // The beginning of a line.
-fn say_usage(rt: &impl Print) -> io::Result<()> {
-    console::say(rt, b"usage: assign BOOK <FILE")
+const USAGE: &str = "usage: assign BOOK <FILE";
+
+// A line: a text and a list, with a blank before each number.
+fn say_list(rt: &impl Print, text: &str, list: &[u64]) -> io::Result<()> {
+    print!(rt; "{text}")?;
+    for n in list {
+        print!(rt; " {n}")?;
+    }
+    println!(rt)
 }
 
 // Block n of the input, kept where there is room for it. The others are read to see whether they are bad.
@@ -51,19 +51,17 @@ fn read_next(rt: &impl io::Input, kept: &mut [u64], n: usize) -> Input {
     console::read_block(rt, &mut other)
 }
 
-// A proved loop has to end, and nothing says that the input does: it ends where the numbers do.
-fn read_input(rt: &impl io::Input, kept: &mut [u64]) -> Whole {
-    let mut n: usize = 0;
-    while n < usize::MAX {
+// How many blocks the whole input has; none, if it is bad. A proved loop has to end, and nothing says that the input does: it ends where
+// the numbers do.
+fn read_input(rt: &impl io::Input, kept: &mut [u64]) -> Option<usize> {
+    for n in 0..usize::MAX {
         match read_next(rt, kept, n) {
-            Input::End => return Whole::Blocks(n),
-            Input::Bad => return Whole::Bad,
-            Input::Block => {
-                n += 1;
-            }
+            Input::End => return Some(n),
+            Input::Bad => return None,
+            Input::Block => {}
         }
     }
-    Whole::Blocks(n)
+    Some(usize::MAX)
 }
 
 // The first n blocks, or all where there are no more. (A part that is written with its start, as here, asks for no proof file.)
@@ -83,11 +81,11 @@ fn say_lists(
     tables: &mut [u64],
 ) -> io::Result<()> {
     match book::assign(book, front, io, tables) {
-        Verdict::Pass => {
-            console::say_list(rt, b"io", io)?;
-            console::say_list(rt, b"tables", tables)
+        Ok(()) => {
+            say_list(rt, "io", io)?;
+            say_list(rt, "tables", tables)
         }
-        Verdict::Refused(f) => console::say_line(rt, b"refused ", f.number),
+        Err(f) => println!(rt; "refused {}", f.number),
     }
 }
 
@@ -131,8 +129,8 @@ fn assign_label(rt: &impl Print, book: &[u8], blocks: &[u64], l: Label) -> io::R
 fn assign_blocks(rt: &impl Print, book: &[u8], blocks: &[u64]) -> io::Result<()> {
     let first = first_blocks(blocks, 1);
     match front::read_label_block(first) {
-        LabelRead::Good(l) => assign_label(rt, book, blocks, l),
-        LabelRead::Bad(_) => assign_front(rt, book, first, 0, 0),
+        Ok(l) => assign_label(rt, book, blocks, l),
+        Err(_) => assign_front(rt, book, first, 0, 0),
     }
 }
 
@@ -140,28 +138,23 @@ fn assign_blocks(rt: &impl Print, book: &[u8], blocks: &[u64]) -> io::Result<()>
 fn assign_input(rt: &(impl io::Input + Print), book: &[u8]) -> io::Result<()> {
     let mut kept = [0u64; FRONT_WORDS];
     match read_input(rt, &mut kept) {
-        Whole::Blocks(n) => assign_blocks(rt, book, first_blocks(&kept, n)),
-        Whole::Bad => console::say_bad(rt),
+        Some(n) => assign_blocks(rt, book, first_blocks(&kept, n)),
+        None => console::say_bad(rt),
     }
 }
 
 // The book is read before the input, which is left alone where there is no book to read or it is too long.
 fn assign_named(rt: &(impl Files + io::Input + Print), name: &[u8]) -> io::Result<()> {
     let mut book = [0u8; BOOK_ROOM];
-    match console::read_file(rt, name, &mut book) {
-        FileRead::Bytes(n) => {
-            if BOOK_MOST < n {
-                return console::say_bad(rt);
-            }
-            assign_input(rt, &book[0..n])
-        }
-        FileRead::Unread => {
-            say_usage(rt)?;
-            console::say(rt, b"; cannot read ")?;
-            console::say(rt, name)?;
-            console::say(rt, b"\n")
-        }
+    let Some(n) = console::read_file(rt, name, &mut book) else {
+        print!(rt; "{USAGE}; cannot read ")?;
+        rt.write_all(name)?;
+        return println!(rt);
+    };
+    if BOOK_MOST < n {
+        return console::say_bad(rt);
     }
+    assign_input(rt, &book[0..n])
 }
 
 // Whether the program was given argument i. No room is lent for it: one that is there does not fit, or is empty.
@@ -172,8 +165,7 @@ fn has_argument(rt: &impl Env, i: usize) -> bool {
 // Argument 0 is the program's own name. A name that is longer than any path is taken for an empty one, which no file has.
 fn main(rt: HostRuntime) -> io::Result<()> {
     if !has_argument(&rt, 1) || has_argument(&rt, 2) {
-        say_usage(&rt)?;
-        return console::say(&rt, b"\n");
+        return println!(rt; "{USAGE}");
     }
     let mut name = [0u8; NAME_ROOM];
     let n = rt.arg(1, &mut name).unwrap_or(0);

@@ -3,22 +3,21 @@ use Rattle.std.proofs.Common.{◌≡◌, ℕ, ◌-◌, ◌%◌, ◌^◌, ◌<◌
 use Rattle.word.specs.Limits.{words_in_block}
 use Rattle.word.specs.Word.{is_word}
 use Rattle.word.specs.Lists.{every}
-use Rattle.word.specs.Fault.{fault}
+use Rattle.word.specs.Fault.{fault, Verdict, pass}
 use Rattle.word.proofs.Cases.{by-test, when, and_left, and_right}
 use Rattle.block.specs.Checksum.{checksum, others, agrees}
 use Rattle.block.specs.Block.{whole_block, seal_verdict}
 use Rattle.block.specs.HowChecksum.{total, summed, seal_of}
-use Rattle.block.specs.declared.Summed.TheVariants.{NoBlock, Sum}
-use Rattle.block.specs.declared.Verdict.{Verdict}
-use Rattle.block.specs.declared.Verdict.TheVariants.{Pass, Refused}
+use Rattle.std.specs.Prelude.{Result, Ok, Err}
+use Rattle.word.specs.declared.Fault.{Fault}
 use Rattle.block.proofs.Checksum.{total-others, total_most, words_others, sealed_total}
 
-pub summed-none : (l : List ℕ) → length l ≡ words_in_block → every is_word l ≡ false → NoBlock ≡ summed l
+pub summed-none : (l : List ℕ) → length l ≡ words_in_block → every is_word l ≡ false → Err (fault 11) ≡ summed l
 unfolding summed whole_block
 summed-none l e a = rw (eq-eqb (length l) words_in_block e, a)
 
 pub summed-sum : (l : List ℕ) (s : ℕ) → length l ≡ words_in_block → every is_word l ≡ true → s < 2 ^ 64
-    → s % 2 ^ 64 ≡ total l % 2 ^ 64 → Sum s ≡ summed l
+    → s % 2 ^ 64 ≡ total l % 2 ^ 64 → Ok s ≡ summed l
 unfolding summed whole_block
 summed-sum l s e a h q =
     let m = total_most l a in
@@ -43,13 +42,13 @@ pub record SumKnown (l : List ℕ) (p s : ℕ) : Type 0 where
   pub rest : s - get_or l p 0 ≡ total (others p l)
   pub seal : seal_of (s - get_or l p 0) ≡ checksum (others p l)
 
-no_sum : (s : ℕ) → NoBlock ≡ Sum s → ⊥
-no_sum s e = let z : ◌≡◌ {A = ℕ} 0 1 = cc in omega arith
+no_sum : (s n : ℕ) → ◌≡◌ {A = Result ℕ Fault} (Err (fault n)) (Ok s) → ⊥
+no_sum s n e = let z : ◌≡◌ {A = ℕ} 0 1 = cc in omega arith
 
-sum_same : (s t : ℕ) → Sum s ≡ Sum t → s ≡ t
+sum_same : (s t : ℕ) → ◌≡◌ {A = Result ℕ Fault} (Ok s) (Ok t) → s ≡ t
 sum_same s t e = cc
 
-pub sum_known : (l : List ℕ) (p s : ℕ) → p < words_in_block → summed l ≡ Sum s → SumKnown l p s
+pub sum_known : (l : List ℕ) (p s : ℕ) → p < words_in_block → summed l ≡ Ok s → SumKnown l p s
 unfolding summed
 sum_known l p s h e = by-test (whole_block l)
     (λ q.
@@ -65,29 +64,29 @@ sum_known l p s h e = by-test (whole_block l)
       rest = r;
       seal = rw r (sealed_total (others p l) (words_others l p (omega arith) words) (omega arith));
     })
-    (λ q. absurd (no_sum s (rw q at e)))
+    (λ q. absurd (no_sum s 11 (rw q at e)))
 
-no_pass : (n : ℕ) → Refused (fault n) ≡ Pass → ⊥
+no_pass : (n : ℕ) → ◌≡◌ {A = Verdict} (Err (fault n)) pass → ⊥
 no_pass n e = let z : ◌≡◌ {A = ℕ} 0 1 = cc in omega arith
 
 -- so a block's verdict, by a rule for the checksum
 module _ (checksumOf : List ℕ → ℕ) (p : ℕ) (l : List ℕ) where
-  pub none-refused : summed l ≡ NoBlock → Refused (fault 11) ≡ seal_verdict checksumOf p l
+  pub none-refused : summed l ≡ Err (fault 11) → Err (fault 11) ≡ seal_verdict checksumOf p l
   unfolding summed seal_verdict
-  none-refused e = by-test (whole_block l) (λ q. absurd (no_sum (total l) (sym e ∙ rw q))) (λ q. rw q)
+  none-refused e = by-test (whole_block l) (λ q. absurd (no_sum (total l) 11 (sym e ∙ rw q))) (λ q. rw q)
 
-  pub agreed_passed : whole_block l ≡ true → checksumOf (others p l) ≡ get_or l p 0 → Pass ≡ seal_verdict checksumOf p l
+  pub agreed_passed : whole_block l ≡ true → checksumOf (others p l) ≡ get_or l p 0 → pass ≡ seal_verdict checksumOf p l
   unfolding seal_verdict
   agreed_passed w e = rw (w, eq-eqb (checksumOf (others p l)) (get_or l p 0) e)
 
   pub differing_refused : whole_block l ≡ true → (checksumOf (others p l) ≡ get_or l p 0 → ⊥)
-      → Refused (fault 12) ≡ seal_verdict checksumOf p l
+      → Err (fault 12) ≡ seal_verdict checksumOf p l
   unfolding seal_verdict
   differing_refused w n = rw (w, ne_eqb (checksumOf (others p l)) (get_or l p 0) n)
 
   -- its cases: it passes, or is refused with 11 or 12
-  pub seal-cases {ℓ} : (P : Verdict → Type ℓ) → (whole_block l ≡ true → checksumOf (others p l) ≡ get_or l p 0 → P Pass)
-      → P (Refused (fault 11)) → P (Refused (fault 12)) → P (seal_verdict checksumOf p l)
+  pub seal-cases {ℓ} : (P : Verdict → Type ℓ) → (whole_block l ≡ true → checksumOf (others p l) ≡ get_or l p 0 → P pass)
+      → P (Err (fault 11)) → P (Err (fault 12)) → P (seal_verdict checksumOf p l)
   unfolding seal_verdict
   seal-cases P pass eleven twelve =
       when P (whole_block l)
@@ -96,9 +95,9 @@ module _ (checksumOf : List ℕ → ℕ) (p : ℕ) (l : List ℕ) where
       (λ a. twelve))
       (λ w. eleven)
 
-  pub passed_known : seal_verdict checksumOf p l ≡ Pass → (whole_block l ≡ true) × (checksumOf (others p l) ≡ get_or l p 0)
+  pub passed_known : seal_verdict checksumOf p l ≡ pass → (whole_block l ≡ true) × (checksumOf (others p l) ≡ get_or l p 0)
   passed_known =
-      seal-cases (λ v. v ≡ Pass → (whole_block l ≡ true) × (checksumOf (others p l) ≡ get_or l p 0))
+      seal-cases (λ v. v ≡ pass → (whole_block l ≡ true) × (checksumOf (others p l) ≡ get_or l p 0))
       (λ w a e. (w, a))
       (λ e. absurd (no_pass 11 e))
       (λ e. absurd (no_pass 12 e))

@@ -1,21 +1,20 @@
 -- How the code goes about the checksum: one pass adds all the words with no carry taken out, and what ran over bit 35 is added back
 -- afterwards. That this gives the checksum is `sealed_total` (proofs/Checksum.antt). A reader who wants the rules skips this file.
-use Rattle.std.specs.Prelude.{ℕ, zero, suc, ◌+◌, List, [], ◌∷◌, ◌++◌, drop}
+use Rattle.std.specs.Prelude.{ℕ, zero, suc, ◌+◌, List, [], ◌∷◌, ◌++◌, drop, Result, Ok, Err}
 use Rattle.word.specs.Lists.{range}
-use Rattle.word.specs.Fault.{unless}
+use Rattle.word.specs.Fault.{fault, unless}
+use Rattle.word.specs.declared.Fault.{Fault}
 use Rattle.block.specs.Checksum.{carried_round, folded}
 use Rattle.block.specs.Block.{whole_block}
-use Rattle.block.specs.declared.Summed.{Summed}
-use Rattle.block.specs.declared.Summed.TheVariants.{NoBlock, Sum}
 
 -- the plain sum of words
 unfoldable pub total : List ℕ → ℕ
 total [] = 0
 total (w ∷ ws) = w + total ws
 
--- what a pass over words lent starts a block finds
-unfoldable pub summed : List ℕ → Summed
-summed block = unless (whole_block block) NoBlock (Sum (total block))
+-- what a pass over words lent as a block finds: their plain sum, or 11
+unfoldable pub summed : List ℕ → Result ℕ Fault
+summed block = unless (whole_block block) (Err (fault 11)) (Ok (total block))
 
 -- a plain sum carried round n times
 unfoldable pub rounds : ℕ → ℕ → ℕ

@@ -41,22 +41,13 @@ pub enum Record {
     Termination,
 }
 
-// Whether a test is passed, and the fault where it is not.
-#[derive(Clone, Copy)]
-pub enum Verdict {
-    Pass,
-    Refused(Fault),
-}
-
 // The word that holds a block's checksum.
 pub fn checksum_place(r: Record) -> usize
     ensures { result ≡ checksum_place r }
 {
     match r {
         Record::Label => LABEL_CHECKSUM,
-        Record::Modification => CHECKSUM,
-        Record::Program => CHECKSUM,
-        Record::Termination => CHECKSUM,
+        Record::Modification | Record::Program | Record::Termination => CHECKSUM,
     }
 }
 
@@ -73,25 +64,17 @@ pub fn of_record(block: &[u64], r: Record) -> bool
     }
 }
 
-// The words of a block added up; or that they are no block, refusal 11.
-#[derive(Clone, Copy)]
-pub enum Summed {
-    NoBlock,
-    Sum(u64),
-}
-
-// One pass over the words: their plain sum, and whether each is below 2^36. The sum of 256 such words is far below 2^64; of others
-// it may wrap, and is not used. A turn takes a word of each quarter: the compiler then makes fewer turns of it.
-pub fn sum_words(block: &[u64]) -> Summed
+// One pass over the words of a block: their plain sum, or refusal 11 where they are no block. The sum of 256 words below 2^36 is far
+// below 2^64; of others it may wrap, and is not used. A turn takes a word of each quarter: the compiler then makes fewer turns of it.
+pub fn sum_words(block: &[u64]) -> Result<u64, Fault>
     ensures { result ≡ summed block.now }
 {
     if block.len() != BLOCK_WORDS {
-        return Summed::NoBlock;
+        return Err(FAULT_11);
     }
     let mut any: u64 = 0;
     let mut sum: u64 = 0;
-    let mut i: usize = 0;
-    while i < SECOND {
+    for i in 0..SECOND {
         let a = block[i];
         let b = block[SECOND + i];
         let c = block[THIRD + i];
@@ -101,12 +84,11 @@ pub fn sum_words(block: &[u64]) -> Summed
         sum = std::num::wrapping_add_u64(sum, b);
         sum = std::num::wrapping_add_u64(sum, c);
         sum = std::num::wrapping_add_u64(sum, d);
-        i += 1;
     }
     if WORD_LIMIT <= any {
-        Summed::NoBlock
+        Err(FAULT_11)
     } else {
-        Summed::Sum(sum)
+        Ok(sum)
     }
 }
 
@@ -134,18 +116,14 @@ pub fn seal_of(s: u64) -> u64
 }
 
 // Refusals 11 and 12 of a block of record r.
-pub fn check_block(block: &[u64], r: Record) -> Verdict
+pub fn check_block(block: &[u64], r: Record) -> Result<(), Fault>
     ensures { result ≡ verdict r block.now }
 {
-    match sum_words(block) {
-        Summed::NoBlock => Verdict::Refused(FAULT_11),
-        Summed::Sum(s) => {
-            let seal = block[checksum_place(r)];
-            if seal_of(s - seal) == seal {
-                Verdict::Pass
-            } else {
-                Verdict::Refused(FAULT_12)
-            }
-        }
+    let s = sum_words(block)?;
+    let seal = block[checksum_place(r)];
+    if seal_of(s - seal) == seal {
+        Ok(())
+    } else {
+        Err(FAULT_12)
     }
 }

@@ -7,14 +7,11 @@ use lib.ListN.{length}
 use borrow.Author.Tests.{eq-eqb, ne_eqb}
 use Rattle.word.specs.Lists.{every, every_two}
 use Rattle.word.proofs.Cases.{by-test, and_left, and_right}
-use Rattle.word.specs.Fault.{fault}
+use Rattle.word.specs.Fault.{fault, Verdict, pass}
 use Rattle.word.specs.declared.Fault.{Fault}
-use Rattle.block.specs.declared.Verdict.{Verdict}
-use Rattle.block.specs.declared.Verdict.TheVariants.{Pass, Refused}
+use Rattle.std.specs.Prelude.{Result, Ok, Err}
 use Rattle.label.specs.Label.{io_count}
 use Rattle.label.specs.declared.Label.{Label}
-use Rattle.label.specs.declared.LabelRead.{LabelRead}
-use Rattle.label.specs.declared.LabelRead.TheVariants.{Good, Bad}
 use Rattle.front.specs.Front.{front_of}
 use Rattle.book.specs.Book.{is_book, assignments_of}
 use Rattle.book.specs.Tags.{FileTags, file_tags}
@@ -24,12 +21,12 @@ use Rattle.book.specs.declared.Assignment.{Assignment}
 
 -- ---- from 25 on
 module _ (ts : FileTags) (rs : List Assignment) (io tables : List ℕ) where
-  gives_25 : every (in_file ts) rs ≡ false → Leaves (lists_for ts rs io tables) (Refused (fault 25)) io tables
+  gives_25 : every (in_file ts) rs ≡ false → Leaves (lists_for ts rs io tables) (Err (fault 25)) io tables
   unfolding lists_for
   gives_25 p = rw p (record { told = refl; io-left = refl; tables-left = refl })
 
   gives_26 : every (in_file ts) rs ≡ true → every_two apart_from rs ≡ false
-      → Leaves (lists_for ts rs io tables) (Refused (fault 26)) io tables
+      → Leaves (lists_for ts rs io tables) (Err (fault 26)) io tables
   unfolding lists_for
   gives_26 p q = rw (p, q) (record { told = refl; io-left = refl; tables-left = refl })
 
@@ -41,12 +38,12 @@ module _ (ts : FileTags) (rs : List Assignment) (io tables : List ℕ) where
     once : every_two apart_from rs ≡ true
     once = and_right (every (in_file ts) rs) (every_two apart_from rs) (sym e ∙ q)
 
-    pub gives_27 : all_given rs ts ≡ false → Leaves (lists_for ts rs io tables) (Refused (fault 27)) io tables
+    pub gives_27 : all_given rs ts ≡ false → Leaves (lists_for ts rs io tables) (Err (fault 27)) io tables
     unfolding lists_for
     gives_27 s = rw (all_in, once, s) (record { told = refl; io-left = refl; tables-left = refl })
 
     pub gives_lists : (x y : List ℕ) → all_given rs ts ≡ true → x ≡ io_list rs ts → y ≡ table_list rs ts
-        → Leaves (lists_for ts rs io tables) Pass x y
+        → Leaves (lists_for ts rs io tables) pass x y
     unfolding lists_for
     gives_lists x y s f g = rw (all_in, once, s) (record { told = refl; io-left = f; tables-left = g })
 
@@ -72,22 +69,22 @@ module _ (book blocks : List ℕ) (l : Label) (io tables : List ℕ) where
   unfolding fits
   book_fit b e f q = rw (eq-eqb (length io) (io_count l) e, eq-eqb (length tables) (2 * l.tables) f, ← q)
 
-  pub gives_24 : fits book l io tables ≡ false → Leaves (assign_by book blocks (Good l) io tables) (Refused (fault 24)) io tables
+  pub gives_24 : fits book l io tables ≡ false → Leaves (assign_by book blocks (Ok l) io tables) (Err (fault 24)) io tables
   unfolding assign_by
   gives_24 p = rw p (record { told = refl; io-left = refl; tables-left = refl })
 
   pub gives_on : (ts : FileTags) (v : Verdict) (a b : List ℕ) → fits book l io tables ≡ true → ts ≡ file_tags blocks l
-      → Leaves (lists_for ts (assignments_of book) io tables) v a b → Leaves (assign_by book blocks (Good l) io tables) v a b
+      → Leaves (lists_for ts (assignments_of book) io tables) v a b → Leaves (assign_by book blocks (Ok l) io tables) v a b
   unfolding assign_by
   gives_on ts v a b p e m = rw (p, ← e) m
 
 -- ---- the file's
-module _ (book blocks : List ℕ) (r : LabelRead) (io tables : List ℕ) (e : r ≡ front_of blocks) where
+module _ (book blocks : List ℕ) (r : Result Label Fault) (io tables : List ℕ) (e : r ≡ front_of blocks) where
   pub gives-front : (v : Verdict) (a b : List ℕ) → Leaves (assign_by book blocks r io tables) v a b
       → Leaves (assign_of book blocks io tables) v a b
   unfolding assign_of
   gives-front v a b m = rw (← e) m
 
-  pub gives-fault : (f : Fault) → r ≡ Bad f → Leaves (assign_of book blocks io tables) (Refused f) io tables
+  pub gives-fault : (f : Fault) → r ≡ Err f → Leaves (assign_of book blocks io tables) (Err f) io tables
   unfolding assign_of assign_by
   gives-fault f q = rw (← e, q) (record { told = refl; io-left = refl; tables-left = refl })

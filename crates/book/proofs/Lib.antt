@@ -1,8 +1,8 @@
+pub mod Chains
 pub mod Record
 pub mod Finding
 pub mod Marking
 pub mod Kept
-pub mod Looking
 pub mod Taking
 pub mod Filling
 pub mod Given

@@ -7,16 +7,14 @@ use native.Mathlib.Omega.{arith}
 use lib.ListN.{length, get_or}
 use borrow.Author.Tests.{eq-eqb}
 use Rattle.word.specs.Lists.{every, every_two}
-use Rattle.word.specs.Fault.{fault}
+use Rattle.word.specs.Fault.{fault, pass}
 use Rattle.word.specs.declared.Fault.{Fault}
 use Rattle.word.proofs.Cases.{by-test, both, and_left, and_right, and_both}
 use Rattle.word.proofs.Every.{every-place, every_by}
 use Rattle.word.proofs.Lists.{length-tab, get_d_tab}
-use Rattle.block.specs.declared.Verdict.TheVariants.{Pass, Refused}
+use Rattle.std.specs.Prelude.{Result, Ok, Err}
 use Rattle.label.specs.Label.{io_count}
 use Rattle.label.specs.declared.Label.{Label}
-use Rattle.label.specs.declared.LabelRead.{LabelRead}
-use Rattle.label.specs.declared.LabelRead.TheVariants.{Good, Bad}
 use Rattle.modification.specs.Assignments.{assignments_fit}
 use Rattle.front.specs.Front.{front_of}
 use Rattle.book.specs.Book.{assignments_of}
@@ -105,10 +103,10 @@ module _ (rs : List Assignment) (blocks : List ℕ) (l : Label) where
     }
 
 -- ---- what an answer tells of what was due
-never : (f : Fault) → Refused f ≡ Pass → ⊥
+never : (f : Fault) → Err f ≡ pass → ⊥
 never f e = let z : ◌≡◌ {A = ℕ} 0 1 = cc in omega arith
 
-fault_passes : (book blocks : List ℕ) (f : Fault) (io tables : List ℕ) → (assign_by book blocks (Bad f) io tables).answer ≡ Pass → ⊥
+fault_passes : (book blocks : List ℕ) (f : Fault) (io tables : List ℕ) → (assign_by book blocks (Err f) io tables).answer ≡ pass → ⊥
 unfolding assign_by
 fault_passes book blocks f io tables e = never f e
 
@@ -120,7 +118,7 @@ module _ (book blocks : List ℕ) (l : Label) (io tables : List ℕ) where
     pub once : every_two apart_from (assignments_of book) ≡ true
     pub all : all_given (assignments_of book) (file_tags blocks l) ≡ true
 
-  passed : (assign_by book blocks (Good l) io tables).answer ≡ Pass → Passed
+  passed : (assign_by book blocks (Ok l) io tables).answer ≡ pass → Passed
   unfolding assign_by lists_for
   passed e =
       by-test (fits book l io tables)
@@ -133,9 +131,9 @@ module _ (book blocks : List ℕ) (l : Label) (io tables : List ℕ) where
       (λ q. absurd (never (fault 25) (rw (p, q) at e))))
       (λ p. absurd (never (fault 24) (rw p at e)))
 
-  pub assigned_left : Passed → assign_by book blocks (Good l) io tables
+  pub assigned_left : Passed → assign_by book blocks (Ok l) io tables
       ≡ record {
-        answer = Pass;
+        answer = pass;
         io = io_list (assignments_of book) (file_tags blocks l);
         tables = table_list (assignments_of book)
             (file_tags blocks l);
@@ -144,9 +142,9 @@ module _ (book blocks : List ℕ) (l : Label) (io tables : List ℕ) where
   assigned_left p = rw (p.fit, p.in_file_lem, p.once, p.all)
 
 -- of any label that a front may have
-passed_front : (book blocks : List ℕ) (r : LabelRead) (io tables : List ℕ) → front_of blocks ≡ r
-    → (assign_by book blocks r io tables).answer ≡ Pass → Assignable book blocks io tables
-passed_front book blocks (Good l) io tables e q =
+passed_front : (book blocks : List ℕ) (r : Result Label Fault) (io tables : List ℕ) → front_of blocks ≡ r
+    → (assign_by book blocks r io tables).answer ≡ pass → Assignable book blocks io tables
+passed_front book blocks (Ok l) io tables e q =
     let p = passed book blocks l io tables q in
     record {
       label = l;
@@ -157,7 +155,7 @@ passed_front book blocks (Good l) io tables e q =
         allows = lists_allowed (assignments_of book) blocks l p.once p.all;
       };
     }
-passed_front book blocks (Bad f) io tables e q = absurd (fault_passes book blocks f io tables q)
+passed_front book blocks (Err f) io tables e q = absurd (fault_passes book blocks f io tables q)
 
 pub assigned_exactly : AssignedExactly
 unfolding assign_of
@@ -180,14 +178,14 @@ assigned_allowed book blocks io tables l e q =
 -- ---- a refusal leaves the lists
 module _ (io tables : List ℕ) where
   abbrev Kept : ListsLeft → Type 0
-  Kept o = (f : Fault) → o.answer ≡ Refused f → (o.io ≡ io) × (o.tables ≡ tables)
+  Kept o = (f : Fault) → o.answer ≡ Err f → (o.io ≡ io) × (o.tables ≡ tables)
 
   kept_with : (n : ℕ) → Kept (refused_with n io tables)
   kept_with n f e = (refl, refl)
 
-  kept_by : (book blocks : List ℕ) (r : LabelRead) → Kept (assign_by book blocks r io tables)
+  kept_by : (book blocks : List ℕ) (r : Result Label Fault) → Kept (assign_by book blocks r io tables)
   unfolding assign_by lists_for
-  kept_by book blocks (Good l) =
+  kept_by book blocks (Ok l) =
       both Kept (fits book l io tables)
       (both Kept (every (in_file (file_tags blocks l)) (assignments_of book))
       (both Kept (every_two apart_from (assignments_of book))
@@ -197,7 +195,7 @@ module _ (io tables : List ℕ) where
       (kept_with 26))
       (kept_with 25))
       (kept_with 24)
-  kept_by book blocks (Bad f) = λ g e. (refl, refl)
+  kept_by book blocks (Err f) = λ g e. (refl, refl)
 
 pub refused-untouched : RefusedUntouched
 unfolding assign_of

@@ -1,23 +1,26 @@
 -- A book record by record: what its records say in order, their bytes one by one, and that a number of six digits is small.
 use Prim.Native.Nat.{ℕ, suc, ◌+◌, ◌-◌, ◌*◌, ◌%◌, ◌^◌, ◌≤◌, ◌<◌}
-use mathlib.Core.Path.{◌≡◌, refl}
-use mathlib.Core.Bool.{Bool, true, false}
+use mathlib.Core.Path.{◌≡◌, refl, sym, ◌∙◌}
+use mathlib.Core.Bool.{true}
 use mathlib.Core.List.{List, [], ◌∷◌}
 use native.Mathlib.Omega.{arith}
-use native.Mathlib.Nat.{pow-le-pow_right}
+use native.Mathlib.Nat.{pow-le-pow_right, mul-le-mul_left}
+use native.Mathlib.Numerals.{add-one}
 use lib.Pow.{pow-add}
 use lib.Seq.{drop-cons}
-use lib.ListN.{length, get_or, drop}
+use lib.ListN.{length, get_or, drop, drop_of_length-le}
 use lib.Dec.{eqb, leb}
-use borrow.Author.Tests.{leb-true, le-leb, lt-leb}
-use Rattle.word.specs.Lists.{every, range, tab}
+use borrow.Author.Tests.{leb-true}
+use Rattle.std.specs.Prelude.{Some}
+use Rattle.word.specs.Lists.{every, tab}
 use Rattle.word.proofs.Cases.{and_left, and_right}
 use Rattle.word.proofs.Every.{every-place}
-use Rattle.word.proofs.Lists.{every_more, every_fails, every-ends, length-tab, get_d_tab, length-range, length-range_most}
-use Rattle.word.proofs.Lists.{get_d_range}
-use Rattle.book.specs.Book.{record_bytes, is_kind, between, is_code, is_digit, record_at, codes_in, digits_in, is_record, decimal}
+use Rattle.word.proofs.Lists.{length-tab, get_d_tab, length-range_most}
+use Rattle.block.specs.Fieldata.{spelt}
+use Rattle.book.specs.Book.{record_bytes, is_kind, kind_of, is_code, is_digit, record_at, codes_in, digits_in, is_record, decimal}
 use Rattle.book.specs.Book.{assignment_of, record_count, assignments_of, all_records, is_book}
 use Rattle.book.specs.Assign.{no_assignment}
+use Rattle.book.specs.HowKept.{kind_read, spelled, Spells}
 
 -- ---- what the records of a book say, in order
 pub length-assignments : (book : List ℕ) → length (assignments_of book) ≡ record_count book
@@ -30,10 +33,6 @@ unfolding assignments_of
 assignment_at book i h = get_d_tab (λ j. assignment_of (record_at book j)) (record_count book) i no_assignment h
 
 -- ---- a record of a book
-pub length_record : (book : List ℕ) (i : ℕ) → i * 14 + 14 ≤ length book → length (record_at book i) ≡ 14
-unfolding record_at
-length_record book i h = length-range book (i * 14) 14 h
-
 pub book_record : (book : List ℕ) (i : ℕ) → is_book book ≡ true → i * 14 + 14 ≤ length book → is_record (record_at book i) ≡ true
 unfolding is_book all_records
 book_record book i q h =
@@ -70,103 +69,43 @@ number_small bytes q =
       decimal_below 0 0 (digits_in bytes) (record_digits bytes q) (omega arith),
     )
 
--- ---- the bytes of a record one by one
-range_cons : (l : List ℕ) (a n : ℕ) → a < length l → range l a (suc n) ≡ get_or l a 0 ∷ range l (suc a) n
-unfolding range
-range_cons l a n h = rw (drop-cons l a 0 h)
+-- ---- a record as it is read: its letter is a kind's, and its digits are digits
+pub kind_is : (bytes : List ℕ) → is_record bytes ≡ true → kind_read (get_or bytes 0 0) ≡ Some (kind_of (get_or bytes 0 0))
+unfolding is_record
+kind_is bytes q = rw (and_left (is_kind (get_or bytes 0 0)) _ q)
 
-three_in : (l : List ℕ) (a n : ℕ) → a + 3 ≤ length l
-    → range l a (suc (suc (suc n))) ≡ get_or l a 0 ∷ get_or l (suc a) 0 ∷ get_or l (suc (suc a)) 0 ∷ range l (suc (suc (suc a))) n
-three_in l a n h =
-    rw (
-      range_cons l a (suc (suc n)) (omega arith),
-      range_cons l (suc a) (suc n) (omega arith),
-      range_cons l (suc (suc a)) n (omega arith),
-    )
+pub digits_spell : (bytes : List ℕ) → is_record bytes ≡ true → Spells 10 48 (digits_in bytes)
+digits_spell bytes q = record {
+  small = omega arith;
+  few = omega (arith, length-range_most bytes 7 6);
+  digits = λ k h. leb-true 48 (get_or (digits_in bytes) k 0)
+      (and_left (leb 48 (get_or (digits_in bytes) k 0)) _ (every-place 0 is_digit (digits_in bytes) k h (record_digits bytes q)));
+}
 
-range_none : (l : List ℕ) (a : ℕ) → range l a 0 ≡ []
-unfolding range
-range_none l a = refl
+pub tag_spelled : (n : ℕ) (bs : List ℕ) → spelled 64 0 n bs ≡ spelt n bs
+unfolding spelled spelt
+tag_spelled n [] = refl
+tag_spelled n (b ∷ bs) = let e : b - 0 ≡ b = omega arith in rw e (tag_spelled (n * 64 + b) bs)
 
-module _ (bytes : List ℕ) (e : length bytes ≡ 14) where
-  pub codes_are : codes_in bytes
-      ≡ get_or bytes 1 0 ∷ get_or bytes 2 0 ∷ get_or bytes 3 0 ∷ get_or bytes 4 0 ∷ get_or bytes 5 0 ∷ get_or bytes 6 0 ∷ []
-  codes_are = rw (three_in bytes 1 3 (omega arith), three_in bytes 4 0 (omega arith), range_none bytes 7)
+pub number_spelled : (n : ℕ) (bs : List ℕ) → spelled 10 48 n bs ≡ decimal n bs
+unfolding spelled decimal
+number_spelled n [] = refl
+number_spelled n (b ∷ bs) = number_spelled (n * 10 + (b - 48)) bs
 
-  pub digits_are : digits_in bytes
-      ≡ get_or bytes 7 0 ∷ get_or bytes 8 0 ∷ get_or bytes 9 0 ∷ get_or bytes 10 0 ∷ get_or bytes 11 0 ∷ get_or bytes 12 0 ∷ []
-  digits_are = rw (three_in bytes 7 3 (omega arith), three_in bytes 10 0 (omega arith), range_none bytes 13)
+-- ---- the loop that spells: byte i is taken, and the number is still below 256^(i + 1)
+module _ (base low n : ℕ) (bs : List ℕ) (i : ℕ) where
+  pub spell_more : (m : ℕ) → i < length bs → m ≡ spelled base low n (drop i bs)
+      → m ≡ spelled base low (n * base + (get_or bs i 0 - low)) (drop (i + 1) bs)
+  unfolding spelled
+  spell_more m h q = q ∙ rw (add-one, drop-cons bs i 0 h)
 
--- the digits of a record are digits
-pub record Digit (d : ℕ) : Type 0 where
-  pub low : 48 ≤ d
-  pub high : d ≤ 57
+  pub spell_end : (m : ℕ) → length bs ≤ i → m ≡ spelled base low n (drop i bs) → n ≡ m
+  unfolding spelled
+  spell_end m h q = sym (rw (drop_of_length-le bs {i = i} h) at q)
 
-pub record Digits (bytes : List ℕ) : Type 0 where
-  pub first : Digit (get_or bytes 7 0)
-  pub second : Digit (get_or bytes 8 0)
-  pub third : Digit (get_or bytes 9 0)
-  pub fourth : Digit (get_or bytes 10 0)
-  pub fifth : Digit (get_or bytes 11 0)
-  pub sixth : Digit (get_or bytes 12 0)
+module _ (base n d i : ℕ) (small : base ≤ 256) (h : n < 256 ^ i) (k : d < 256) where
+  pub spell_below : n * base + d < 256 ^ (i + 1)
+  spell_below = let m = mul-le-mul_left n small in rw (pow-add 256 i 1) (omega arith)
 
-pub digits_in_lem : (bytes : List ℕ) → (length bytes ≡ 14) × (every is_digit (digits_in bytes) ≡ true) → Digits bytes
-digits_in_lem bytes (e, q) =
-    record {
-      first = digit_at 0 (omega arith);
-      second = digit_at 1 (omega arith);
-      third = digit_at 2 (omega arith);
-      fourth = digit_at 3 (omega arith);
-      fifth = digit_at 4 (omega arith);
-      sixth = digit_at 5 (omega arith);
-    }
-  where
-    digit_at : (i : ℕ) → i < 6 → Digit (get_or bytes (7 + i) 0)
-    digit_at i h =
-        let l = length-range bytes 7 6 (omega arith) in
-        let d = rw (get_d_range bytes 7 6 i h) at (every-place 0 is_digit (digits_in bytes) i (omega arith) q) in
-        record {
-          low = leb-true 48 (get_or bytes (7 + i) 0) (and_left (leb 48 (get_or bytes (7 + i) 0)) _ d);
-          high = leb-true (get_or bytes (7 + i) 0) 57 (and_right (leb 48 (get_or bytes (7 + i) 0)) _ d);
-        }
-
--- ---- the loop over bytes that lie between two
-module _ (low high : ℕ) (l : List ℕ) (i : ℕ) (b : Bool) where
-  pub between_more : i < length l → low ≤ get_or l i 0 → get_or l i 0 ≤ high → b ≡ every (between low high) (drop i l)
-      → b ≡ every (between low high) (drop (i + 1) l)
-  between_more h m n =
-      every_more (between low high) 0 l i b h (rw (le-leb low (get_or l i 0) m, le-leb (get_or l i 0) high n))
-
-  pub between_low : i < length l → get_or l i 0 < low → b ≡ every (between low high) (drop i l) → false ≡ b
-  between_low h m = every_fails (between low high) 0 l i b h (rw (lt-leb low (get_or l i 0) m))
-
-  pub between_high : i < length l → low ≤ get_or l i 0 → high < get_or l i 0 → b ≡ every (between low high) (drop i l) → false ≡ b
-  between_high h m n =
-      every_fails (between low high) 0 l i b h (rw (le-leb low (get_or l i 0) m, lt-leb (get_or l i 0) high n))
-
-  pub between_ends : length l ≤ i → b ≡ every (between low high) (drop i l) → true ≡ b
-  between_ends h = every-ends (between low high) 0 l i b h
-
--- ---- the loop over the records of a book
-abbrev pub records_from : List ℕ → ℕ → Bool
-records_from book i = every is_record (drop i (tab (record_at book) (record_count book)))
-
-module _ (book : List ℕ) (i : ℕ) (b : Bool) where
-  in_tab : i < record_count book → i < length (tab (record_at book) (record_count book))
-  in_tab h = omega (arith, length-tab (record_at book) (record_count book))
-
-  pub records_more : i < record_count book → is_record (record_at book i) ≡ true → b ≡ records_from book i
-      → b ≡ records_from book (i + 1)
-  records_more h t =
-      every_more is_record [] (tab (record_at book) (record_count book)) i b (in_tab h)
-      (rw (get_d_tab (record_at book) (record_count book) i [] h) t)
-
-  pub records_fails : i < record_count book → is_record (record_at book i) ≡ false → b ≡ records_from book i → false ≡ b
-  records_fails h t =
-      every_fails is_record [] (tab (record_at book) (record_count book)) i b (in_tab h)
-      (rw (get_d_tab (record_at book) (record_count book) i [] h) t)
-
-  pub records_ends : record_count book ≤ i → b ≡ records_from book i → true ≡ b
-  records_ends h =
-      every-ends is_record [] (tab (record_at book) (record_count book)) i b
-      (omega (arith, length-tab (record_at book) (record_count book)))
+  pub spell_fits : i < 8 → n * base + d < 2 ^ 64
+  spell_fits l = omega (arith, spell_below, pow-le-pow_right {n = 256} (omega arith) {i = i + 1} {j = 8} (omega arith))

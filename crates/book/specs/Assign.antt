@@ -1,15 +1,12 @@
 -- From a book and the front of a file to open's two lists (#101). "Refusals: 24 bad record, part record or lent lists not just as
 -- long as the file's counts need, 25 tag not in the file, 26 tag given twice in one kind, 27 tag of the file not given, in that
 -- order after the file's 11 to 15 ..; none writes the lists." Each is asked of the whole book before the next.
-use Rattle.std.specs.Prelude.{ℕ, ◌*◌, ◌/◌, ◌%◌, ◌≡◌, Bool, cond, not, ◌&&◌, List, length, get_or, eqb, ltb}
+use Rattle.std.specs.Prelude.{ℕ, ◌*◌, ◌/◌, ◌%◌, ◌≡◌, Bool, cond, not, ◌&&◌, List, length, get_or, eqb, ltb, Result, Ok, Err}
 use Rattle.word.specs.Lists.{every, every_two, first_not, tab}
-use Rattle.word.specs.Fault.{fault, unless}
-use Rattle.block.specs.declared.Verdict.{Verdict}
-use Rattle.block.specs.declared.Verdict.TheVariants.{Pass, Refused}
+use Rattle.word.specs.Fault.{fault, unless, Verdict, pass}
+use Rattle.word.specs.declared.Fault.{Fault}
 use Rattle.label.specs.Label.{io_count}
 use Rattle.label.specs.declared.Label.{Label}
-use Rattle.label.specs.declared.LabelRead.{LabelRead}
-use Rattle.label.specs.declared.LabelRead.TheVariants.{Good, Bad}
 use Rattle.front.specs.Front.{front_of}
 use Rattle.book.specs.Book.{is_book, assignments_of}
 use Rattle.book.specs.Tags.{FileTags, file_tags, of_kind}
@@ -84,7 +81,7 @@ pub record ListsLeft : Type 0 where
   pub tables : List ℕ
 
 abbrev pub refused_with : ℕ → List ℕ → List ℕ → ListsLeft
-refused_with n io tables = record { answer = Refused (fault n); io = io; tables = tables }
+refused_with n io tables = record { answer = Err (fault n); io = io; tables = tables }
 
 -- from refusal 25 on, of a file with these tags
 unfoldable pub lists_for : FileTags → List Assignment → List ℕ → List ℕ → ListsLeft
@@ -92,17 +89,17 @@ lists_for ts rs io tables =
     unless (every (in_file ts) rs) (refused_with 25 io tables)
     (unless (every_two apart_from rs) (refused_with 26 io tables)
     (unless (all_given rs ts) (refused_with 27 io tables)
-    (record { answer = Pass; io = io_list rs ts; tables = table_list rs ts })))
+    (record { answer = pass; io = io_list rs ts; tables = table_list rs ts })))
 
 -- 24 of a file with this label
 unfoldable pub fits : List ℕ → Label → List ℕ → List ℕ → Bool
 fits book l io tables = lists_fit l io tables && is_book book
 
-unfoldable pub assign_by : List ℕ → List ℕ → LabelRead → List ℕ → List ℕ → ListsLeft
-assign_by book blocks (Good l) io tables =
+unfoldable pub assign_by : List ℕ → List ℕ → Result Label Fault → List ℕ → List ℕ → ListsLeft
+assign_by book blocks (Ok l) io tables =
     unless (fits book l io tables) (refused_with 24 io tables)
     (lists_for (file_tags blocks l) (assignments_of book) io tables)
-assign_by book blocks (Bad f) io tables = record { answer = Refused f; io = io; tables = tables }
+assign_by book blocks (Err f) io tables = record { answer = Err f; io = io; tables = tables }
 
 -- book and blocks as they are lent, io and tables what the lent lists hold
 unfoldable pub assign_of : List ℕ → List ℕ → List ℕ → List ℕ → ListsLeft

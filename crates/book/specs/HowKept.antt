@@ -1,14 +1,14 @@
 -- how the code goes, not a rule of 02
 -- The tags of a file, and what the records give them, are kept by kind in one list each, in stretches of 128 numbers. A mark is 0
 -- where no record yet was for the tag, else the number that it gives, and one.
-use Rattle.std.specs.Prelude.{ℕ, zero, suc, ◌*◌, ◌/◌, ◌%◌, ◌-◌, ◌^◌, ◌<◌, ◌≡◌, Bool, true, cond, not, ◌&&◌, List, length, get_or, replicate, eqb}
+use Rattle.std.specs.Prelude.{ℕ, zero, suc, ◌+◌, ◌*◌, ◌/◌, ◌%◌, ◌-◌, ◌^◌, ◌<◌, ◌≤◌, ◌≡◌, Bool, true, cond, not, ◌&&◌, List, [], ◌∷◌, length, get_or}
+use Rattle.std.specs.Prelude.{replicate, eqb, Option, Some, None, Err}
 use Rattle.word.specs.Lists.{every, every_two, tab, range, splice}
-use Rattle.word.specs.Fault.{fault}
-use Rattle.block.specs.declared.Verdict.{Verdict}
-use Rattle.block.specs.declared.Verdict.TheVariants.{Refused}
+use Rattle.word.specs.Fault.{fault, Verdict}
+use Rattle.word.specs.declared.Fault.{Fault}
 use Rattle.label.specs.Label.{Carried}
 use Rattle.label.specs.declared.Label.{Label}
-use Rattle.book.specs.Book.{is_book, assignments_of}
+use Rattle.book.specs.Book.{is_kind, kind_of, is_book, assignments_of}
 use Rattle.book.specs.Tags.{entries_of, tags_of, FileTags}
 use Rattle.book.specs.Assign.{rank, is_for, place_of, in_file, apart_from, no_assignment}
 use Rattle.book.specs.declared.Kind.{Kind}
@@ -35,6 +35,22 @@ kept_tags tags l = record {
   addresses = kept_of tags l Address;
   lengths = kept_of tags l Length;
 }
+
+-- the kind of a letter, where it is one
+abbrev pub kind_read : ℕ → Option Kind
+kind_read b = cond (is_kind b) (Some (kind_of b)) None
+
+-- the number that bytes spell to a base, each by what it is over `low`; n stands before them. A tag is spelled so of codes, the
+-- number of digits
+unfoldable pub spelled : ℕ → ℕ → ℕ → List ℕ → ℕ
+spelled base low n [] = n
+spelled base low n (b ∷ bs) = spelled base low (n * base + (b - low)) bs
+
+-- eight bytes at most spell a number below 2^64
+pub record Spells (base low : ℕ) (bytes : List ℕ) : Type 0 where
+  pub small : base ≤ 256
+  pub few : length bytes ≤ 8
+  pub digits : (k : ℕ) → k < length bytes → low ≤ get_or bytes k 0
 
 -- the tags of a kind in their stretch
 unfoldable pub with_tags : List ℕ → Label → Kind → List ℕ → List ℕ
@@ -77,7 +93,7 @@ all_marked marks l =
 
 -- where not every record was taken
 unfoldable pub not_taken : FileTags → List Assignment → Verdict
-not_taken ts rs = cond (every (in_file ts) rs) (Refused (fault 26)) (Refused (fault 25))
+not_taken ts rs = cond (every (in_file ts) rs) (Err (fault 26)) (Err (fault 25))
 
 -- ---- what has been seen to before the records are looked up among the tags, one after another and all of them
 pub record LookReady (book : List ℕ) (l : Label) (tags : List ℕ) : Type 0 where

@@ -1,9 +1,10 @@
 // The records of a book: whether its bytes are records, and what each says.
+#![tactic(auto, unfolding(crate::specs::Book::is_book, crate::specs::Book::is_record, crate::specs::Book::is_kind, crate::specs::Book::record_at, word::specs::Lists::range))]
+
 ghost use Rattle.std.specs.Prelude.{◌≡◌, true, ◌+◌, ◌*◌, ◌≤◌, length};
 ghost use Rattle.word.specs.Lists.{every};
-ghost use Rattle.block.specs.Fieldata.{spelt};
-ghost use Rattle.book.specs.Book.{record_bytes, is_kind, kind_of, between, record_at, codes_in, digits_in, is_record, decimal};
-ghost use Rattle.book.specs.Book.{is_digit, assignment_of, all_records, is_book};
+ghost use Rattle.book.specs.Book.{record_bytes, between, record_at, is_record, assignment_of, record_count, is_book};
+ghost use Rattle.book.specs.HowKept.{kind_read, spelled, Spells};
 
 use crate::{Assignment, Kind};
 
@@ -16,48 +17,27 @@ const DIGITS: usize = 7;
 
 const NEWLINE_AT: usize = 13;
 
-const LETTER_A: u8 = 65;
-
-const LETTER_L: u8 = 76;
-
-const LETTER_P: u8 = 80;
-
 const CODE_MOST: u8 = 63;
 
-const DIGIT_0: u8 = 48;
-
-const DIGIT_9: u8 = 57;
-
-const NEWLINE: u8 = 10;
+// How many whole records the bytes are.
+pub fn count(book: &[u8]) -> usize
+    ensures { result ≡ record_count book.now }
+{
+    book.len() / RECORD
+}
 
 // Whether the bytes are records and no part of one.
 pub fn is_book(book: &[u8]) -> bool
     ensures { result ≡ is_book book.now }
 {
-    if book.len() % RECORD != 0 {
-        return false;
-    }
-    all_records(book)
-}
-
-fn all_records(book: &[u8]) -> bool
-    ensures { result ≡ all_records book.now }
-{
-    let n = book.len() / RECORD;
-    let mut i: usize = 0;
-    while i < n {
-        if !is_record(record_at(book, i)) {
-            return false;
-        }
-        i += 1;
-    }
-    true
+    book.len() % RECORD == 0 && (0..count(book)).all(|i| is_record(record_at(book, i)))
 }
 
 // The bytes of record i.
 fn record_at(book: &[u8], i: usize) -> &[u8]
     requires { i * record_bytes + record_bytes ≤ length book.now }
-    ensures { result.now ≡ record_at book.now i }
+    ensures bytes { result.now ≡ record_at book.now i }
+    ensures long { length result.now ≡ record_bytes }
 {
     let a = i * RECORD;
     &book[a..a + RECORD]
@@ -67,96 +47,52 @@ fn is_record(bytes: &[u8]) -> bool
     requires { length bytes.now ≡ record_bytes }
     ensures { result ≡ is_record bytes.now }
 {
-    if !is_kind(bytes[0]) {
-        return false;
-    }
-    if !all_between(&bytes[CODES..DIGITS], 0, CODE_MOST) {
-        return false;
-    }
-    if !all_between(&bytes[DIGITS..NEWLINE_AT], DIGIT_0, DIGIT_9) {
-        return false;
-    }
-    bytes[NEWLINE_AT] == NEWLINE
+    kind_of(bytes[0]).is_some()
+        && all_between(&bytes[CODES..DIGITS], 0, CODE_MOST)
+        && all_between(&bytes[DIGITS..NEWLINE_AT], b'0', b'9')
+        && bytes[NEWLINE_AT] == b'\n'
 }
 
-fn is_kind(letter: u8) -> bool
-    ensures { result ≡ is_kind letter }
+// The kind of a letter that is one.
+fn kind_of(letter: u8) -> Option<Kind>
+    ensures { result ≡ kind_read letter }
 {
-    if letter == LETTER_A {
-        return true;
+    match letter {
+        b'A' => Some(Kind::Address),
+        b'L' => Some(Kind::Length),
+        b'P' => Some(Kind::Peripheral),
+        _ => None,
     }
-    if letter == LETTER_L {
-        return true;
-    }
-    letter == LETTER_P
 }
 
 // Whether each byte is one from low to high.
 fn all_between(bytes: &[u8], low: u8, high: u8) -> bool
     ensures { result ≡ every (between low high) bytes.now }
 {
-    let mut i: usize = 0;
-    while i < bytes.len() {
-        let b = bytes[i];
-        if b < low {
-            return false;
-        }
-        if high < b {
-            return false;
-        }
-        i += 1;
-    }
-    true
+    bytes.iter().all(|b| (low..=high).contains(b))
 }
 
-// What record i of a book says.
+// What record i of a book says. Six codes are a word, the first one leftmost.
 pub fn read_record(book: &[u8], i: usize) -> Assignment
     requires { (is_book book.now ≡ true) × (i * record_bytes + record_bytes ≤ length book.now) }
     ensures { result ≡ assignment_of (record_at book.now i) }
 {
     let bytes = record_at(book, i);
     Assignment {
-        kind: kind_of(bytes[0]),
-        tag: read_tag(bytes),
-        number: read_number(bytes),
+        kind: kind_of(bytes[0]).unwrap(),
+        tag: spelled::<64, 0>(&bytes[CODES..DIGITS]),
+        number: spelled::<10, b'0'>(&bytes[DIGITS..NEWLINE_AT]),
     }
 }
 
-fn kind_of(letter: u8) -> Kind
-    ensures { result ≡ kind_of letter }
+// The number that bytes spell, the first leftmost: to this base, by what each is over the byte for 0.
+fn spelled<const BASE: u64, const ZERO: u8>(bytes: &[u8]) -> u64
+    requires { Spells BASE ZERO bytes.now }
+    ensures { result ≡ spelled BASE ZERO 0 bytes.now }
 {
-    if letter == LETTER_A {
-        return Kind::Address;
+    let mut n = 0;
+    for &b in bytes {
+        n = n * BASE + u64::from(b - ZERO);
     }
-    if letter == LETTER_L {
-        return Kind::Length;
-    }
-    Kind::Peripheral
-}
-
-// Six codes are a word, the first one leftmost.
-fn read_tag(bytes: &[u8]) -> u64
-    requires { length bytes.now ≡ record_bytes }
-    ensures { result ≡ spelt 0 (codes_in bytes.now) }
-{
-    let mut w: u64 = 0;
-    w = w * 64 + bytes[CODES] as u64;
-    w = w * 64 + bytes[CODES + 1] as u64;
-    w = w * 64 + bytes[CODES + 2] as u64;
-    w = w * 64 + bytes[CODES + 3] as u64;
-    w = w * 64 + bytes[CODES + 4] as u64;
-    w * 64 + bytes[CODES + 5] as u64
-}
-
-fn read_number(bytes: &[u8]) -> u64
-    requires { (length bytes.now ≡ record_bytes) × (every is_digit (digits_in bytes.now) ≡ true) }
-    ensures { result ≡ decimal 0 (digits_in bytes.now) }
-{
-    let mut n: u64 = 0;
-    n = n * 10 + (bytes[DIGITS] - DIGIT_0) as u64;
-    n = n * 10 + (bytes[DIGITS + 1] - DIGIT_0) as u64;
-    n = n * 10 + (bytes[DIGITS + 2] - DIGIT_0) as u64;
-    n = n * 10 + (bytes[DIGITS + 3] - DIGIT_0) as u64;
-    n = n * 10 + (bytes[DIGITS + 4] - DIGIT_0) as u64;
-    n * 10 + (bytes[DIGITS + 5] - DIGIT_0) as u64
+    n
 }

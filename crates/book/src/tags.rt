@@ -1,8 +1,10 @@
 // The tags of a file, read from the words of its entries and kept by kind, each kind's in a stretch of its own.
+#![tactic(auto, unfolding(crate::specs::Tags::tag_of, crate::specs::HowKept::kept_of, crate::specs::HowKept::with_all_tags, word::specs::Lists::range))]
+
 ghost use Rattle.std.specs.Prelude.{◌≡◌, ◌<◌, length};
 ghost use Rattle.label.specs.Label.{Carried};
 ghost use Rattle.book.specs.Tags.{entries_of, tag_of};
-ghost use Rattle.book.specs.HowKept.{start_of, kind_most, kept_words, with_tags, with_all_tags};
+ghost use Rattle.book.specs.HowKept.{start_of, kind_most, kept_words, kept_of, with_tags, with_all_tags};
 
 use crate::Kind;
 use label::Label;
@@ -29,10 +31,8 @@ fn read_kind(blocks: &[u64], l: Label, kind: Kind, kept: &mut [u64])
 {
     let a = start_of(kind);
     let n = count_of(l, kind);
-    let mut j: usize = 0;
-    while j < n {
+    for j in 0..n {
         kept[a + j] = tag_of(blocks, l, kind, j as u64);
-        j += 1;
     }
 }
 
@@ -47,6 +47,15 @@ fn tag_of(blocks: &[u64], l: Label, kind: Kind, j: u64) -> u64
         Kind::Address => front::entry_word(blocks, modification::core_entry(io, Reference(j))),
         Kind::Length => front::entry_word(blocks, modification::core_entry(io, Reference(j)) + 1),
     }
+}
+
+// What is kept of a kind.
+pub fn kept_of(kept: &[u64], l: Label, kind: Kind) -> &[u64]
+    requires { (Carried l) × (length kept.now ≡ kept_words) }
+    ensures { result.now ≡ kept_of kept.now l kind }
+{
+    let a = start_of(kind);
+    &kept[a..a + count_of(l, kind)]
 }
 
 // Where a kind's stretch begins.
@@ -67,7 +76,6 @@ pub fn count_of(l: Label, kind: Kind) -> usize
 {
     match kind {
         Kind::Peripheral => (l.switches + l.channels + l.units) as usize,
-        Kind::Address => l.tables as usize,
-        Kind::Length => l.tables as usize,
+        Kind::Address | Kind::Length => l.tables as usize,
     }
 }

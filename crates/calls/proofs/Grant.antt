@@ -1,40 +1,41 @@
 -- Open: what its steps leave, by the tests that were passed.
 use Prim.Native.Nat.{ℕ, ◌+◌, ◌-◌, ◌/◌, ◌≤◌, ◌<◌}
-use mathlib.Core.Path.{◌≡◌, refl, sym, ap, ◌∙◌}
-use mathlib.Core.Bool.{Bool, true, false}
+use mathlib.Core.Path.{◌≡◌, refl, ap, ◌∙◌}
+use mathlib.Core.Bool.{true, false}
 use mathlib.Core.List.{List, [], ◌∷◌, ◌++◌}
+use Rattle.std.specs.Prelude.{Some}
 use native.Mathlib.Omega.{arith}
 use lib.ListN.{length, get_or, take, drop}
-use borrow.Author.Tests.{eq-eqb, ne_eqb}
+use borrow.Author.Tests.{ne_eqb}
 use Rattle.word.specs.Limits.{room_count, place_count, core_most}
-use Rattle.word.specs.Lists.{every, splice, range, cleared}
-use Rattle.word.specs.Runs.{apart}
-use Rattle.word.specs.Fault.{fault}
+use Rattle.word.specs.Lists.{splice, range, cleared}
+use Rattle.std.specs.Prelude.{Ok, Err}
+use Rattle.word.specs.declared.Fault.{Fault}
+use Rattle.calls.proofs.Entry.{passed, not_passed}
+use Rattle.word.specs.Fault.{numbered, fault}
 use Rattle.word.specs.declared.Area.{Area}
 use Rattle.word.proofs.Cases.{and_left}
 use Rattle.word.proofs.Lists.{length-range, range-lent, range-splice-after, length-splice, lent-whole}
-use Rattle.map.specs.declared.Stretch.{Stretch}
 use Rattle.map.specs.Map.{map_of, none}
 use Rattle.rooms.specs.Rooms.{place_refusal, lowest_free}
 use Rattle.rooms.proofs.Rooms.{given-place}
 use Rattle.lists.specs.Obey.{tables_of, lists_obey}
 use Rattle.lists.specs.HowKeep.{words_kept, TakesLists}
 use Rattle.lists.specs.Load.{list_words, given_by, kept_lists, Keepable}
-use Rattle.lists.specs.declared.Taken.TheVariants.{Words}
 use Rattle.lists.proofs.Keep.{lists_obey_lem}
 use Rattle.lists.proofs.Take.{taken_words}
 use Rattle.lists.proofs.Lent.{lent_length}
 use Rattle.lists.proofs.Back.{lent_start, kept-long}
 use Rattle.lists.proofs.Ranks.{words_few}
 use Rattle.stage.specs.Stage.{numbers_of}
-use Rattle.layout.specs.Layout.{place_words, desk_words, core_length, map_numbers, base, place_in, places, holder_of, own_of, lists_in}
+use Rattle.layout.specs.Layout.{place_words, desk_words, core_length, map_numbers, base, place_in, lists_in}
 use Rattle.layout.specs.Layout.{holders}
 use Rattle.layout.proofs.Places.{lists_length}
 use Rattle.desk.specs.Sound.{area_in, sound}
 use Rattle.desk.proofs.Facts.{core_small, sound-fair, stretch_in_core}
 use Rattle.calls.specs.declared.Answer.TheVariants.{Refused, Opened}
 use Rattle.calls.specs.Outcome.{Meets}
-use Rattle.calls.specs.Open.{beside_own, area_fits, opened_own, opened_place, opened_desk, opened, grant_of}
+use Rattle.calls.specs.Open.{area_fits, opened_own, opened_place, opened_desk, opened, grant_of}
 
 -- ---- an area that fits lies in its room's stretch, and so in the core
 module _ (d : List ℕ) (s : sound d ≡ true) (r : ℕ) (a : Area) (h : r < room_count) (q : area_fits d r a ≡ true) where
@@ -50,30 +51,11 @@ module _ (d : List ℕ) (s : sound d ≡ true) (r : ℕ) (a : Area) (h : r < roo
 
 -- ---- a place is given: h are the holders as they were read
 module _ (d h : List ℕ) (e : h ≡ holders d) (r : ℕ) where
-  pub none-due : (n : ℕ) → n ≡ place_refusal r h → n ≡ 0 → place_refusal r (holders d) ≡ 0
-  none-due n q z = sym (q ∙ ap (place_refusal r) e) ∙ z
+  pub none-due : (u : Unit {0}) → Ok u ≡ numbered (place_refusal r h) → place_refusal r (holders d) ≡ 0
+  none-due u q = passed (place_refusal r (holders d)) u (rw e at q)
 
   pub place_inside : sound d ≡ true → r < room_count → place_refusal r (holders d) ≡ 0 → (p : ℕ) → p ≡ lowest_free h → p < place_count
   place_inside s k f p q = omega (arith, q ∙ ap lowest_free e, given-place (holders d) r (sound-fair d s) k f)
-
--- ---- an area beside those that the room holds
-module _ (r : ℕ) (a : Area) (l : List ℕ) where
-  pub beside_others : (holder_of l ≡ r + 1 → ⊥) → true ≡ beside_own r a l
-  unfolding beside_own
-  beside_others h = rw (ne_eqb (holder_of l) (r + 1) h)
-
-  pub beside_held : holder_of l ≡ r + 1 → apart (get_or l 1 0) (get_or l 2 0) a.at.0 a.size ≡ beside_own r a l
-  unfolding beside_own own_of
-  beside_held h = rw (eq-eqb (holder_of l) (r + 1) h)
-
-module _ (d : List ℕ) (r : ℕ) (a : Area) (m : List Stretch) (e : m ≡ map_of (map_numbers d)) where
-  pub area_outside : area_in (get_or m r none) a ≡ false → false ≡ area_fits d r a
-  unfolding area_fits
-  area_outside q = rw (← e, q)
-
-  pub area-inside : (b : Bool) → area_in (get_or m r none) a ≡ true → b ≡ every (beside_own r a) (places d) → b ≡ area_fits d r a
-  unfolding area_fits
-  area-inside b q p = rw (← e, q) p
 
 -- ---- a place, lent as a part of the desk
 -- the numbers of place p, from b on
@@ -85,7 +67,7 @@ place-long d p b n h e = ap length (range-lent d b place_words) ∙ length-range
 lent-inside : (l vs ws : List ℕ) (n : ℕ) → ws ≡ splice l 0 vs → n ≡ length vs → length vs ≤ length l → n ≤ length ws
 lent-inside l vs ws n e k h = rw (e, length-splice l 0 vs (omega arith)) (omega arith)
 
-module _ (a : Area) (ios tables l ws : List ℕ) (n : ℕ) (t : TakesLists a ios tables l (Words n) ws) (h : length l ≡ 128) where
+module _ (a : Area) (ios tables l ws : List ℕ) (n : ℕ) (t : TakesLists a ios tables l (Some n) ws) (h : length l ≡ 128) where
   few_words : length (words_kept (tables_of tables)) ≤ length l
   few_words =
       let o = lists_obey_lem a ios tables (taken_words a ios tables l ws n t).0 in
@@ -155,10 +137,11 @@ module _ (r : ℕ) (a : Area) (ios tables : List ℕ) where
 
 -- ---- the answers
 module _ (d core : List ℕ) (r : ℕ) (a : Area) (ios tables : List ℕ) where
-  pub grant_denied : (n : ℕ) → n ≡ place_refusal r (holders d) → (n ≡ 0 → ⊥)
-      → Meets (grant_of d core r a ios tables) (Refused (fault n)) d core
+  pub grant_denied : (f : Fault) → Err f ≡ numbered (place_refusal r (holders d)) → Meets (grant_of d core r a ios tables) (Refused f) d core
   unfolding grant_of
-  grant_denied n q h = rw (← q, ne_eqb n 0 h) (record { told = refl; desk_left = refl; core-left = refl })
+  grant_denied f q =
+      let k = not_passed (place_refusal r (holders d)) f q in
+      rw (k.0, ne_eqb (place_refusal r (holders d)) 0 k.1) (record { told = refl; desk_left = refl; core-left = refl })
 
   module _ (f : place_refusal r (holders d) ≡ 0) where
     pub grant_outside : area_fits d r a ≡ false → Meets (grant_of d core r a ios tables) (Refused (fault 7)) d core

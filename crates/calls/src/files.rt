@@ -6,6 +6,7 @@ use crate::CODE;
 use word::Fault;
 
 // What such a call answers: a refusal; assigned; needs, with what is needed as one number; resealed.
+// Stays one enum, its refusals in it: an answer is one of a list, and C gets one number.
 #[derive(Clone, Copy)]
 pub enum FileAnswer {
     Refused(Fault),

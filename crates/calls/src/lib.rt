@@ -8,18 +8,20 @@ pub mod open;
 pub mod release;
 
 ghost use Rattle.std.specs.Prelude.{◌≡◌};
-ghost use Rattle.word.specs.Fault.{half_number, place_value};
+ghost use Rattle.word.specs.Fault.{half_number, numbered, place_value};
 ghost use Rattle.calls.specs.Answer.{together, packed, SmallFault, Small};
 ghost use Rattle.calls.specs.Entry.{entry_refusal};
 
 use layout::CORE_AT;
+use word::faults::{FAULT_1, FAULT_2};
 use word::limits::ROOMS;
-use word::{Absolute, Fault, Half, Side};
+use word::{Absolute, Fault, Half};
 
 // 2^32: an answer's code is counted in these, its value is below.
 pub const CODE: u64 = 1 << 32;
 
 // What a call answers: a refusal; made; opened, with the place; more; done, with the absolute start; released.
+// Stays one enum, its refusals in it: an answer is one of 01's list, and C gets one number.
 #[derive(Clone, Copy)]
 pub enum Answer {
     Refused(Fault),
@@ -30,20 +32,21 @@ pub enum Answer {
     Released,
 }
 
-// Which of refusals 1, 2 and 4 is due to a call on a desk, with a core of that many words, for that room; 0 where none is.
-pub fn entry_refusal(desk: &[u64], core: u64, room: u64) -> u64
-    ensures { result ≡ entry_refusal desk.now core room }
+// Which of refusals 1, 2 and 4 is due to a call on a desk, with a core of that many words, for that room, or none.
+#[tactic(auto, using(word::proofs::Tests::tests, crate::proofs::Entry::long_sound), unfolding(crate::specs::Entry::entry_refusal))]
+pub fn entry_refusal(desk: &[u64], core: u64, room: u64) -> Result<(), Fault>
+    ensures { result ≡ numbered (entry_refusal desk.now core room) }
 {
     if !desk::is_sound(desk) {
-        return 1;
+        return Err(FAULT_1);
     }
     if core != desk[CORE_AT] {
-        return 2;
+        return Err(FAULT_2);
     }
     if ROOMS as u64 <= room {
-        return 4;
+        return Err(word::fault_of(4));
     }
-    0
+    Ok(())
 }
 
 // A refusal as one number: its own times 2^32, and its place. The bit is left out.
@@ -55,15 +58,13 @@ pub fn pack_fault(f: Fault) -> u64
     f.number * CODE + f.word * 4 + half_number(half)
 }
 
-fn half_number(half: Side) -> u64
+fn half_number(half: Option<Half>) -> u64
     ensures { result ≡ half_number half }
 {
     match half {
-        Side::Whole => 0,
-        Side::In(h) => match h {
-            Half::Left => 1,
-            Half::Right => 2,
-        },
+        None => 0,
+        Some(Half::Left) => 1,
+        Some(Half::Right) => 2,
     }
 }
 

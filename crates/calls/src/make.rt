@@ -12,22 +12,17 @@ use word::faults::{FAULT_1, FAULT_2, FAULT_3};
 use word::limits::{CORE_MOST, MAP_WORDS, PLACES};
 
 // The core length, the map's numbers and every place free, in a desk that held whatever it held.
+#[tactic(auto, using(word::proofs::Tests::tests), unfolding(crate::specs::Make::make_of))]
 pub fn make_desk(desk: &mut [u64], core: u64, numbers: &[u64]) -> Answer
     ensures { Meets (make_of desk.old core numbers.now) result desk.new [] }
 {
     if desk.len() != DESK_WORDS {
         return Answer::Refused(FAULT_1);
     }
-    if core < 1 {
+    if core < 1 || CORE_MOST < core {
         return Answer::Refused(FAULT_2);
     }
-    if CORE_MOST < core {
-        return Answer::Refused(FAULT_2);
-    }
-    if numbers.len() != MAP_WORDS {
-        return Answer::Refused(FAULT_3);
-    }
-    if !map::map_fits(core, numbers) {
+    if numbers.len() != MAP_WORDS || !map::map_fits(core, numbers) {
         return Answer::Refused(FAULT_3);
     }
     write_fresh(desk, core, numbers);
@@ -60,9 +55,7 @@ fn clear_places(desk: &mut [u64])
     requires { length desk.old ≡ desk_words }
     ensures { desk.new ≡ freed place_count desk.old }
 {
-    let mut p: usize = 0;
-    while p < PLACES {
+    for p in 0..PLACES {
         desk[PLACES_AT + p * PLACE_WORDS] = 0;
-        p += 1;
     }
 }

@@ -10,7 +10,6 @@ ghost use Rattle.calls.specs.Open.{beside_own, area_fits, opened_place, grant_of
 
 use crate::Answer;
 use layout::{AREA_AT, HOLDER_AT, LISTS_AT, PLACE_WORDS, PLACES_AT, SIZE_AT};
-use lists::Taken;
 use word::Area;
 use word::faults::{FAULT_7, FAULT_8};
 use word::limits::{PLACES, TABLES_MOST};
@@ -27,9 +26,8 @@ pub fn open_load(
     ensures { Meets (open_of desk.old core.old room area ios.now tables.now)
         result desk.new core.new }
 {
-    let n = crate::entry_refusal(desk, core.len() as u64, room);
-    if n != 0 {
-        return Answer::Refused(word::fault_of(n));
+    if let Err(f) = crate::entry_refusal(desk, core.len() as u64, room) {
+        return Answer::Refused(f);
     }
     grant(desk, core, room, area, ios, tables)
 }
@@ -48,44 +46,38 @@ fn grant(
         result desk.new core.new }
 {
     let h = layout::read_holders(desk);
-    let n = rooms::place_refusal(&h, room);
-    if n != 0 {
-        return Answer::Refused(word::fault_of(n));
+    if let Err(f) = rooms::place_refusal(&h, room) {
+        return Answer::Refused(f);
     }
     if !area_fits(desk, room, area) {
         return Answer::Refused(FAULT_7);
     }
     let mut words = [0u64; TABLES_MOST];
-    match lists::take_lists(area, ios, tables, &mut words) {
-        Taken::Words(n) => {
-            let p = rooms::lowest_free(&h);
-            let b = PLACES_AT + p * PLACE_WORDS;
-            write_place(
-                &mut desk[b..b + PLACE_WORDS],
-                room,
-                area,
-                ios,
-                tables,
-                &words[..n],
-            );
-            word::slices::clear(core, area.at.0 as usize, area.size as usize);
-            Answer::Opened(p as u64)
-        }
-        Taken::Nothing => Answer::Refused(FAULT_8),
-    }
+    let Some(n) = lists::take_lists(area, ios, tables, &mut words) else {
+        return Answer::Refused(FAULT_8);
+    };
+    let p = rooms::lowest_free(&h);
+    let b = PLACES_AT + p * PLACE_WORDS;
+    write_place(
+        &mut desk[b..b + PLACE_WORDS],
+        room,
+        area,
+        ios,
+        tables,
+        &words[..n],
+    );
+    word::slices::clear(core, area.at.0 as usize, area.size as usize);
+    Answer::Opened(p as u64)
 }
 
 // Whether the area is not empty, lies in the room's stretch and shares no word with one the room holds.
+#[tactic(auto, using(word::proofs::Tests::tests), unfolding(crate::specs::Open::area_fits))]
 fn area_fits(desk: &[u64], room: u64, area: Area) -> bool
     requires { (length desk.now ≡ desk_words) × (room < room_count) }
     ensures { result ≡ area_fits desk.now room area }
 {
     let m = map::read_map(layout::map_numbers(desk));
-    let s = m[room as usize];
-    if !desk::area_in(s, area) {
-        return false;
-    }
-    all_beside(desk, room, area)
+    desk::area_in(m[room as usize], area) && all_beside(desk, room, area)
 }
 
 // Whether the area shares no word with one the room holds, at any place.
@@ -93,24 +85,16 @@ fn all_beside(desk: &[u64], room: u64, area: Area) -> bool
     requires { (length desk.now ≡ desk_words) × (room < room_count) }
     ensures { result ≡ every (beside_own room area) (places desk.now) }
 {
-    let mut p: usize = 0;
-    while p < PLACES {
-        if !beside_own(layout::place_at(desk, p), room, area) {
-            return false;
-        }
-        p += 1;
-    }
-    true
+    (0..PLACES).all(|p| beside_own(layout::place_at(desk, p), room, area))
 }
 
+#[tactic(auto, using(word::proofs::Tests::tests), unfolding(crate::specs::Open::beside_own, layout::specs::Layout::own_of))]
 fn beside_own(place: &[u64], room: u64, area: Area) -> bool
     requires { (length place.now ≡ place_words) × (room < room_count) }
     ensures { result ≡ beside_own room area place.now }
 {
-    if place[HOLDER_AT] != room + 1 {
-        return true;
-    }
-    word::runs_apart(place[AREA_AT], place[SIZE_AT], area.at.0, area.size)
+    place[HOLDER_AT] != room + 1
+        || word::runs_apart(place[AREA_AT], place[SIZE_AT], area.at.0, area.size)
 }
 
 // The numbers of a place: its own, the stage of a load that waits for its label, and the lists, of whose tables these words are

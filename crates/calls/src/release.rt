@@ -11,9 +11,8 @@ use word::faults::FAULT_9;
 pub fn release_place(desk: &mut [u64], core: u64, room: u64, place: u64) -> Answer
     ensures { Meets (release_of desk.old core room place) result desk.new [] }
 {
-    let n = crate::entry_refusal(desk, core, room);
-    if n != 0 {
-        return Answer::Refused(word::fault_of(n));
+    if let Err(f) = crate::entry_refusal(desk, core, room) {
+        return Answer::Refused(f);
     }
     if !layout::holds_place(desk, room, place) {
         return Answer::Refused(FAULT_9);

@@ -3,17 +3,14 @@ use Prim.Native.Nat.{ℕ, ◌<◌, ◌^◌}
 use mathlib.Core.Path.{◌≡◌, sym, ap, ◌∙◌}
 use mathlib.Core.List.{List}
 use native.Mathlib.Omega.{arith}
-use Rattle.word.specs.Fault.{half_number}
+use Rattle.word.specs.Fault.{half_number, Verdict}
 use Rattle.word.specs.declared.Fault.{Fault}
-use Rattle.block.specs.declared.Verdict.{Verdict}
-use Rattle.block.specs.declared.Verdict.TheVariants.{Refused as BlockRefused}
+use Rattle.std.specs.Prelude.{Result, Ok, Err}
 use Rattle.calls.specs.Answer.{SmallFault, FileSmall, file_packed}
 use Rattle.calls.specs.declared.files.FileAnswer.TheVariants.{Refused}
 use Rattle.calls.proofs.Packed.{small_fault}
 use Rattle.label.specs.Label.{Carried}
 use Rattle.label.specs.declared.Label.{Label}
-use Rattle.label.specs.declared.LabelRead.{LabelRead}
-use Rattle.label.specs.declared.LabelRead.TheVariants.{Good, Bad}
 use Rattle.front.specs.Front.{label_block, needs_value}
 use Rattle.front.proofs.Carried.{label-block-carried}
 use Rattle.front.proofs.Faults.{FrontFault, label-block_faults}
@@ -32,7 +29,7 @@ assign_small =
 
 -- a refusal of it fits
 pub refused_small : (book blocks io tables : List ℕ) (v : Verdict) (io' tables' : List ℕ) (f : Fault)
-    → Leaves (assign_of book blocks io tables) v io' tables' → v ≡ BlockRefused f → FileSmall (Refused f)
+    → Leaves (assign_of book blocks io tables) v io' tables' → v ≡ Err f → FileSmall (Refused f)
 refused_small book blocks io tables v io' tables' f m e = rw (sym m.told ∙ e) at (assign_small book blocks io tables)
 
 pub packed_assigned : (book blocks io tables : List ℕ) (v : Verdict) (io' tables' : List ℕ) (r : ℕ)
@@ -48,6 +45,6 @@ packed_assigned book blocks io tables v io' tables' r m e = record {
 pub value_small : (l : Label) → Carried l → needs_value l < 2 ^ 32
 value_small l c = omega (arith, c.io, c.core)
 
-pub needs_small : (label : List ℕ) (r : LabelRead) → r ≡ label_block label → FileSmall (needs_answer r)
-needs_small label (Good l) e = value_small l (label-block-carried label l (sym e))
-needs_small label (Bad f) e = front_small f (label-block_faults label f (sym e))
+pub needs_small : (label : List ℕ) (r : Result Label Fault) → r ≡ label_block label → FileSmall (needs_answer r)
+needs_small label (Ok l) e = value_small l (label-block-carried label l (sym e))
+needs_small label (Err f) e = front_small f (label-block_faults label f (sym e))

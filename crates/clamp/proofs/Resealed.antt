@@ -3,7 +3,7 @@ use Prim.Native.Nat.{ℕ}
 use mathlib.Core.Path.{◌≡◌, ap, ◌∙◌}
 use mathlib.Core.List.{List}
 use native.Mathlib.Omega.{arith}
-use Rattle.block.specs.declared.Verdict.{Verdict}
+use Rattle.word.specs.Fault.{Verdict}
 use Rattle.block.proofs.OnePass.{seal-cases}
 use Rattle.calls.specs.Answer.{FileSmall, file_packed}
 use Rattle.calls.proofs.Packed.{small_fault}

@@ -1,13 +1,12 @@
 -- What C gets back: the outcome of a call, its answer as one number.
-use Rattle.std.specs.Prelude.{ℕ, ◌≡◌, List}
-use Rattle.block.specs.declared.Verdict.{Verdict}
-use Rattle.block.specs.declared.Verdict.TheVariants.{Pass, Refused as BlockRefused}
+use Rattle.std.specs.Prelude.{ℕ, ◌≡◌, List, Result, Ok, Err}
+use Rattle.word.specs.Fault.{Verdict}
+use Rattle.word.specs.declared.Fault.{Fault}
+use Rattle.label.specs.declared.Label.{Label}
 use Rattle.calls.specs.Answer.{packed, file_packed}
 use Rattle.calls.specs.Outcome.{Outcome}
 use Rattle.calls.specs.declared.files.FileAnswer.{FileAnswer}
 use Rattle.calls.specs.declared.files.FileAnswer.TheVariants.{Refused, Assigned, Needs, Resealed}
-use Rattle.label.specs.declared.LabelRead.{LabelRead}
-use Rattle.label.specs.declared.LabelRead.TheVariants.{Good, Bad}
 use Rattle.front.specs.Front.{needs_value}
 use Rattle.book.specs.Assign.{assign_of}
 use Rattle.old_seal.specs.Reseal.{old_verdict, resealed}
@@ -19,22 +18,22 @@ pub record Returned (o : Outcome) (r : ℕ) (desk core : List ℕ) : Type 0 wher
 
 -- of reseal: 11, 12 or *resealed*, and the block afterwards
 abbrev pub reseal_answer : Verdict → FileAnswer
-reseal_answer Pass = Resealed
-reseal_answer (BlockRefused f) = Refused f
+reseal_answer (Ok t) = Resealed
+reseal_answer (Err f) = Refused f
 
 pub record ResealReturned (index : ℕ) (block : List ℕ) (r : ℕ) (after : List ℕ) : Type 0 where
   pub number : r ≡ file_packed (reseal_answer (old_verdict index block))
   pub block-left : after ≡ resealed index block
 
 -- of needs: 11, 12, 14 or 15, or *needs* with what the label needs
-abbrev pub needs_answer : LabelRead → FileAnswer
-needs_answer (Good l) = Needs (needs_value l)
-needs_answer (Bad f) = Refused f
+abbrev pub needs_answer : Result Label Fault → FileAnswer
+needs_answer (Ok l) = Needs (needs_value l)
+needs_answer (Err f) = Refused f
 
 -- of assign: a refusal or *assigned*, and the two lists afterwards
 abbrev pub assign_answer : Verdict → FileAnswer
-assign_answer Pass = Assigned
-assign_answer (BlockRefused f) = Refused f
+assign_answer (Ok t) = Assigned
+assign_answer (Err f) = Refused f
 
 pub record AssignReturned (book blocks io tables : List ℕ) (r : ℕ) (io' tables' : List ℕ) : Type 0 where
   pub number : r ≡ file_packed (assign_answer (assign_of book blocks io tables).answer)

@@ -12,9 +12,7 @@ ghost use Rattle.calls.specs.Answer.{file_packed};
 ghost use Rattle.front.specs.Front.{label_block};
 ghost use Rattle.clamp.specs.Returned.{Returned, ResealReturned, AssignReturned, needs_answer};
 
-use block::Verdict;
 use calls::files::FileAnswer;
-use label::LabelRead;
 use layout::DESK_WORDS;
 use word::{Absolute, Area};
 
@@ -73,8 +71,8 @@ pub fn clamp_reseal(block: &mut [u64], index: u64) -> u64
     ensures { ResealReturned index block.old result block.new }
 {
     match old_seal::reseal(block, index) {
-        Verdict::Pass => calls::files::pack_file(FileAnswer::Resealed),
-        Verdict::Refused(f) => calls::files::pack_file(FileAnswer::Refused(f)),
+        Ok(()) => calls::files::pack_file(FileAnswer::Resealed),
+        Err(f) => calls::files::pack_file(FileAnswer::Refused(f)),
     }
 }
 
@@ -83,8 +81,8 @@ pub fn clamp_needs(label: &[u64]) -> u64
     ensures { result ≡ file_packed (needs_answer (label_block label.now)) }
 {
     match front::read_label_block(label) {
-        LabelRead::Good(l) => calls::files::pack_file(FileAnswer::Needs(front::needs_value(l))),
-        LabelRead::Bad(f) => calls::files::pack_file(FileAnswer::Refused(f)),
+        Ok(l) => calls::files::pack_file(FileAnswer::Needs(front::needs_value(l))),
+        Err(f) => calls::files::pack_file(FileAnswer::Refused(f)),
     }
 }
 
@@ -94,7 +92,7 @@ pub fn clamp_assign(book: &[u8], blocks: &[u64], io: &mut [u64], tables: &mut [u
         result io.new tables.new }
 {
     match book::assign(book, blocks, io, tables) {
-        Verdict::Pass => calls::files::pack_file(FileAnswer::Assigned),
-        Verdict::Refused(f) => calls::files::pack_file(FileAnswer::Refused(f)),
+        Ok(()) => calls::files::pack_file(FileAnswer::Assigned),
+        Err(f) => calls::files::pack_file(FileAnswer::Refused(f)),
     }
 }

@@ -7,15 +7,15 @@ use lib.ListN.{length}
 use lib.Dec.{eqb}
 use borrow.Author.Tests.{eqb-true}
 use Rattle.word.specs.declared.Area.{Area}
-use Rattle.block.specs.declared.Verdict.{Verdict}
-use Rattle.block.specs.declared.Verdict.TheVariants.{Pass, Refused as refused-block}
+use Rattle.std.specs.Prelude.{Ok, Err}
+use Rattle.word.specs.Fault.{Verdict}
 use Rattle.block.specs.Block.{verdict}
 use Rattle.rooms.specs.Rooms.{place_refusal}
 use Rattle.lists.specs.Obey.{lists_obey}
 use Rattle.lists.specs.Load.{Load}
 use Rattle.stage.specs.declared.Stage.{Stage}
-use Rattle.stage.specs.declared.Step.{Step}
-use Rattle.stage.specs.declared.Step.TheVariants.{More, Done, Refused}
+use Rattle.stage.specs.Step.{StepResult}
+use Rattle.stage.specs.declared.Step.TheVariants.{More, Done}
 use Rattle.stage.specs.Record.{record_due, is_over}
 use Rattle.layout.specs.Layout.{place_in, stage_in, holders, holds}
 use Rattle.calls.specs.Outcome.{Outcome}
@@ -59,11 +59,11 @@ module _ (d : List ℕ) (core other : List ℕ) (same : length other ≡ length 
 
   -- ---- feed: what is due decides by the block alone
   module _ (p : ℕ) (block : List ℕ) where
-    settled_agree : (area : Area) (g : Step) (k m : List ℕ) → Agree (settled_of d other p area g k) (settled_of d core p area g m)
+    settled_agree : (area : Area) (g : StepResult) (k m : List ℕ) → Agree (settled_of d other p area g k) (settled_of d core p area g m)
     unfolding settled_of
-    settled_agree area (More t) k m = (refl, refl)
-    settled_agree area (Done a) k m = (refl, refl)
-    settled_agree area (Refused f) k m = (refl, refl)
+    settled_agree area (Ok (More t)) k m = (refl, refl)
+    settled_agree area (Ok (Done a)) k m = (refl, refl)
+    settled_agree area (Err f) k m = (refl, refl)
 
     module _ (e : Entered d (length core) r) (h : holds d r p ≡ true) where
       abbrev x : Load
@@ -83,8 +83,8 @@ module _ (d : List ℕ) (core other : List ℕ) (same : length other ≡ length 
       checked_agree : (v : Verdict)
           → Agree (checked_of d other (taken_of d other p x due block) v) (checked_of d core (taken_of d core p x due block) v)
       unfolding checked_of taken_of
-      checked_agree Pass = rw same_step (settled_agree x.area (block_step x due block core).step _ _)
-      checked_agree (refused-block f) = (refl, refl)
+      checked_agree (Ok t) = rw same_step (settled_agree x.area (block_step x due block core).step _ _)
+      checked_agree (Err f) = (refl, refl)
 
       held_agree : Agree (held_of d other p block) (held_of d core p block)
       unfolding held_of

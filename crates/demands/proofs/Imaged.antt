@@ -12,8 +12,8 @@ use Rattle.word.specs.Lists.{every, range}
 use Rattle.word.proofs.Cases.{when, and_left, and_right}
 use Rattle.block.specs.Records.{of_record}
 use Rattle.label.specs.declared.Label.{Label as LabelWords}
-use Rattle.label.specs.declared.LabelRead.{LabelRead}
-use Rattle.label.specs.declared.LabelRead.TheVariants.{Good as label-read, Bad as no_label}
+use Rattle.std.specs.Prelude.{Result, Ok, Err}
+use Rattle.word.specs.declared.Fault.{Fault}
 use Rattle.label.specs.Label.{label_of, channel_count, io_count}
 use Rattle.modification.specs.Assignments.{assignments_fit}
 use Rattle.modification.specs.Entries.{entry_blocks}
@@ -27,8 +27,8 @@ use Rattle.stage.specs.declared.Due.{Due}
 use Rattle.stage.specs.declared.Due.TheVariants.{Segment as segment-due}
 use Rattle.stage.specs.declared.Stage.{Stage}
 use Rattle.stage.specs.declared.Stage.TheVariants.{Label, Entry, Program, Termination, Complete, Broken}
-use Rattle.stage.specs.declared.Step.{Step}
-use Rattle.stage.specs.declared.Step.TheVariants.{More, Done, Refused}
+use Rattle.stage.specs.Step.{StepResult}
+use Rattle.stage.specs.declared.Step.TheVariants.{More, Done}
 use Rattle.stage.specs.Record.{record_due, is_over}
 use Rattle.records.specs.Label.{label_counts_of, after_label, with_label, label_step}
 use Rattle.records.specs.Entries.{entries_fit, after_entries, entry_step}
@@ -63,14 +63,14 @@ module _ (x : Load) (after : List ℕ) where
     module _ (block : List ℕ) (blocks : List (List ℕ)) (core : List ℕ)
         (ih : (s : Stage) (core' : List ℕ) → Takes x s core' blocks Complete after
         → Reads x channels after s core' (pieces blocks)) where
-      program_by : (c : LabelCounts) (due : Due) (r : Step) → (program_step x c due block core).step ≡ r
+      program_by : (c : LabelCounts) (due : Due) (r : StepResult) → (program_step x c due block core).step ≡ r
           → TakesBy r (λ u. Takes x u (program_step x c due block core).core blocks Complete after)
           → Reads x channels after (Program c due) core (pieces (block ∷ blocks))
       unfolding program_step pieces
-      program_by c due (More t) e h =
+      program_by c due (Ok (More t)) e h =
           program_leads x channels tables block t (pieces blocks) after last_word c due 1 core e (ih t _ h)
-      program_by c due (Done a) e h = absurd (program-not_done x block c due core a e)
-      program_by c due (Refused f) e h = absurd h
+      program_by c due (Ok (Done a)) e h = absurd (program-not_done x block c due core a e)
+      program_by c due (Err f) e h = absurd h
 
       program_run : (c : LabelCounts) (due : Due) → Then blocks (program_step x c due block core)
           → Reads x channels after (Program c due) core (pieces (block ∷ blocks))
@@ -87,7 +87,7 @@ module _ (x : Load) (after : List ℕ) where
           → Reads x channels after (Termination b) core (pieces (block ∷ blocks))
       unfolding termination_step
       termination_run b =
-          when (λ (r : Step). Then blocks (stores_nothing r core)
+          when (λ (r : StepResult). Then blocks (stores_nothing r core)
           → Reads x channels after (Termination b) core (pieces (block ∷ blocks)))
           (in_bank b (start_of block))
           (λ _ h section st. over section (pieces (block ∷ blocks)) h)
@@ -128,7 +128,7 @@ module _ (x : Load) (after : List ℕ) where
       entry_run b core (block ∷ blocks) l h =
           when (λ (o : StepOutcome). Then blocks o → Left (many - b) core (block ∷ blocks))
           (of_record (record_due (Entry c exact b)) block)
-          (λ _. when (λ (r : Step). Then blocks (stores_nothing r core) → Left (many - b) core (block ∷ blocks))
+          (λ _. when (λ (r : StepResult). Then blocks (stores_nothing r core) → Left (many - b) core (block ∷ blocks))
           (entries_fit (length x.ios) x.tables exact b block)
           (λ _. when (λ (s : Stage). Takes x s core blocks Complete after → Left (many - b) core (block ∷ blocks))
           (ltb (b + 1) many)
@@ -146,13 +146,13 @@ module _ (x : Load) (after : List ℕ) where
 
   -- ---- the label
   module _ (tables : every (table_inside x.area) x.tables ≡ true) (core block : List ℕ) (blocks : List (List ℕ)) where
-    abbrev Whole : LabelRead → Type 0
+    abbrev Whole : Result LabelWords Fault → Type 0
     Whole r = Comes x.area core (stores_beyond x.area x.tables x.ios r (block ∷ blocks)) after
 
     -- the lists have as many entries as the label says
     beyond : (l : LabelWords) → assignments_fit l x.ios (length x.tables) ≡ true
         → Reads x (channel_count l) after (Program (label_counts_of l) segment-due) core
-        (pieces (drop (many (channel_count l) tables) blocks)) → Whole (label-read l)
+        (pieces (drop (many (channel_count l) tables) blocks)) → Whole (Ok l)
     unfolding assignments_fit stores_beyond
     beyond l q h =
         let a : length x.ios ≡ io_count l = eqb-true _ _ (and_left (eqb (length x.ios) (io_count l)) _ q) in
@@ -162,10 +162,10 @@ module _ (x : Load) (after : List ℕ) where
         rw (← a, ← b, e, drop_one (many (channel_count l) tables) block blocks) (h no_section refl)
 
     label_by : (l : LabelWords) → assignments_fit l x.ios (length x.tables) ≡ true
-        → Takes x (after_label (length x.ios) (length x.tables) l) core blocks Complete after → Whole (label-read l)
+        → Takes x (after_label (length x.ios) (length x.tables) l) core blocks Complete after → Whole (Ok l)
     unfolding after_label
     label_by l f =
-        when (λ (s : Stage). Takes x s core blocks Complete after → Whole (label-read l)) (eqb (many (channel_count l) tables) 0)
+        when (λ (s : Stage). Takes x s core blocks Complete after → Whole (Ok l)) (eqb (many (channel_count l) tables) 0)
         (λ q k. beyond l f (rw (eqb-true (many (channel_count l) tables) 0 q)
         (run (channel_count l) tables (Program (label_counts_of l) segment-due) core blocks k)))
         (λ q k. let e : many (channel_count l) tables - 0 ≡ many (channel_count l) tables = omega arith in
@@ -174,14 +174,14 @@ module _ (x : Load) (after : List ℕ) where
         some : eqb (many (channel_count l) tables) 0 ≡ false → 0 < many (channel_count l) tables
         some q = omega (arith, eqb-false (many (channel_count l) tables) 0 q)
 
-    label_run : (r : LabelRead) → Then blocks (stores_nothing (with_label x.ios (length x.tables) r) core) → Whole r
+    label_run : (r : Result LabelWords Fault) → Then blocks (stores_nothing (with_label x.ios (length x.tables) r) core) → Whole r
     unfolding with_label
-    label_run (label-read l) =
-        when (λ (r : Step). Then blocks (stores_nothing r core) → Whole (label-read l))
+    label_run (Ok l) =
+        when (λ (r : StepResult). Then blocks (stores_nothing r core) → Whole (Ok l))
         (assignments_fit l x.ios (length x.tables))
         (λ q k. label_by l q k)
         (λ _ k. absurd k)
-    label_run (no_label f) = λ k. absurd k
+    label_run (Err f) = λ k. absurd k
 
   pub file_comes : (core : List ℕ) (file : List (List ℕ)) → every (table_inside x.area) x.tables ≡ true
       → Takes x Label core file Complete after

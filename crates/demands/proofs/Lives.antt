@@ -13,8 +13,9 @@ use Rattle.word.specs.Lists.{every, range}
 use Rattle.word.specs.declared.Absolute.{Absolute}
 use Rattle.stage.specs.declared.Stage.{Stage}
 use Rattle.stage.specs.declared.Stage.TheVariants.{Complete, Broken}
-use Rattle.stage.specs.declared.Step.{Step}
-use Rattle.stage.specs.declared.Step.TheVariants.{More as step-more, Done as step-done, Refused as step-refused}
+use Rattle.std.specs.Prelude.{Ok, Err}
+use Rattle.stage.specs.Step.{StepResult, step_more, step_done}
+use Rattle.stage.specs.declared.Step.TheVariants.{More, Done}
 use Rattle.stage.specs.Record.{is_over}
 use Rattle.lists.specs.Load.{Load}
 use Rattle.layout.specs.declared.Place.{Place}
@@ -136,42 +137,42 @@ module _ (r p : ℕ) (x : Load) (a : Absolute) (others : List Absolute) where
           → range (run event es n).core x.area.at.0 x.area.size ≡ range m x.area.at.0 x.area.size
       words_n q = rw area-n at (words_held p n (run event es n) q.same (λ z. omega (arith, holder_n)))
 
-    abbrev Says : Step → Type 0
+    abbrev Says : StepResult → Type 0
     Says g' = (block_step x g block s.core).step ≡ g'
 
-    alone_says : (g' : Step) → Says g' → (block_step x g block core).step ≡ g'
+    alone_says : (g' : StepResult) → Says g' → (block_step x g block core).step ≡ g'
     alone_says g' e = block_laws.same_step x g block core s.core fit hc inside ∙ e
 
-    more_ends : (t : Stage) (m : State) → Says (step-more t) → Ends x t alone (taken r p (told es m)) (run event es m)
+    more_ends : (t : Stage) (m : State) → Says (step_more t) → Ends x t alone (taken r p (told es m)) (run event es m)
         → Ends x g core (taken_in r p (Feed r p block) More (taken r p (told es m))) (run event es m)
     unfolding Takes
     more_ends t m e y =
         rw (eq-eqb r r refl, eq-eqb p p refl) (record {
           left = y.left;
-          takes = (over, rw (alone_says (step-more t) e) y.takes);
+          takes = (over, rw (alone_says (step_more t) e) y.takes);
           area = y.area;
         })
 
-    done_ends : (b : Absolute) (m : State) → Says (step-done b) → taken r p (told es m) ≡ []
+    done_ends : (b : Absolute) (m : State) → Says (step_done b) → taken r p (told es m) ≡ []
         → range (run event es m).core x.area.at.0 x.area.size ≡ range after x.area.at.0 x.area.size
         → Ends x g core (taken_in r p (Feed r p block) (Done b) (taken r p (told es m))) (run event es m)
     unfolding Takes
     done_ends b m e q w =
         rw (eq-eqb r r refl, eq-eqb p p refl, q) (record {
           left = alone;
-          takes = (over, rw (alone_says (step-done b) e) (refl, refl));
+          takes = (over, rw (alone_says (step_done b) e) (refl, refl));
           area = w ∙ words_alike;
         })
 
-    ending : (g' : Step) → Says g' → Prepared (left_by (settled_of s.desk s.core p x.area g' after))
+    ending : (g' : StepResult) → Says g' → Prepared (left_by (settled_of s.desk s.core p x.area g' after))
         → Ending (settled_of s.desk s.core p x.area g' after)
     unfolding settled_of
-    ending (step-more t) e y q z =
+    ending (Ok (More t)) e y q z =
         more_ends t _ e (next_n t after y alone-holds after_alike q (sym (cond_same (eqb r r && eqb p p) _) ∙ z))
-    ending (step-done b) e y q z =
+    ending (Ok (Done b)) e y q z =
         let n = quiet_n Complete after y (unfold is_over in refl) q in
         done_ends b _ e n.none (words_n Complete after y n)
-    ending (step-refused f) e y q z =
+    ending (Err f) e y q z =
         let n = quiet_n Broken _ y (unfold is_over in refl) q in
         absurd (omega (arith, ap length (sym n.no_start ∙ sym (cond_same (eqb r r && eqb p p) _) ∙ z)))
 

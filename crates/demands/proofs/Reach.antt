@@ -11,12 +11,12 @@ use Rattle.word.specs.Lists.{range}
 use Rattle.word.proofs.Cases.{when}
 use Rattle.word.proofs.Stretch.{Beside, length-cleared, get_d_cleared_beside}
 use Rattle.word.specs.Limits.{place_count, room_count}
-use Rattle.block.specs.declared.Verdict.{Verdict}
-use Rattle.block.specs.declared.Verdict.TheVariants.{Pass, Refused as refused-block}
+use Rattle.std.specs.Prelude.{Ok, Err}
+use Rattle.word.specs.Fault.{Verdict}
 use Rattle.stage.specs.declared.Stage.{Stage}
 use Rattle.stage.specs.declared.Stage.TheVariants.{Complete, Broken}
-use Rattle.stage.specs.declared.Step.{Step}
-use Rattle.stage.specs.declared.Step.TheVariants.{More as step-more, Done as step-done, Refused as step-refused}
+use Rattle.stage.specs.Step.{StepResult}
+use Rattle.stage.specs.declared.Step.TheVariants.{More, Done}
 use Rattle.stage.specs.Record.{is_over}
 use Rattle.layout.specs.Layout.{core_length, place_in, holder_in, holder_of, own_of, stage_in, holds}
 use Rattle.layout.proofs.Places.{holder_at_lem, holds-inside}
@@ -48,15 +48,15 @@ module _ (laws : BlockLaws) (s : State) (p : ℕ) (block : List ℕ) where
     area-inside : (area_of numbers).at.0 + (area_of numbers).size ≤ length s.core
     area-inside = omega (arith, held-inside s.desk ok p held)
 
-    pub settled_confined : (g : Step) (k : List ℕ) → length k ≡ length s.core
+    pub settled_confined : (g : StepResult) (k : List ℕ) → length k ≡ length s.core
         → ((j : ℕ) → Beside j (area_of numbers).at.0 (area_of numbers).size → get_or k j 0 ≡ get_or s.core j 0)
         → Kept (settled_of s.desk s.core p (area_of numbers) g k)
     unfolding settled_of
-    settled_confined (step-more t) k l b =
+    settled_confined (Ok (More t)) k l b =
         staged_confined s.desk ok p in_p t s.core k l (rw (extent-held numbers held) b)
-    settled_confined (step-done a) k l b =
+    settled_confined (Ok (Done a)) k l b =
         staged_confined s.desk ok p in_p Complete s.core k l (rw (extent-held numbers held) b)
-    settled_confined (step-refused f) k l b =
+    settled_confined (Err f) k l b =
         staged_confined s.desk ok p in_p Broken s.core (wiped (area_of numbers) s.core)
         (length-cleared s.core _ _ area-inside)
         (rw (extent-held numbers held) (λ j o. get_d_cleared_beside s.core _ _ j area-inside o))
@@ -72,8 +72,8 @@ module _ (laws : BlockLaws) (s : State) (p : ℕ) (block : List ℕ) where
     checked_confined : (v : Verdict)
         → Kept (checked_of s.desk s.core (taken_of s.desk s.core p (load_in numbers) (stage_in numbers) block) v)
     unfolding checked_of
-    checked_confined Pass = taken_confined
-    checked_confined (refused-block f) = confined_same p s
+    checked_confined (Ok t) = taken_confined
+    checked_confined (Err f) = confined_same p s
 
     held_confined : Kept (held_of s.desk s.core p block)
     unfolding held_of
@@ -132,13 +132,13 @@ module _ (laws : BlockLaws) (s t : State) (p : ℕ) (same : view p s ≡ view p 
           ∙ rw (extent-held l held) e
           ∙ sym (words_of_lem _ l m (staged_own t.desk ot p in_p g ∙ ap own_of place_same)))
 
-      settled_match : (g : Step) (k m : List ℕ)
+      settled_match : (g : StepResult) (k m : List ℕ)
           → range k (area_of l).at.0 (area_of l).size ≡ range m (area_of l).at.0 (area_of l).size
           → Match (settled_of s.desk s.core p (area_of l) g k) (settled_of t.desk t.core p (area_of l) g m)
       unfolding settled_of
-      settled_match (step-more g) k m e = (refl, staged_match g k m e)
-      settled_match (step-done a) k m e = (refl, staged_match Complete k m e)
-      settled_match (step-refused f) k m e =
+      settled_match (Ok (More g)) k m e = (refl, staged_match g k m e)
+      settled_match (Ok (Done a)) k m e = (refl, staged_match Complete k m e)
+      settled_match (Err f) k m e =
           (refl, staged_match Broken _ _ (cleared_words s.core _ _ inside_s ∙ sym (cleared_words t.core _ _ inside-t)))
 
       after_alike : range (block_step (load_in l) (stage_in l) block s.core).core (area_of l).at.0 (area_of l).size
@@ -163,8 +163,8 @@ module _ (laws : BlockLaws) (s t : State) (p : ℕ) (same : view p s ≡ view p 
           → Match (checked_of s.desk s.core (taken_of s.desk s.core p (load_in l) (stage_in l) block) v)
           (checked_of t.desk t.core (taken_of t.desk t.core p (load_in l) (stage_in l) block) v)
       unfolding checked_of
-      checked_match Pass = taken_match
-      checked_match (refused-block f) = (refl, same)
+      checked_match (Ok t) = taken_match
+      checked_match (Err f) = (refl, same)
 
       held_match : Match (held_of s.desk s.core p block) (held_of t.desk t.core p block)
       unfolding held_of

@@ -12,8 +12,9 @@ use Rattle.word.specs.Word.{is_word, word_limit}
 use Rattle.word.specs.declared.Area.{Area}
 use Rattle.word.proofs.Stretch.{length-cleared}
 use Rattle.group.proofs.Stored.{StoredWords, stored-none, stored-cleared}
-use Rattle.stage.specs.declared.Step.{Step}
-use Rattle.stage.specs.declared.Step.TheVariants.{More as step-more, Done as step-done, Refused as step-refused}
+use Rattle.std.specs.Prelude.{Ok, Err}
+use Rattle.stage.specs.Step.{StepResult}
+use Rattle.stage.specs.declared.Step.TheVariants.{More, Done}
 use Rattle.lists.specs.Load.{Load}
 use Rattle.layout.specs.Layout.{core_length, place_in, stage_in, holds}
 use Rattle.desk.specs.Sound.{sound}
@@ -90,12 +91,12 @@ module _ (s : State) (r p : ℕ) (block : List ℕ) (ok : sound s.desk ≡ true)
   in_core_lem : x.area.at.0 + x.area.size ≤ length s.core
   in_core_lem = let k = holds-place s.desk r p h in rw e (held-inside s.desk ok p k.0 k.1)
 
-  settled_words : (g : Step) (after : List ℕ) → StoredWords s.core after
+  settled_words : (g : StepResult) (after : List ℕ) → StoredWords s.core after
       → StoredWords s.core (settled_of s.desk s.core p x.area g after).core
   unfolding settled_of
-  settled_words (step-more t) after w = w
-  settled_words (step-done a) after w = w
-  settled_words (step-refused f) after w = stored-cleared s.core _ _ in_core_lem
+  settled_words (Ok (More t)) after w = w
+  settled_words (Ok (Done a)) after w = w
+  settled_words (Err f) after w = stored-cleared s.core _ _ in_core_lem
 
   taken_words : every is_word block ≡ true
       → StoredWords s.core (taken_of s.desk s.core p x (stage_in (place_in s.desk p)) block).core

@@ -11,8 +11,8 @@ use Rattle.word.specs.Fault.{fault, half_number}
 use Rattle.word.specs.declared.Area.{Area}
 use Rattle.word.specs.declared.Fault.{Fault}
 use Rattle.word.specs.declared.Half.TheVariants.{Left, Right}
-use Rattle.word.specs.declared.Side.{Side}
-use Rattle.word.specs.declared.Side.TheVariants.{Whole, In}
+use Rattle.std.specs.Prelude.{Option, Some, None}
+use Rattle.word.specs.declared.Half.{Half}
 use Rattle.word.proofs.Cases.{both, when}
 use Rattle.word.proofs.Lists.{length-splice}
 use Rattle.word.proofs.Stretch.{length-cleared, get_d_cleared_beside, get_d_splice_beside}
@@ -53,22 +53,22 @@ pub one : Demand1One
 one o r q d e core other p t = (p.number ∙ sym t.number, (p.desk_left ∙ sym t.desk_left, p.core-left ∙ sym t.core-left))
 
 -- ---- the answer, read back from its code and value; of a refusal the value is its place
-abbrev side_of : ℕ → Side
-side_of n = cond (eqb n 1) (In Left) (cond (eqb n 2) (In Right) Whole)
+abbrev side_of : ℕ → Option Half
+side_of n = cond (eqb n 1) (Some Left) (cond (eqb n 2) (Some Right) None)
 
-abbrev placed : ℕ → ℕ → Side → Fault
+abbrev placed : ℕ → ℕ → Option Half → Fault
 placed n w s = record { number = n; word = w; half = s; bit = 0 }
 
-place_back : (n w : ℕ) (s : Side) → placed n ((w * 4 + half_number s) / 4) (side_of ((w * 4 + half_number s) % 4)) ≡ placed n w s
-place_back n w Whole =
+place_back : (n w : ℕ) (s : Option Half) → placed n ((w * 4 + half_number s) / 4) (side_of ((w * 4 + half_number s) % 4)) ≡ placed n w s
+place_back n w None =
     let q : (w * 4 + 0) / 4 ≡ w = omega arith in
     let r : (w * 4 + 0) % 4 ≡ 0 = omega arith in
     rw (q, r)
-place_back n w (In Left) =
+place_back n w (Some Left) =
     let q : (w * 4 + 1) / 4 ≡ w = omega arith in
     let r : (w * 4 + 1) % 4 ≡ 1 = omega arith in
     rw (q, r)
-place_back n w (In Right) =
+place_back n w (Some Right) =
     let q : (w * 4 + 2) / 4 ≡ w = omega arith in
     let r : (w * 4 + 2) % 4 ≡ 2 = omega arith in
     rw (q, r)

@@ -18,11 +18,8 @@ use Rattle.word.proofs.Every.{every-place}
 use Rattle.word.proofs.Lists.{length-range_most}
 use Rattle.program.specs.declared.Bank.{Bank}
 use Rattle.program.specs.declared.Segment.{Segment}
-use Rattle.program.specs.declared.SegmentRead.{SegmentRead}
-use Rattle.program.specs.declared.SegmentRead.TheVariants.{Good as segment-read, Bad as no-segment}
+use Rattle.std.specs.Prelude.{Result, Ok, Err}
 use Rattle.program.specs.declared.TableSection.{TableSection}
-use Rattle.program.specs.declared.TableSectionRead.{TableSectionRead}
-use Rattle.program.specs.declared.TableSectionRead.TheVariants.{Good as section-read, Bad as no-section}
 use Rattle.program.specs.declared.Group.{Group}
 use Rattle.program.specs.Sections.{last_word, segment_of, table_section_of}
 use Rattle.program.specs.Pieces.{closes, Piece, pieces_from}
@@ -31,10 +28,9 @@ use Rattle.program.proofs.Pieces.{no_fuel, no_pieces}
 use Rattle.lists.specs.declared.Table.{Table as CoreTable}
 use Rattle.lists.specs.Obey.{no_table, table_inside}
 use Rattle.field.specs.Field.{Assignments}
-use Rattle.group.specs.declared.GroupStep.TheVariants.{Done as group-answer}
 use Rattle.group.specs.declared.Section.{Section}
 use Rattle.group.specs.declared.Section.TheVariants.{Segment as InSegment, Table as InTable}
-use Rattle.group.specs.Group.{GroupOutcome, program_words, indicator_bits_in, group_step, InArea}
+use Rattle.group.specs.Group.{ended, GroupOutcome, program_words, indicator_bits_in, group_step, InArea}
 use Rattle.group.proofs.Places.{Lies, words_lie_lem}
 use Rattle.group.proofs.Words.{changed-many}
 use Rattle.group.proofs.Group.{Goes as GroupGoes, Gives, group_outcomes}
@@ -44,7 +40,7 @@ use Rattle.stage.specs.declared.Due.TheVariants.{Segment as segment-due, Segment
 use Rattle.stage.specs.declared.Stage.{Stage}
 use Rattle.stage.specs.declared.Stage.TheVariants.{Label, Entry, Program, Termination, Complete, Broken}
 use Rattle.stage.specs.Ranges.{bank_fits, section_fits}
-use Rattle.stage.specs.declared.Step.TheVariants.{More, Refused}
+use Rattle.stage.specs.Step.{step_more}
 use Rattle.sections.specs.declared.Item.{Item}
 use Rattle.sections.specs.declared.Item.TheVariants.{Go, Last}
 use Rattle.lists.specs.Load.{Load}
@@ -133,12 +129,12 @@ module _ (x : Load) (channels : ℕ) (tables : every (table_inside x.area) x.tab
 
   -- where an outcome leads to t, the rest decides
   abbrev pub LeadsTo : StepOutcome → Type 0 → Type 0
-  LeadsTo o P = o.step ≡ More t → Reads x channels after t o.core rest → P
+  LeadsTo o P = o.step ≡ step_more t → Reads x channels after t o.core rest → P
 
-  stays : (s : Stage) (core : List ℕ) → LeadsTo (record { step = More s; core = core }) (Reads x channels after s core rest)
+  stays : (s : Stage) (core : List ℕ) → LeadsTo (record { step = step_more s; core = core }) (Reads x channels after s core rest)
   stays s core q k = let e : s ≡ t = cc in rw e k
 
-  refuses : (P : Type 0) (f : Fault) (core : List ℕ) → LeadsTo (record { step = Refused f; core = core }) P
+  refuses : (P : Type 0) (f : Fault) (core : List ℕ) → LeadsTo (record { step = Err f; core = core }) P
   refuses P f core q k = let z : ◌≡◌ {A = ℕ} 0 1 = cc in absurd (omega arith)
 
   -- the item at place i, and then n items at most
@@ -191,7 +187,7 @@ module _ (x : Load) (channels : ℕ) (tables : every (table_inside x.area) x.tab
             let m = rw e at (changed-many (assignments x c) (indicator_bits_in block i g) 0 (program_words block i g)) in
             record { first = l.low; last = omega (arith, m, l.high, length-range_most block (i + 1) g.program) }
 
-        stored_leads : LeadsTo (then (after_group c same least ibank (group-answer (i + 1 + g.words) g.last))
+        stored_leads : LeadsTo (then (after_group c same least ibank (ended (i + 1 + g.words) g.last))
             (splice core to.0 vs))
             (Comes x.area core (stores_from a (suc c.sections) section ps) after)
         unfolding after_group
@@ -216,17 +212,17 @@ module _ (x : Load) (channels : ℕ) (tables : every (table_inside x.area) x.tab
       abbrev Heads : Item → Type 0
       Heads item = LeadsTo (then item core) (Reads x channels after (Program c segment-due) core ps)
 
-      segment-read_leads : (r : SegmentRead) → segment_of (get_or block i 0) (get_or block (i + 1) 0) ≡ r
+      segment-read_leads : (r : Result Segment Fault) → segment_of (get_or block i 0) (get_or block (i + 1) 0) ≡ r
           → Heads (with_segment x.area x.tables c (i + 4) r)
       unfolding with_segment
-      segment-read_leads (segment-read g) e =
+      segment-read_leads (Ok g) e =
           when Heads (banks_fit x.area x.tables g)
           (λ f r k section st.
           rw (stores_segment block i a c.sections section n rest more g (head_segment block i g e))
           (ih c (SegmentGroup g) (i + 4) core r k (InSegment g)
           (record { count = st; same = refl; room = banks_room x.area x.tables g f })))
           (λ f. refuses _ (further i (fault 17)) core)
-      segment-read_leads (no-segment f) e = refuses _ (further i f) core
+      segment-read_leads (Err f) e = refuses _ (further i f) core
 
       segment_leads : Heads (segment_step x.area x.tables c block i)
       unfolding segment_step
@@ -240,10 +236,10 @@ module _ (x : Load) (channels : ℕ) (tables : every (table_inside x.area) x.tab
       abbrev Tables : Item → Type 0
       Tables item = LeadsTo (then item core) (Reads x channels after (Program c (section-due (record { 0 = least }) ibank)) core ps)
 
-      section_read_leads : (r : TableSectionRead) → table_section_of (get_or block i 0) ≡ r
+      section_read_leads : (r : Result TableSection Fault) → table_section_of (get_or block i 0) ≡ r
           → Tables (with_section x.tables c least ibank (i + 1) r)
       unfolding with_section
-      section_read_leads (section-read s) e =
+      section_read_leads (Ok s) e =
           when Tables (leb least s.number.0)
           (λ _. when Tables (section_fits x.tables s)
           (λ f r k section st.
@@ -253,7 +249,7 @@ module _ (x : Load) (channels : ℕ) (tables : every (table_inside x.area) x.tab
           (record { count = st; same = refl; room = table_room x.area x.tables s tables f })))
           (λ f. refuses _ (further i (fault 17)) core))
           (λ _. refuses _ (further i (fault 17)) core)
-      section_read_leads (no-section f) e = refuses _ (further i f) core
+      section_read_leads (Err f) e = refuses _ (further i f) core
 
       section_leads : Tables (section_step x.tables c least ibank block i)
       unfolding section_step

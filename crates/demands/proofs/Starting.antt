@@ -14,8 +14,9 @@ use Rattle.word.specs.declared.Area.{Area}
 use Rattle.lists.specs.Load.{Load}
 use Rattle.stage.specs.declared.Stage.{Stage}
 use Rattle.stage.specs.declared.Stage.TheVariants.{Complete, Broken}
-use Rattle.stage.specs.declared.Step.{Step}
-use Rattle.stage.specs.declared.Step.TheVariants.{More as step-more, Done as step-done, Refused as step-refused}
+use Rattle.std.specs.Prelude.{Ok, Err}
+use Rattle.stage.specs.Step.{StepResult}
+use Rattle.stage.specs.declared.Step.TheVariants.{More, Done}
 use Rattle.stage.specs.Record.{is_over}
 use Rattle.layout.specs.declared.Place.{Place}
 use Rattle.layout.specs.Layout.{place_in, holder_of, own_of, stage_in}
@@ -173,17 +174,17 @@ module _ (r p : ℕ) (area : Area) (a : Absolute) (others : List Absolute) where
         t.desk ≡ o.desk → starts_in r p (Feed r p block) o.answer (starts r p (told es t)) ≡ a ∷ others
         → Found (taken_in r p (Feed r p block) o.answer (taken r p (told es t)))
 
-    ending : (g : Step) (after : List ℕ) → (block_step x due block core).step ≡ g
+    ending : (g : StepResult) (after : List ℕ) → (block_step x due block core).step ≡ g
         → Ending (settled_of s.desk core p x.area g after)
     unfolding settled_of load_in
-    ending (step-more g) after e d z =
+    ending (Ok (More g)) after e d z =
         let y = next t sound-t holder_t area-t stays (sym (cond_same (eqb r r && eqb p p) _) ∙ z) in
         rw (eq-eqb r r refl, eq-eqb p p refl) (record {
           some = omega arith;
           start = y.start ∙ rw (last_later block (taken r p (told es t)) y.some);
           once = y.once;
         })
-    ending (step-done b) after e d z =
+    ending (Ok (Done b)) after e d z =
         let n = none Complete (unfold is_over in refl) d in
         let st : b ∷ starts r p (told es t) ≡ a ∷ others = rw (eq-eqb r r refl, eq-eqb p p refl) at z in
         rw (eq-eqb r r refl, eq-eqb p p refl, n.0) (record {
@@ -191,7 +192,7 @@ module _ (r p : ℕ) (area : Area) (a : Absolute) (others : List Absolute) where
           start = sym (ap (first_of a) st) ∙ block_laws.starts x due block core b e ∙ rw its;
           once = sym (ap rest_of st) ∙ n.1;
         })
-    ending (step-refused f) after e d z =
+    ending (Err f) after e d z =
         absurd (omega (
           arith,
           ap length

@@ -2,14 +2,13 @@
 -- cut into pieces, the stores in order, and of each word the last store that reaches it. No loader, no desk and no stage in it. Of
 -- the modification blocks only the number matters here: their words hold the lengths of the tables, and a file whose lengths are
 -- not met is refused with 16.
-use Rattle.std.specs.Prelude.{ℕ, ◌+◌, ◌-◌, Bool, false, cond, ◌&&◌, ◌||◌, List, [], ◌∷◌, ◌++◌, map, length, get_or, drop, eqb, leb, ltb}
+use Rattle.std.specs.Prelude.{ℕ, ◌+◌, ◌-◌, Bool, false, cond, ◌&&◌, ◌||◌, List, [], ◌∷◌, ◌++◌, map, length, get_or, drop, eqb, leb, ltb, Result, Ok, Err}
 use Rattle.word.specs.Lists.{tab}
 use Rattle.word.specs.Sorts.{absolute_of}
 use Rattle.word.specs.declared.Absolute.{Absolute}
 use Rattle.word.specs.declared.Area.{Area}
 use Rattle.label.specs.declared.Label.{Label}
-use Rattle.label.specs.declared.LabelRead.{LabelRead}
-use Rattle.label.specs.declared.LabelRead.TheVariants.{Good as label-read, Bad as no_label}
+use Rattle.word.specs.declared.Fault.{Fault}
 use Rattle.label.specs.Label.{label_of, channel_count, io_count}
 use Rattle.modification.specs.Entries.{entry_blocks}
 use Rattle.program.specs.declared.TableSection.{TableSection}
@@ -119,11 +118,11 @@ assignments_of area tables ios l =
     record { area = area; tables = tables; ios = ios; channels = channel_count l }
 
 -- one segment section and as many table sections as the label says
-unfoldable pub stores_beyond : Area → List CoreTable → List ℕ → LabelRead → List (List ℕ) → List Store
-stores_beyond area tables ios (label-read l) file =
+unfoldable pub stores_beyond : Area → List CoreTable → List ℕ → Result Label Fault → List (List ℕ) → List Store
+stores_beyond area tables ios (Ok l) file =
     stores_from (assignments_of area tables ios l) (1 + l.sections) no_section
     (pieces (drop (1 + entry_blocks (io_count l) l.tables) file))
-stores_beyond area tables ios (no_label f) file = []
+stores_beyond area tables ios (Err f) file = []
 
 unfoldable pub stores_of : Area → List CoreTable → List ℕ → List (List ℕ) → List Store
 stores_of area tables ios file = stores_beyond area tables ios (label_of (first_block file)) file

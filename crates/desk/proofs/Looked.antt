@@ -72,6 +72,11 @@ pub record Looked (d held : List ℕ) (i p : ℕ) (last : List ℕ) : Type 0 whe
   pub theirs : (r : ℕ) → r < room_count → 0 < get_or last r 0 → holder_of (place_in d (get_or last r 0 - 1)) ≡ r + 1
   pub latest : (r q : ℕ) → r < room_count → q < p → holder_of (place_in d q) ≡ r + 1 → q < get_or last r 0
 
+-- and that for some p
+pub record LookedSo (d held : List ℕ) (i : ℕ) (last : List ℕ) : Type 0 where
+  pub past : ℕ
+  pub so : Looked d held i past last
+
 pub looked_none : (d held : List ℕ) → held ≡ held_places 0 (holders d) → Looked d held 0 0 (replicate 8 0)
 looked_none d held e = record {
   left = e;

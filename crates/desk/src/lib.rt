@@ -14,7 +14,7 @@ use map::Stretch;
 use word::Area;
 use word::limits::{CORE_MOST, IO_MOST, PLACES, ROOMS, TABLES_MOST};
 
-// Whether a desk is sound.
+// Whether a desk is sound. The tests stay returns of their own: the core length is read between the first and the others.
 pub fn is_sound(desk: &[u64]) -> bool
     ensures { result ≡ sound desk.now }
 {
@@ -45,23 +45,18 @@ fn holders_fit(desk: &[u64]) -> bool
     }
     let mut held = [0usize; PLACES];
     let n = rooms::held_places(&h, &mut held);
-    if n == 0 {
-        return true;
-    }
-    places_fit(desk, &held[..n])
+    n == 0 || places_fit(desk, &held[..n])
 }
 
 // Whether each held place is in order, and no two held areas share a word. Stretches share none, so that only areas of the same
-// room can; and no room holds over two places, so that an area is compared with the last one of its room.
+// room can; and no room holds over two places, so that an area is compared with the last one of its room. That place is held as one
+// more than its number, 0 for none: the pass is in every call, and an Option would take two numbers for each room.
 fn places_fit(desk: &[u64], held: &[usize]) -> bool
     requires { HeldNamed desk.now held.now }
     ensures { result ≡ places_fit desk.now }
 {
     let mut last = [0usize; ROOMS];
-    let mut past: usize = 0;
-    let mut i: usize = 0;
-    while i < held.len() {
-        let p = held[i];
+    for &p in held {
         let place = layout::place_at(desk, p);
         let r = (place[HOLDER_AT] - 1) as usize;
         if !held_fits(place, map::stretch_at(layout::map_numbers(desk), r)) {
@@ -70,9 +65,7 @@ fn places_fit(desk: &[u64], held: &[usize]) -> bool
         if !apart_from_last(desk, last[r], place) {
             return false;
         }
-        past = p + 1;
-        last[r] = past;
-        i += 1;
+        last[r] = p + 1;
     }
     true
 }
@@ -82,10 +75,7 @@ fn apart_from_last(desk: &[u64], q: usize, place: &[u64]) -> bool
     requires { LastHeld desk.now q place.now }
     ensures { result ≡ (eqb q 0 || areas_apart (place_in desk.now (q - 1)) place.now) }
 {
-    if q == 0 {
-        return true;
-    }
-    apart_from_held(layout::place_at(desk, q - 1), place)
+    q == 0 || apart_from_held(layout::place_at(desk, q - 1), place)
 }
 
 // The first of the two places is held.
@@ -93,10 +83,8 @@ fn apart_from_held(one: &[u64], other: &[u64]) -> bool
     requires { FirstHeld one.now other.now }
     ensures { result ≡ areas_apart one.now other.now }
 {
-    if other[HOLDER_AT] == 0 {
-        return true;
-    }
-    word::runs_apart(one[AREA_AT], one[SIZE_AT], other[AREA_AT], other[SIZE_AT])
+    other[HOLDER_AT] == 0
+        || word::runs_apart(one[AREA_AT], one[SIZE_AT], other[AREA_AT], other[SIZE_AT])
 }
 
 // Whether a held place is in order, s its room's stretch.
@@ -106,36 +94,20 @@ fn held_fits(place: &[u64], s: Stretch) -> bool
 {
     let o = layout::own_of(place);
     let g = o.given;
-    let area = g.area;
-    if !area_in(s, area) {
-        return false;
-    }
-    if !counts_fit(g) {
-        return false;
-    }
-    load_fits(place, g)
+    area_in(s, g.area) && counts_fit(g) && load_fits(place, g)
 }
 
 // Whether an area is not empty and lies in a stretch.
 pub fn area_in(s: Stretch, a: Area) -> bool
     ensures { result ≡ area_in s a }
 {
-    if a.size < 1 {
-        return false;
-    }
-    word::run_within(a.at.0, a.size, s.start.0, s.len)
+    1 <= a.size && word::run_within(a.at.0, a.size, s.start.0, s.len)
 }
 
 fn counts_fit(g: Given) -> bool
     ensures { result ≡ counts_fit g }
 {
-    if (IO_MOST as u64) < g.io {
-        return false;
-    }
-    if (TABLES_MOST as u64) < g.tables {
-        return false;
-    }
-    g.kept <= TABLES_MOST as u64
+    g.io <= IO_MOST as u64 && g.tables <= TABLES_MOST as u64 && g.kept <= TABLES_MOST as u64
 }
 
 // Whether the kept tables and the stage of a held place are in order.
@@ -144,8 +116,5 @@ fn load_fits(place: &[u64], g: Given) -> bool
     ensures { result ≡ load_fits g place.now }
 {
     let numbers = layout::lists_of(place);
-    if !lists::load::kept_fits(g, numbers) {
-        return false;
-    }
-    stage::stage_fits(g, numbers, layout::stage_of(place))
+    lists::load::kept_fits(g, numbers) && stage::stage_fits(g, numbers, layout::stage_of(place))
 }

@@ -20,8 +20,8 @@ use Rattle.stage.specs.declared.Due.{Due}
 use Rattle.stage.specs.declared.Stage.{Stage}
 use Rattle.stage.specs.declared.Stage.TheVariants.{Label, Entry, Program, Termination, Complete, Broken}
 use Rattle.stage.specs.Ranges.{stage_fits}
-use Rattle.stage.specs.declared.Step.{Step}
-use Rattle.stage.specs.declared.Step.TheVariants.{More, Done, Refused}
+use Rattle.std.specs.Prelude.{Err}
+use Rattle.stage.specs.Step.{StepResult, step_more, step_done}
 use Rattle.stage.specs.Record.{record_due}
 use Rattle.records.specs.Termination.{termination_step}
 use Rattle.records.proofs.Fits.{label-fits, entry_fits_lem, label-not_done, entry_not_done, label-fault, entry_fault_lem, termination-fault}
@@ -38,7 +38,7 @@ use Rattle.feed.proofs.Laws.{FitToFeed, Holds, OfBlock, BlockLaws}
 
 -- a record whose block is read whole stores nothing; a program block is read word by word. P speaks of the outcome as a function of
 -- the core.
-module _ (x : Load) (block : List ℕ) (P : (List ℕ → StepOutcome) → Type 0) (none : (r : Step) → P (stores_nothing r)) where
+module _ (x : Load) (block : List ℕ) (P : (List ℕ → StepOutcome) → Type 0) (none : (r : StepResult) → P (stores_nothing r)) where
   due-cases : (s : Stage) → ((c : LabelCounts) (due : Due) → s ≡ Program c due → P (program_step x c due block))
       → P (due_step x s block)
   unfolding due_step
@@ -55,9 +55,9 @@ module _ (x : Load) (block : List ℕ) (P : (List ℕ → StepOutcome) → Type 
   block-cases s k = by_record (of_record (record_due s) block) (due-cases s k)
     where
       by_record : (b : Bool) → P (due_step x s block)
-          → P (λ core. cond b (due_step x s block core) (stores_nothing (Refused (fault 13)) core))
+          → P (λ core. cond b (due_step x s block core) (stores_nothing (Err (fault 13)) core))
       by_record true h = h
-      by_record false h = none (Refused (fault 13))
+      by_record false h = none (Err (fault 13))
 
 -- a fault of a block that is read whole is of a word of it, and of no half
 whole-block : (block : List ℕ) {low high : ℕ} (f : Fault) → 13 ≤ low → high ≤ 22 → (high < 19) ⊎ (21 < low) → OfWhole low high f
@@ -79,16 +79,16 @@ whole-block block f l h o p = record {
 -- ---- what it leads to
 module _ (x : Load) (block core : List ℕ) where
   -- 13 comes before the record's own rules
-  due-or_13 : (s : Stage) (P : Step → Type 0) → P (Refused (fault 13)) → P (due_step x s block core).step
+  due-or_13 : (s : Stage) (P : StepResult → Type 0) → P (Err (fault 13)) → P (due_step x s block core).step
       → P (block_step x s block core).step
   unfolding block_step
   due-or_13 s P n k = by_record (of_record (record_due s) block)
     where
-      by_record : (b : Bool) → P (cond b (due_step x s block core) (stores_nothing (Refused (fault 13)) core)).step
+      by_record : (b : Bool) → P (cond b (due_step x s block core) (stores_nothing (Err (fault 13)) core)).step
       by_record true = k
       by_record false = n
 
-  due-fits : (s t : Stage) → FitToFeed x s → (due_step x s block core).step ≡ More t
+  due-fits : (s t : Stage) → FitToFeed x s → (due_step x s block core).step ≡ step_more t
       → stage_fits x.area x.tables (length x.ios) t ≡ true
   unfolding due_step
   due-fits Label t f q = label-fits x.area x.tables x.ios block t q
@@ -98,7 +98,7 @@ module _ (x : Load) (block core : List ℕ) where
   due-fits Complete t f q = let e : Complete ≡ t = cc in rw (← e) f.stage
   due-fits Broken t f q = let e : Broken ≡ t = cc in rw (← e) f.stage
 
-  due_faults : (s : Stage) (f : Fault) → (due_step x s block core).step ≡ Refused f → OfBlock block f
+  due_faults : (s : Stage) (f : Fault) → (due_step x s block core).step ≡ Err f → OfBlock block f
   unfolding due_step
   due_faults Label f q =
       whole-block block f (omega arith) (omega arith) (inl (omega arith)) (label-fault x.ios (length x.tables) block f q)
@@ -113,14 +113,14 @@ module _ (x : Load) (block core : List ℕ) where
   due_faults Complete f q = let z : ◌≡◌ {A = ℕ} 0 1 = cc in absurd (omega arith)
   due_faults Broken f q = let z : ◌≡◌ {A = ℕ} 0 1 = cc in absurd (omega arith)
 
-  termination_value : (i : Bank) (a : Absolute) → termination_step x.area i block ≡ Done a
+  termination_value : (i : Bank) (a : Absolute) → termination_step x.area i block ≡ step_done a
       → a ≡ absolute_of x.area (start_of block)
   unfolding termination_step
   termination_value i a =
-      when (λ (r : Step). r ≡ Done a → a ≡ absolute_of x.area (start_of block)) (in_bank i (start_of block)) (λ t q. cc)
+      when (λ (r : StepResult). r ≡ step_done a → a ≡ absolute_of x.area (start_of block)) (in_bank i (start_of block)) (λ t q. cc)
       (λ t q. let z : ◌≡◌ {A = ℕ} 0 1 = cc in absurd (omega arith))
 
-  due-starts : (s : Stage) (a : Absolute) → (due_step x s block core).step ≡ Done a → a ≡ absolute_of x.area (start_of block)
+  due-starts : (s : Stage) (a : Absolute) → (due_step x s block core).step ≡ step_done a → a ≡ absolute_of x.area (start_of block)
   unfolding due_step
   due-starts Label a q = absurd (label-not_done x.ios (length x.tables) block a q)
   due-starts (Entry c exact b) a q = absurd (entry_not_done (length x.ios) x.tables c exact b block a q)
@@ -136,9 +136,9 @@ standing x s c due core e f h = record { inside = h; tables = f.tables; stage = 
 pub block_laws : BlockLaws
 block_laws = record {
   fits = λ x s t block core f. due-or_13 x block core s
-      (λ (r : Step). r ≡ More t → stage_fits x.area x.tables (length x.ios) t ≡ true)
+      (λ (r : StepResult). r ≡ step_more t → stage_fits x.area x.tables (length x.ios) t ≡ true)
       (λ q. let z : ◌≡◌ {A = ℕ} 0 1 = cc in absurd (omega arith)) (due-fits x block core s t f);
-  faults = λ x s block core f. due-or_13 x block core s (λ (r : Step). r ≡ Refused f → OfBlock block f)
+  faults = λ x s block core f. due-or_13 x block core s (λ (r : StepResult). r ≡ Err f → OfBlock block f)
       (λ q. let e : fault 13 ≡ f = cc in
       rw (← e) (whole-block block (fault 13) (omega arith) (omega arith) (inl (omega arith)) (whole-at 13 13 13 0 (omega arith)
       (omega arith) (omega arith))))
@@ -157,6 +157,6 @@ block_laws = record {
   words = λ x s block core f h w. block-cases x block (λ (g : List ℕ → StepOutcome). StoredWords core (g core).core)
       (λ r. stored-none core) s
       (λ c due e. program_words_lem x block w c due core (standing x s c due core e f h));
-  starts = λ x s block core a. due-or_13 x block core s (λ (r : Step). r ≡ Done a → a ≡ absolute_of x.area (start_of block))
+  starts = λ x s block core a. due-or_13 x block core s (λ (r : StepResult). r ≡ step_done a → a ≡ absolute_of x.area (start_of block))
       (λ q. let z : ◌≡◌ {A = ℕ} 0 1 = cc in absurd (omega arith)) (due-starts x block core s a);
 }

@@ -8,13 +8,12 @@ use native.Mathlib.Omega.{arith}
 use lib.ListN.{length, get_or}
 use Rattle.word.specs.Limits.{words_in_block, place_count, core_most}
 use Rattle.word.specs.Lists.{every}
-use Rattle.word.specs.Fault.{fault, half_number}
+use Rattle.word.specs.Fault.{fault, half_number, Verdict, pass}
 use Rattle.word.specs.Sorts.{absolute_of}
 use Rattle.word.specs.declared.Area.{Area}
 use Rattle.word.specs.declared.Fault.{Fault}
 use Rattle.word.specs.declared.Half.TheVariants.{Left, Right}
-use Rattle.word.specs.declared.Side.{Side}
-use Rattle.word.specs.declared.Side.TheVariants.{Whole, In}
+use Rattle.word.specs.declared.Half.{Half}
 use Rattle.word.specs.declared.Absolute.{Absolute}
 use Rattle.word.specs.Word.{is_word}
 use Rattle.word.proofs.Cases.{when}
@@ -23,16 +22,15 @@ use Rattle.word.proofs.Word.{part_below}
 use Rattle.block.specs.declared.Record.{Record}
 use Rattle.block.specs.Records.{checksum_place}
 use Rattle.block.specs.Checksum.{checksum}
-use Rattle.block.specs.declared.Verdict.{Verdict}
-use Rattle.block.specs.declared.Verdict.TheVariants.{Pass, Refused as refused-block}
+use Rattle.std.specs.Prelude.{Err, Ok, Option, Some, None}
 use Rattle.block.specs.Block.{verdict}
 use Rattle.block.proofs.OnePass.{whole_long, whole_words, seal-cases}
 use Rattle.stage.specs.declared.Stage.{Stage}
 use Rattle.stage.specs.declared.Stage.TheVariants.{Complete, Broken}
 use Rattle.stage.specs.Ranges.{stage_fits}
 use Rattle.program.specs.Start.{start_of}
-use Rattle.stage.specs.declared.Step.{Step}
-use Rattle.stage.specs.declared.Step.TheVariants.{More as step-more, Done as step-done, Refused as step-refused}
+use Rattle.stage.specs.Step.{StepResult, step_more, step_done}
+use Rattle.stage.specs.declared.Step.TheVariants.{More, Done}
 use Rattle.stage.specs.Record.{record_due, is_over}
 use Rattle.layout.specs.Layout.{core_length, holder_in, place_in, stage_in, holds}
 use Rattle.layout.proofs.Places.{holds-inside, holds_holder}
@@ -61,16 +59,16 @@ holds-place d r p q = (holds-inside d r p q, λ z. omega (arith, holds_holder d 
 
 -- a block passes, whole and of words; or it meets 11 or 12
 pub verdict-cases : (r : Record) (block : List ℕ) (P : Verdict → Type 0)
-    → (length block ≡ words_in_block → every is_word block ≡ true → P Pass)
-    → P (refused-block (fault 11)) → P (refused-block (fault 12)) → P (verdict r block)
+    → (length block ≡ words_in_block → every is_word block ≡ true → P pass)
+    → P (Err (fault 11)) → P (Err (fault 12)) → P (verdict r block)
 unfolding verdict
 verdict-cases r block P pass eleven twelve =
     seal-cases checksum (checksum_place r) block P (λ w a. pass (whole_long block w) (whole_words block w)) eleven twelve
 
 -- so one that passes is whole, and of words
-pub verdict_pass : (r : Record) (block : List ℕ) → verdict r block ≡ Pass → (length block ≡ words_in_block)
+pub verdict_pass : (r : Record) (block : List ℕ) → verdict r block ≡ pass → (length block ≡ words_in_block)
     × (every is_word block ≡ true)
-verdict_pass r block = verdict-cases r block (λ v. v ≡ Pass → (length block ≡ words_in_block) × (every is_word block ≡ true))
+verdict_pass r block = verdict-cases r block (λ v. v ≡ pass → (length block ≡ words_in_block) × (every is_word block ≡ true))
     (λ l w q. (l, w))
     (λ q. let z : ◌≡◌ {A = ℕ} 0 1 = cc in absurd (omega arith))
     (λ q. let z : ◌≡◌ {A = ℕ} 0 1 = cc in absurd (omega arith))
@@ -102,25 +100,25 @@ unfolding staged load_in
 written-sound d p t s h f = stage-written-sound d p t s h (rw (io-length (given_in d p) (lists_held d p)) at f)
 
 -- what a step leads to, arm by arm
-settled_cases : (d core : List ℕ) (p : ℕ) (area : Area) (x : Step) (after : List ℕ) (P : Outcome → Type 0)
-    → ((t : Stage) → x ≡ step-more t → P (record { answer = More; desk = staged d p t; core = after }))
-    → ((a : Absolute) → x ≡ step-done a → P (record { answer = Done a; desk = staged d p Complete; core = after }))
-    → ((f : Fault) → x ≡ step-refused f → P (record { answer = Refused f; desk = staged d p Broken; core = wiped area core }))
+settled_cases : (d core : List ℕ) (p : ℕ) (area : Area) (x : StepResult) (after : List ℕ) (P : Outcome → Type 0)
+    → ((t : Stage) → x ≡ step_more t → P (record { answer = More; desk = staged d p t; core = after }))
+    → ((a : Absolute) → x ≡ step_done a → P (record { answer = Done a; desk = staged d p Complete; core = after }))
+    → ((f : Fault) → x ≡ Err f → P (record { answer = Refused f; desk = staged d p Broken; core = wiped area core }))
     → P (settled_of d core p area x after)
 unfolding settled_of
-settled_cases d core p area (step-more t) after P m e b = m t refl
-settled_cases d core p area (step-done a) after P m e b = e a refl
-settled_cases d core p area (step-refused f) after P m e b = b f refl
+settled_cases d core p area (Ok (More t)) after P m e b = m t refl
+settled_cases d core p area (Ok (Done a)) after P m e b = e a refl
+settled_cases d core p area (Err f) after P m e b = b f refl
 
 -- a start is an address in a core, or a little past it
 start_small : (area : Area) (block : List ℕ) → area.at.0 ≤ core_most → (absolute_of area (start_of block)).0 < 2 ^ 32
 start_small area block h = omega (arith, part_below 0 16 (get_or block 1 0))
 
 -- and so does a fault of a block
-half_most : (s : Side) → half_number s ≤ 2
-half_most Whole = omega arith
-half_most (In Left) = omega arith
-half_most (In Right) = omega arith
+half_most : (s : Option Half) → half_number s ≤ 2
+half_most None = omega arith
+half_most (Some Left) = omega arith
+half_most (Some Right) = omega arith
 
 of_block_small : (block : List ℕ) (f : Fault) → OfBlock block f → SmallFault f
 of_block_small block f o = (omega (arith, o.most), omega (arith, half_most f.half, o.place.inside))
@@ -134,13 +132,13 @@ module _ (d core block : List ℕ) (r p : ℕ) where
 
   module _ (P : Outcome → Type 0) (none : (n : ℕ) → 1 ≤ n → n ≤ 12 → P (refused n d core))
       (more : (t : Stage) → sound d ≡ true → length core ≡ core_length d → holds d r p ≡ true
-      → (block_step load due block core).step ≡ step-more t
+      → (block_step load due block core).step ≡ step_more t
       → P (record { answer = More; desk = staged d p t; core = (block_step load due block core).core }))
       (done : (a : Absolute) → sound d ≡ true → length core ≡ core_length d → holds d r p ≡ true
-      → (block_step load due block core).step ≡ step-done a
+      → (block_step load due block core).step ≡ step_done a
       → P (record { answer = Done a; desk = staged d p Complete; core = (block_step load due block core).core }))
       (bad : (f : Fault) → sound d ≡ true → length core ≡ core_length d → holds d r p ≡ true
-      → (block_step load due block core).step ≡ step-refused f
+      → (block_step load due block core).step ≡ Err f
       → P (record { answer = Refused f; desk = staged d p Broken; core = wiped load.area core })) where
     pub feed-cases : P (feed_of d core r p block)
     unfolding taken_of
@@ -177,12 +175,12 @@ module _ (d core block : List ℕ) (r p : ℕ) where
       (λ f s e h q. of_block_small block f (block_laws.faults load due block core f q))
 
 -- a block that is taken, from what its step told and left
-pub taken_met : (d core block : List ℕ) (p : ℕ) (x : Load) (s : Stage) → Waits x s block core → (r : Step) (after : List ℕ)
+pub taken_met : (d core block : List ℕ) (p : ℕ) (x : Load) (s : Stage) → Waits x s block core → (r : StepResult) (after : List ℕ)
     → StepMeets (block_step x s block core) r after → settled_of d after p x.area r after ≡ taken_of d core p x s block
 unfolding taken_of
 taken_met d core block p x s w r after m =
     let f = fit_waiting x s block core w in
     settled_same d core after p x.area r w.inside (ap length m.left ∙ block_laws.long x s block core f w.inside)
     (λ j b. ap (λ (l : List ℕ). get_or l j 0) m.left ∙ block_laws.beside x s block core f w.inside j b)
-    ∙ ap (λ (q : Step). settled_of d core p x.area q after) m.told
+    ∙ ap (λ (q : StepResult). settled_of d core p x.area q after) m.told
     ∙ ap (settled_of d core p x.area (block_step x s block core).step) m.left

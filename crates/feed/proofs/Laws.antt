@@ -17,7 +17,8 @@ use Rattle.group.proofs.Acts.{Alike}
 use Rattle.group.proofs.Stored.{StoredWords}
 use Rattle.stage.specs.declared.Stage.{Stage}
 use Rattle.stage.specs.Ranges.{stage_fits}
-use Rattle.stage.specs.declared.Step.TheVariants.{More, Done, Refused}
+use Rattle.std.specs.Prelude.{Err}
+use Rattle.stage.specs.Step.{step_more, step_done}
 use Rattle.lists.specs.Load.{Load}
 use Rattle.feed.specs.Block.{block_step}
 
@@ -37,9 +38,9 @@ pub record OfBlock (block : List ℕ) (f : Fault) : Type 0 where
   pub place : Placed block f
 
 pub record BlockLaws : Type 0 where
-  pub fits : (x : Load) (s t : Stage) (block core : List ℕ) → FitToFeed x s → (block_step x s block core).step ≡ More t
+  pub fits : (x : Load) (s t : Stage) (block core : List ℕ) → FitToFeed x s → (block_step x s block core).step ≡ step_more t
       → stage_fits x.area x.tables (length x.ios) t ≡ true
-  pub faults : (x : Load) (s : Stage) (block core : List ℕ) (f : Fault) → (block_step x s block core).step ≡ Refused f
+  pub faults : (x : Load) (s : Stage) (block core : List ℕ) (f : Fault) → (block_step x s block core).step ≡ Err f
       → OfBlock block f
   pub long : (x : Load) (s : Stage) (block core : List ℕ) → FitToFeed x s → Holds x core
       → length (block_step x s block core).core ≡ length core
@@ -53,5 +54,5 @@ pub record BlockLaws : Type 0 where
   -- what is stored is words below 2^36, where the block's are
   pub words : (x : Load) (s : Stage) (block core : List ℕ) → FitToFeed x s → Holds x core → every is_word block ≡ true
       → StoredWords core (block_step x s block core).core
-  pub starts : (x : Load) (s : Stage) (block core : List ℕ) (a : Absolute) → (block_step x s block core).step ≡ Done a
+  pub starts : (x : Load) (s : Stage) (block core : List ℕ) (a : Absolute) → (block_step x s block core).step ≡ step_done a
       → a ≡ absolute_of x.area (start_of block)

@@ -11,7 +11,7 @@ use Rattle.lists.proofs.Reading.{core-length, io-length}
 use Rattle.stage.specs.declared.LabelCounts.{LabelCounts}
 use Rattle.stage.specs.declared.Stage.TheVariants.{Label, Entry}
 use Rattle.stage.specs.Ranges.{label_counts_fit, stage_fits}
-use Rattle.stage.specs.declared.Step.{Step}
+use Rattle.stage.specs.Step.{StepResult}
 use Rattle.records.specs.Label.{label_step}
 use Rattle.records.specs.Entries.{entry_step}
 use Rattle.lists.specs.declared.Given.{Given}
@@ -29,7 +29,7 @@ entry_block_small x c exact b block core w =
     omega (arith, q, w.io, w.few)
 
 -- what the record's step answers is what is due
-module _ (g : Given) (l : List ℕ) (readable : Readable g l) (block core : List ℕ) (r : Step) where
+module _ (g : Given) (l : List ℕ) (readable : Readable g l) (block core : List ℕ) (r : StepResult) where
   pub label_met : r ≡ label_step (io_numbers g l) g.tables block → StepMeets (due_step (load_of g l) Label block core) r core
   unfolding due_step
   label_met e = record { told = rw (core-length g l readable) e; left = refl }

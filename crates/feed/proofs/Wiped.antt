@@ -8,8 +8,9 @@ use lib.ListN.{length, get_or, replicate, length-replicate, get_or-replicate}
 use lib.Seq.{ext_get_or}
 use Rattle.word.specs.Lists.{cleared}
 use Rattle.word.specs.declared.Area.{Area}
-use Rattle.stage.specs.declared.Step.{Step}
-use Rattle.stage.specs.declared.Step.TheVariants.{More, Done, Refused}
+use Rattle.std.specs.Prelude.{Ok, Err}
+use Rattle.stage.specs.Step.{StepResult}
+use Rattle.stage.specs.declared.Step.TheVariants.{More, Done}
 use Rattle.feed.specs.Feed.{settled_of}
 use Rattle.word.proofs.Cases.{by-lt}
 use Rattle.word.proofs.Lists.{get_d_splice_in}
@@ -36,11 +37,11 @@ wiped-same core after a n h e b =
     (λ w. get_d_cleared_beside after a n j (omega arith) (inr w) ∙ b j (inr w) ∙ sym (get_d_cleared_beside core a n j h (inr w)))))
 
 -- so what a step leads to is the same, whether the core before the block or after it is wiped
-pub settled_same : (d core after : List ℕ) (p : ℕ) (area : Area) (r : Step) → area.at.0 + area.size ≤ length core
+pub settled_same : (d core after : List ℕ) (p : ℕ) (area : Area) (r : StepResult) → area.at.0 + area.size ≤ length core
     → length after ≡ length core
     → ((j : ℕ) → Beside j area.at.0 area.size → get_or after j 0 ≡ get_or core j 0)
     → settled_of d after p area r after ≡ settled_of d core p area r after
 unfolding settled_of
-settled_same d core after p area (More s) h e b = refl
-settled_same d core after p area (Done a) h e b = refl
-settled_same d core after p area (Refused f) h e b = rw (wiped-same core after area.at.0 area.size h e b)
+settled_same d core after p area (Ok (More s)) h e b = refl
+settled_same d core after p area (Ok (Done a)) h e b = refl
+settled_same d core after p area (Err f) h e b = rw (wiped-same core after area.at.0 area.size h e b)

@@ -1,18 +1,16 @@
 -- "Feed takes room, place and one block." Refusals 1, 2, 4, 9, 10, 11 and 12 in that order, which change nothing; then 13 to 22,
 -- which "set the whole area to zero and mark the load broken". "An accepted block answers *more*, and the termination block
 -- answers *done* with the absolute start."
-use Rattle.std.specs.Prelude.{ℕ, ◌+◌, ◌≤◌, ◌<◌, ◌≡◌, true, cond, List, length}
+use Rattle.std.specs.Prelude.{ℕ, ◌+◌, ◌≤◌, ◌<◌, ◌≡◌, true, cond, List, length, Ok, Err}
 use Rattle.word.specs.Lists.{splice, cleared}
-use Rattle.word.specs.Fault.{unless}
+use Rattle.word.specs.Fault.{unless, Verdict}
 use Rattle.word.specs.declared.Area.{Area}
-use Rattle.block.specs.declared.Verdict.{Verdict}
-use Rattle.block.specs.declared.Verdict.TheVariants.{Pass, Refused as refused-block}
 use Rattle.block.specs.Block.{verdict}
 use Rattle.stage.specs.declared.Stage.{Stage}
 use Rattle.stage.specs.declared.Stage.TheVariants.{Complete, Broken}
 use Rattle.stage.specs.Stage.{numbers_of}
-use Rattle.stage.specs.declared.Step.{Step}
-use Rattle.stage.specs.declared.Step.TheVariants.{More as step-more, Done as step-done, Refused as step-refused}
+use Rattle.stage.specs.Step.{StepResult}
+use Rattle.stage.specs.declared.Step.TheVariants.{More, Done}
 use Rattle.stage.specs.Record.{record_due, is_over}
 use Rattle.word.specs.Limits.{place_count}
 use Rattle.sections.specs.Waits.{KeptWaits}
@@ -38,10 +36,10 @@ abbrev pub wiped : Area → List ℕ → List ℕ
 wiped area core = cleared core area.at.0 area.size
 
 -- what the load at place p is left with: d and core as they were, `after` the core as the block's stores left it
-unfoldable pub settled_of : List ℕ → List ℕ → ℕ → Area → Step → List ℕ → Outcome
-settled_of d core p area (step-more s) after = record { answer = More; desk = staged d p s; core = after }
-settled_of d core p area (step-done a) after = record { answer = Done a; desk = staged d p Complete; core = after }
-settled_of d core p area (step-refused f) after = record { answer = Refused f; desk = staged d p Broken; core = wiped area core }
+unfoldable pub settled_of : List ℕ → List ℕ → ℕ → Area → StepResult → List ℕ → Outcome
+settled_of d core p area (Ok (More s)) after = record { answer = More; desk = staged d p s; core = after }
+settled_of d core p area (Ok (Done a)) after = record { answer = Done a; desk = staged d p Complete; core = after }
+settled_of d core p area (Err f) after = record { answer = Refused f; desk = staged d p Broken; core = wiped area core }
 
 abbrev pub settled_by : List ℕ → List ℕ → ℕ → Area → StepOutcome → Outcome
 settled_by d core p area o = settled_of d core p area o.step o.core
@@ -52,8 +50,8 @@ taken_of d core p x s block = settled_by d core p x.area (block_step x s block c
 
 -- 11 and 12 change nothing; a block that passes is taken
 unfoldable pub checked_of : List ℕ → List ℕ → Outcome → Verdict → Outcome
-checked_of d core taken Pass = taken
-checked_of d core taken (refused-block f) = record { answer = Refused f; desk = d; core = core }
+checked_of d core taken (Ok t) = taken
+checked_of d core taken (Err f) = record { answer = Refused f; desk = d; core = core }
 
 -- from refusal 10 on; the checksum word is where the record that is due has it
 abbrev pub waiting_of : List ℕ → List ℕ → ℕ → Load → Stage → List ℕ → Outcome

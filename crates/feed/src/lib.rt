@@ -12,13 +12,12 @@ ghost use Rattle.sections.specs.Program.{StepMeets};
 ghost use Rattle.feed.specs.Block.{due_step, block_step};
 ghost use Rattle.feed.specs.Feed.{load_in, staged, settled_of, taken_of, held_of, feed_of, HeldReady, TakeReady, SettleReady};
 
-use block::Verdict;
 use calls::Answer;
 use layout::{PLACE_WORDS, PLACES_AT, STAGE_AT};
 use lists::Given;
 use stage::{Stage, Step};
-use word::Area;
 use word::faults::{FAULT_9, FAULT_10, FAULT_13};
+use word::{Area, Fault};
 
 // A block for the load that the room has at the place.
 pub fn feed_block(
@@ -31,9 +30,8 @@ pub fn feed_block(
     ensures { Meets (feed_of desk.old core.old room place block.now)
         result desk.new core.new }
 {
-    let n = calls::entry_refusal(desk, core.len() as u64, room);
-    if n != 0 {
-        return Answer::Refused(word::fault_of(n));
+    if let Err(f) = calls::entry_refusal(desk, core.len() as u64, room) {
+        return Answer::Refused(f);
     }
     if !layout::holds_place(desk, room, place) {
         return Answer::Refused(FAULT_9);
@@ -52,8 +50,8 @@ fn feed_held(desk: &mut [u64], core: &mut [u64], p: usize, block: &[u64]) -> Ans
         return Answer::Refused(FAULT_10);
     }
     match block::check_block(block, stage::record_due(s)) {
-        Verdict::Pass => take_block(desk, core, p, s, block),
-        Verdict::Refused(f) => Answer::Refused(f),
+        Ok(()) => take_block(desk, core, p, s, block),
+        Err(f) => Answer::Refused(f),
     }
 }
 
@@ -71,19 +69,31 @@ fn take_block(desk: &mut [u64], core: &mut [u64], p: usize, s: Stage, block: &[u
 }
 
 // What the block leads to for a load that waits for s.
-fn load_step(g: Given, lists: &[u64], s: Stage, block: &[u64], core: &mut [u64]) -> Step
+fn load_step(
+    g: Given,
+    lists: &[u64],
+    s: Stage,
+    block: &[u64],
+    core: &mut [u64],
+) -> Result<Step, Fault>
     requires { KeptWaits g lists.now s block.now core.old }
     ensures { StepMeets (block_step (load_of g lists.now) s block.now core.old)
         result core.new }
 {
     if !block::of_record(block, stage::record_due(s)) {
-        return Step::Refused(FAULT_13);
+        return Err(FAULT_13);
     }
     due_step(g, lists, s, block, core)
 }
 
 // A block of the record that is due.
-fn due_step(g: Given, lists: &[u64], s: Stage, block: &[u64], core: &mut [u64]) -> Step
+fn due_step(
+    g: Given,
+    lists: &[u64],
+    s: Stage,
+    block: &[u64],
+    core: &mut [u64],
+) -> Result<Step, Fault>
     requires { KeptWaits g lists.now s block.now core.old }
     ensures { StepMeets (due_step (load_of g lists.now) s block.now core.old)
         result core.new }
@@ -93,27 +103,32 @@ fn due_step(g: Given, lists: &[u64], s: Stage, block: &[u64], core: &mut [u64]) 
         Stage::Entry(c, exact, b) => records::entry_step(g, lists, c, exact, b, block),
         Stage::Program(c, due) => sections::items::program_step(g, lists, c, due, block, core),
         Stage::Termination(i) => records::termination_step(g.area, i, block),
-        Stage::Complete => Step::More(Stage::Complete),
-        Stage::Broken => Step::More(Stage::Broken),
+        Stage::Complete | Stage::Broken => Ok(Step::More(s)),
     }
 }
 
 // The answer, and what the load at place p is left with.
-fn settle(desk: &mut [u64], core: &mut [u64], p: usize, area: Area, r: Step) -> Answer
+fn settle(
+    desk: &mut [u64],
+    core: &mut [u64],
+    p: usize,
+    area: Area,
+    r: Result<Step, Fault>,
+) -> Answer
     requires { SettleReady desk.old core.old p area }
     ensures { Meets (settled_of desk.old core.old p area r core.old)
         result desk.new core.new }
 {
     match r {
-        Step::More(s) => {
+        Ok(Step::More(s)) => {
             write_stage(desk, p, s);
             Answer::More
         }
-        Step::Done(a) => {
+        Ok(Step::Done(a)) => {
             write_stage(desk, p, Stage::Complete);
             Answer::Done(a)
         }
-        Step::Refused(f) => {
+        Err(f) => {
             write_stage(desk, p, Stage::Broken);
             word::slices::clear(core, area.at.0 as usize, area.size as usize);
             Answer::Refused(f)

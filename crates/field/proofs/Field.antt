@@ -1,4 +1,5 @@
 -- What a field becomes and what becomes of its word, proved once for either half.
+use Rattle.std.specs.Prelude.{Result, Ok, Err, Option, None}
 use mathlib.Core.Path.{◌≡◌, refl, sym, ap, ◌∙◌}
 use mathlib.Core.Bool.{Bool, true, false}
 use mathlib.Core.List.{List}
@@ -9,6 +10,7 @@ use lib.ListN.{length, get_or}
 use lib.Dec.{ltb, leb, eqb}
 use borrow.Author.Tests.{ltb-true, eqb-true, ne_eqb}
 use Rattle.word.specs.declared.Area.{Area}
+use Rattle.word.specs.declared.Fault.{Fault}
 use Rattle.word.specs.declared.Half.{Half}
 use Rattle.word.specs.declared.Half.TheVariants.{Left, Right}
 use Rattle.word.specs.declared.Reference.{Reference}
@@ -21,15 +23,10 @@ use Rattle.lists.specs.declared.Table.{Table}
 use Rattle.lists.specs.declared.Given.{Given}
 use Rattle.lists.specs.Load.{core_table, core_tables, Readable}
 use Rattle.lists.proofs.Reading.{core_at_lem, core_below}
-use Rattle.field.specs.declared.Becomes.{Becomes}
-use Rattle.field.specs.declared.Becomes.TheVariants.{Value, Bad}
-use Rattle.field.specs.declared.Changed.{Changed}
-use Rattle.field.specs.declared.Changed.TheVariants.{Word, Refused}
 use Rattle.field.specs.Field.{Assignments, valued, plus_or_minus, moved_field, table, address_or_length, referred, pair, minus_zero}
 use Rattle.field.specs.Field.{short, long, constant, switch, unit, reference, relative, becomes, changed_lowest, changed_width}
 use Rattle.field.specs.Field.{put_back, field_change, told_in, Fits}
 use Rattle.field.specs.declared.Stepped.{Stepped}
-use Rattle.field.specs.declared.Stepped.TheVariants.{Refused as SteppedRefused}
 use Rattle.field.specs.HowField.{is_long, stepped}
 
 -- ---- a table of the kept lists
@@ -100,8 +97,11 @@ becomes-fits a h t w x = by-eq t 4
     (both (Fits 16) (eqb t 2) (constant-fits a.tables (field_of h w) x)
     (both (Fits 16) (eqb t 7) (unit-fits a.ios a.channels (reference (field_of h w))) tt)))))
 
+-- what a change gives fits: for what puts it back
+pub ruleset fitting = (moved_fits, pair_fits, long-fits, short-fits, switch_fits, unit-fits)
+
 -- ---- an arm of the match over the type, the same for either half: what its calls give is the step of its type
-module _ (a : Assignments) (h : Half) (w x : ℕ) {t f : ℕ} {b : Becomes} (read : f ≡ field_of h w) where
+module _ (a : Assignments) (h : Half) (w x : ℕ) {t f : ℕ} {b : Result ℕ Fault} (read : f ≡ field_of h w) where
   pub moved_arm : t ≡ 0 → b ≡ moved_field a.area (relative f) → put_back (lowest h) 16 w b ≡ field_change a h t w x
   unfolding field_change becomes
   moved_arm e q = rw (q, read, e)
@@ -123,18 +123,18 @@ module _ (a : Assignments) (h : Half) (w x : ℕ) {t f : ℕ} {b : Becomes} (rea
   unit_arm e q = rw (q, read, e)
 
 -- type 100: of a left half, whose bits 25-22 it changes
-pub switch_arm : (a : Assignments) (w x : ℕ) {t k : ℕ} {b : Becomes} → k ≡ a_field w → t ≡ 4
+pub switch_arm : (a : Assignments) (w x : ℕ) {t k : ℕ} {b : Result ℕ Fault} → k ≡ a_field w → t ≡ 4
     → b ≡ switch a.ios a.channels Left (reference k) → put_back 22 4 w b ≡ field_change a Left t w x
 unfolding field_change becomes
 switch_arm a w x read e q = rw (q, read, e)
 
-pub switch_right : (a : Assignments) (w x : ℕ) {t : ℕ} → t ≡ 4 → Refused (fault 19) ≡ field_change a Right t w x
+pub switch_right : (a : Assignments) (w x : ℕ) {t : ℕ} → t ≡ 4 → Err (fault 19) ≡ field_change a Right t w x
 unfolding field_change becomes switch put_back
 switch_right a w x e = rw e
 
 -- "Others are 19."
 pub others : (a : Assignments) (h : Half) (t w x : ℕ) → t ≢ 0 → t ≢ 1 → t ≢ 2 → t ≢ 4 → t ≢ 7
-    → Refused (fault 19) ≡ field_change a h t w x
+    → Err (fault 19) ≡ field_change a h t w x
 unfolding field_change becomes put_back
 others a h t w x p q r m s = rw (ne_eqb t 0 p, ne_eqb t 1 q, ne_eqb t 2 r, ne_eqb t 4 m, ne_eqb t 7 s)
 
@@ -157,13 +157,13 @@ pub long_by : {f g : ℕ} {b : Bool} → f ≡ g → is_set 15 f ≡ b → is_lo
 long_by read i = rw (← read) i
 
 module _ (a : Assignments) (h : Half) (t w x : ℕ) where
-  pub word_arm : (k : ℕ) {long : Bool} {c : Changed} {r : Stepped} → t ≡ k → is_long k (field_of h w) ≡ long → r ≡ stepped long c
+  pub word_arm : (k : ℕ) {long : Bool} {c : Result ℕ Fault} {r : Option Stepped} → t ≡ k → is_long k (field_of h w) ≡ long → r ≡ stepped long c
       → c ≡ field_change a h t w x
       → r ≡ stepped (is_long t (field_of h w)) (field_change a h t w x)
   word_arm k e i back q = back ∙ rw (← q, e, i)
 
-  pub refused_arm : (k : ℕ) → t ≡ k → Refused (fault 19) ≡ field_change a h k w x
-      → SteppedRefused ≡ stepped (is_long t (field_of h w)) (field_change a h t w x)
+  pub refused_arm : (k : ℕ) → t ≡ k → Err (fault 19) ≡ field_change a h k w x
+      → None ≡ stepped (is_long t (field_of h w)) (field_change a h t w x)
   refused_arm k e q = rw (e, ← q)
 
   -- the nine more bits are read by a long type 010 alone
@@ -177,26 +177,26 @@ pub step_two : (t f : ℕ) → is_long t f ≡ true → t ≡ 2
 step_two t f i = eqb-true t 2 (and_left (eqb t 2) (is_set 15 f) i)
 
 -- ---- what becomes of the word: u is w with, in its n bits from bit k up, the value that b gives
-pub record Stored (k n w : ℕ) (b : Becomes) (u : ℕ) : Type 0 where
+pub record Stored (k n w : ℕ) (b : Result ℕ Fault) (u : ℕ) : Type 0 where
   pub value : ℕ
-  pub given : b ≡ Value value
+  pub given : b ≡ Ok value
   pub fits : value < 2 ^ n
   pub word : u ≡ put k n w value
 
-back_stored : (k n w : ℕ) (b : Becomes) (u : ℕ) → Fits n b → put_back k n w b ≡ Word u → Stored k n w b u
+back_stored : (k n w : ℕ) (b : Result ℕ Fault) (u : ℕ) → Fits n b → put_back k n w b ≡ Ok u → Stored k n w b u
 unfolding put_back
-back_stored k n w (Value v) u f e = record { value = v; given = refl; fits = f; word = cc }
-back_stored k n w (Bad x) u f e = let z : ◌≡◌ {A = ℕ} 0 1 = cc in absurd (omega arith)
+back_stored k n w (Ok v) u f e = record { value = v; given = refl; fits = f; word = cc }
+back_stored k n w (Err x) u f e = let z : ◌≡◌ {A = ℕ} 0 1 = cc in absurd (omega arith)
 
 put_word : (h : Half) (t w v : ℕ) → w < 2 ^ 36 → v < 2 ^ changed_width t → put (changed_lowest h t) (changed_width t) w v < 2 ^ 36
 put_word h t w v = by-eq t 4 (λ e. rw e (a-stored_word w v)) (λ n. rw (ne_eqb t 4 n) (stored_word h w v))
 
 -- only a left half has type 100, and that leaves the right field alone
-switch-left : (a : Assignments) (h : Half) (t w x v : ℕ) → t ≡ 4 → becomes a h t w x ≡ Value v → h ≡ Left
+switch-left : (a : Assignments) (h : Half) (t w x v : ℕ) → t ≡ 4 → becomes a h t w x ≡ Ok v → h ≡ Left
 unfolding becomes switch
 switch-left a Left t w x v q g = refl
 switch-left a Right t w x v q g =
-    let b : becomes a Right 4 w x ≡ Value v = rw q at g in
+    let b : becomes a Right 4 w x ≡ Ok v = rw q at g in
     let z : ◌≡◌ {A = ℕ} 0 1 = cc in
     absurd (omega arith)
 
@@ -207,24 +207,24 @@ across-kept h t w v g = by-eq t 4
     (λ n. rw (ne_eqb t 4 n) (across-stored h w v))
 
 -- a refusal told with its place leaves a word as it is; and the last one told stands
-pub word_told : (h : Half) (b : ℕ) (r : Changed) (u : ℕ) → told_in h b r ≡ Word u → r ≡ Word u
-word_told h b (Word v) u e = e
-word_told h b (Refused f) u e = let z : ◌≡◌ {A = ℕ} 0 1 = cc in absurd (omega arith)
+pub word_told : (h : Half) (b : ℕ) (r : Result ℕ Fault) (u : ℕ) → told_in h b r ≡ Ok u → r ≡ Ok u
+word_told h b (Ok v) u e = e
+word_told h b (Err f) u e = let z : ◌≡◌ {A = ℕ} 0 1 = cc in absurd (omega arith)
 
-pub told_anew : (h : Half) (b c : ℕ) (r : Changed) → told_in h b (told_in h c r) ≡ told_in h b r
-told_anew h b c (Word v) = refl
-told_anew h b c (Refused f) = refl
+pub told_anew : (h : Half) (b c : ℕ) (r : Result ℕ Fault) → told_in h b (told_in h c r) ≡ told_in h b r
+told_anew h b c (Ok v) = refl
+told_anew h b c (Err f) = refl
 
-module _ (a : Assignments) (h : Half) (t w x u : ℕ) (e : field_change a h t w x ≡ Word u) where
+module _ (a : Assignments) (h : Half) (t w x u : ℕ) (e : field_change a h t w x ≡ Ok u) where
   pub step_stored : Stored (changed_lowest h t) (changed_width t) w (becomes a h t w x) u
   unfolding field_change
   step_stored = back_stored (changed_lowest h t) (changed_width t) w (becomes a h t w x) u (becomes-fits a h t w x) e
 
   -- the changed bits read back as the value
-  pub step_reads : becomes a h t w x ≡ Value (part (changed_lowest h t) (changed_width t) u)
+  pub step_reads : becomes a h t w x ≡ Ok (part (changed_lowest h t) (changed_width t) u)
   step_reads =
       let s = step_stored in
-      s.given ∙ ap Value (sym
+      s.given ∙ ap Ok (sym
       (ap (part (changed_lowest h t) (changed_width t)) s.word
       ∙ part-put (changed_lowest h t) (changed_width t) w s.value s.fits))
 

@@ -1,9 +1,9 @@
 // One field of a program word: what it becomes by its modification type, or why it is refused.
-#![tactic(auto)]
+#![tactic(auto, using(crate::proofs::Field::fitting), unfolding(crate::specs::Field::field_step, crate::specs::Field::put_back))]
 
 ghost use Rattle.std.specs.Prelude.{◌≡◌, true, false, ◌+◌, ◌<◌, ◌≤◌, ◌^◌};
 ghost use Rattle.word.specs.Limits.{core_most};
-ghost use Rattle.word.specs.declared.Half.TheVariants.{Left, Right};
+ghost use Rattle.word.specs.declared.Half.TheVariants.{Left};
 ghost use Rattle.word.specs.Word.{lowest, field_of};
 ghost use Rattle.lists.specs.Load.{core_tables, io_numbers, Readable};
 ghost use Rattle.field.specs.Field.{valued, plus_or_minus, moved_field, table, address_or_length, referred, pair, minus_zero};
@@ -19,27 +19,11 @@ pub const VALUE_LIMIT: u64 = 1 << 16;
 
 const LONG_LEAST: u64 = 64;
 
-// What a field becomes.
+// What a word becomes where only the word is wanted, and whether by a long type 010, which has nine indicator bits more.
 #[derive(Clone, Copy)]
-pub enum Becomes {
-    Value(u64),
-    Bad(Fault),
-}
-
-// What a word becomes.
-#[derive(Clone, Copy)]
-pub enum Changed {
-    Word(u64),
-    Refused(Fault),
-}
-
-// What a word becomes where only the word is wanted: it; it by a long type 010, which has nine indicator bits more; or that the
-// field is refused, of which `field_step` tells the rest.
-#[derive(Clone, Copy)]
-pub enum Stepped {
-    Word(u64),
-    Long(u64),
-    Refused,
+pub struct Stepped {
+    pub word: u64,
+    pub long: bool,
 }
 
 // What the fields of a load's words are changed by, beside its lists: what open was given, and how many of its I/O references are
@@ -52,19 +36,24 @@ pub struct Assigned {
 
 // The word w with its half h changed by modification type t; x is the nine more indicator bits of a long type 010. A refusal is told
 // with its half and with how many of the group's indicator bits stand before that half's own.
-pub fn field_step(s: Assigned, lists: &[u64], h: Half, bit: u64, t: u64, w: u64, x: u64) -> Changed
+pub fn field_step(
+    s: Assigned,
+    lists: &[u64],
+    h: Half,
+    bit: u64,
+    t: u64,
+    w: u64,
+    x: u64,
+) -> Result<u64, Fault>
     requires { (Readable s.given lists.now) × (w < 2 ^ 36) }
     ensures { result ≡ field_step (assigned_by s lists.now) h bit t w x }
 {
-    match field_change(s, lists, h, t, w, x) {
-        Changed::Word(v) => Changed::Word(v),
-        Changed::Refused(f) => Changed::Refused(word::in_half(f, h, bit)),
-    }
+    field_change(s, lists, h, t, w, x).map_err(|f| word::in_half(f, h, bit))
 }
 
 // The same with the number of a refusal alone (01, "A match over the three-bit modification type decides field position, form and
 // refusal for each half"). Only a left half has type 100.
-fn field_change(s: Assigned, lists: &[u64], h: Half, t: u64, w: u64, x: u64) -> Changed
+fn field_change(s: Assigned, lists: &[u64], h: Half, t: u64, w: u64, x: u64) -> Result<u64, Fault>
     requires { (Readable s.given lists.now) × (w < 2 ^ 36) }
     ensures { result ≡ field_change (assigned_by s lists.now) h t w x }
 {
@@ -85,69 +74,52 @@ fn field_change(s: Assigned, lists: &[u64], h: Half, t: u64, w: u64, x: u64) -> 
                 w,
                 switch_of(g, lists, s.channels, Reference(word::a_field(w))),
             ),
-            Half::Right => Changed::Refused(FAULT_19),
+            Half::Right => Err(FAULT_19),
         },
         7 => put_back(h, w, unit_of(g, lists, s.channels, Reference(f))),
-        _ => Changed::Refused(FAULT_19),
+        _ => Err(FAULT_19),
     }
 }
 
-// The same for a left half, where only the word is wanted. Every type that three bits tell is spelled out, so that the compiler
-// needs no test before its jump; and each half has its function, so that the compiler makes its code for that half alone.
-pub fn left_step(s: Assigned, lists: &[u64], t: u64, w: u64, x: u64) -> Stepped
+// The same where only the word is wanted: none where the field is refused, of which `field_step` tells the rest. Every type that three
+// bits tell is spelled out, so that the compiler needs no test before its jump; and it is compiled into its callers, each of which
+// has its own half, so that the compiler makes its code for that half alone.
+#[inline(always)]
+pub fn step(s: Assigned, lists: &[u64], h: Half, t: u64, w: u64, x: u64) -> Option<Stepped>
     requires { (Readable s.given lists.now) × (w < 2 ^ 36) × (t < 8) }
-    ensures { result ≡ stepped (is_long t (field_of Left w)) (field_change (assigned_by s lists.now) Left t w x) }
+    ensures { result ≡ stepped (is_long t (field_of h w)) (field_change (assigned_by s lists.now) h t w x) }
 {
     let g = s.given;
     let area = g.area;
-    let f = word::field(w, Half::Left);
+    let held = word::field(w, h);
     match t {
-        0 => put_word(Half::Left, w, moved_field(area, Relative(f))),
-        1 => put_word(Half::Left, w, pair_of(g, lists, f)),
+        0 => told(false, put_back(h, w, moved_field(area, Relative(held)))),
+        1 => told(false, put_back(h, w, pair_of(g, lists, held))),
         2 => {
-            if word::is_set(f, 15) {
-                return put_long(Half::Left, w, long_of(g, lists, f, x));
+            if word::is_set(held, 15) {
+                return told(true, put_back(h, w, long_of(g, lists, held, x)));
             }
-            put_word(Half::Left, w, short_of(g, lists, f))
+            told(false, put_back(h, w, short_of(g, lists, held)))
         }
-        3 => Stepped::Refused,
-        4 => put_switch(
-            w,
-            switch_of(g, lists, s.channels, Reference(word::a_field(w))),
-        ),
-        5 => Stepped::Refused,
-        6 => Stepped::Refused,
-        _ => put_word(Half::Left, w, unit_of(g, lists, s.channels, Reference(f))),
-    }
-}
-
-// The same for a right half.
-pub fn right_step(s: Assigned, lists: &[u64], t: u64, w: u64, x: u64) -> Stepped
-    requires { (Readable s.given lists.now) × (w < 2 ^ 36) × (t < 8) }
-    ensures { result ≡ stepped (is_long t (field_of Right w)) (field_change (assigned_by s lists.now) Right t w x) }
-{
-    let g = s.given;
-    let area = g.area;
-    let f = word::field(w, Half::Right);
-    match t {
-        0 => put_word(Half::Right, w, moved_field(area, Relative(f))),
-        1 => put_word(Half::Right, w, pair_of(g, lists, f)),
-        2 => {
-            if word::is_set(f, 15) {
-                return put_long(Half::Right, w, long_of(g, lists, f, x));
+        3 => None,
+        4 => match h {
+            Half::Left => {
+                let k = Reference(word::a_field(w));
+                told(false, put_a(w, switch_of(g, lists, s.channels, k)))
             }
-            put_word(Half::Right, w, short_of(g, lists, f))
+            Half::Right => None,
+        },
+        5 => None,
+        6 => None,
+        _ => {
+            let b = unit_of(g, lists, s.channels, Reference(held));
+            told(false, put_back(h, w, b))
         }
-        3 => Stepped::Refused,
-        4 => Stepped::Refused,
-        5 => Stepped::Refused,
-        6 => Stepped::Refused,
-        _ => put_word(Half::Right, w, unit_of(g, lists, s.channels, Reference(f))),
     }
 }
 
 // Type 000.
-fn moved_field(area: Area, r: Relative) -> Becomes
+fn moved_field(area: Area, r: Relative) -> Result<u64, Fault>
     requires { (area.at.0 ≤ core_most) × (r.0 < 2 ^ 16) }
     ensures { result ≡ moved_field area r }
 {
@@ -158,12 +130,12 @@ fn moved_field(area: Area, r: Relative) -> Becomes
 // Type 001: bits 13-7 are the number of the table with the address, bits 6-0 of the one with the length. A call of it, the deepest in
 // feed, would take more stack than feed may (tests/stack): it is compiled into its callers.
 #[inline(always)]
-fn pair_of(g: Given, lists: &[u64], f: u64) -> Becomes
+fn pair_of(g: Given, lists: &[u64], f: u64) -> Result<u64, Fault>
     requires { Readable g lists.now }
     ensures { result ≡ pair (core_tables g lists.now) f }
 {
     if word::is_set(f, 15) {
-        return Becomes::Bad(FAULT_19);
+        return Err(FAULT_19);
     }
     let k = Reference(word::bits(f, 13, 7));
     let l = Reference(word::bits(f, 6, 0));
@@ -171,62 +143,62 @@ fn pair_of(g: Given, lists: &[u64], f: u64) -> Becomes
         let amount = address_or_length(g, lists, true, l);
         return refer(g, lists, false, k, word::is_set(f, 14), amount);
     }
-    Becomes::Bad(FAULT_20)
+    Err(FAULT_20)
 }
 
 // Type 010, short, with bit 15 zero.
-fn short_of(g: Given, lists: &[u64], f: u64) -> Becomes
+fn short_of(g: Given, lists: &[u64], f: u64) -> Result<u64, Fault>
     requires { Readable g lists.now }
     ensures { result ≡ short (core_tables g lists.now) f }
 {
     let minus = word::is_set(f, 14);
     let amount = word::bits(f, 5, 0);
     if minus_zero(minus, amount) {
-        return Becomes::Bad(FAULT_19);
+        return Err(FAULT_19);
     }
     let k = Reference(word::bits(f, 12, 6));
     refer(g, lists, word::is_set(f, 13), k, minus, amount)
 }
 
 // Type 010, long, with bit 15 set: the number, and whether its length is meant, are in the nine more bits.
-fn long_of(g: Given, lists: &[u64], f: u64, x: u64) -> Becomes
+fn long_of(g: Given, lists: &[u64], f: u64, x: u64) -> Result<u64, Fault>
     requires { Readable g lists.now }
     ensures { result ≡ long (core_tables g lists.now) f x }
 {
     let amount = word::bits(f, 13, 0);
     if amount < LONG_LEAST {
-        return Becomes::Bad(FAULT_19);
+        return Err(FAULT_19);
     }
     if word::is_set(x, 7) {
-        return Becomes::Bad(FAULT_19);
+        return Err(FAULT_19);
     }
     let k = Reference(word::bits(x, 6, 0));
     refer(g, lists, word::is_set(x, 8), k, word::is_set(f, 14), amount)
 }
 
 // Type 100: only a left half has it.
-fn switch_of(g: Given, lists: &[u64], channels: u64, k: Reference) -> Becomes
+fn switch_of(g: Given, lists: &[u64], channels: u64, k: Reference) -> Result<u64, Fault>
     requires { Readable g lists.now }
     ensures { result ≡ switch (io_numbers g lists.now) channels Left k }
 {
     if channels <= k.0 {
-        return Becomes::Bad(FAULT_20);
+        return Err(FAULT_20);
     }
-    Becomes::Value(word::bits(lists::load::io_assigned(g, lists, k), 3, 0))
+    Ok(word::bits(lists::load::io_assigned(g, lists, k), 3, 0))
 }
 
 // Type 111: the numbers of the type 3 entries come after those of types 0 and 2.
-fn unit_of(g: Given, lists: &[u64], channels: u64, k: Reference) -> Becomes
+fn unit_of(g: Given, lists: &[u64], channels: u64, k: Reference) -> Result<u64, Fault>
     requires { Readable g lists.now }
     ensures { result ≡ unit (io_numbers g lists.now) channels k }
 {
     if k.0 < channels {
-        return Becomes::Bad(FAULT_20);
+        return Err(FAULT_20);
     }
     if k.0 < g.io {
         return valued_of(lists::load::io_assigned(g, lists, k));
     }
-    Becomes::Bad(FAULT_20)
+    Err(FAULT_20)
 }
 
 // The address of table k, or its length.
@@ -242,25 +214,32 @@ fn address_or_length(g: Given, lists: &[u64], sized: bool, k: Reference) -> u64
 }
 
 // A table's address or length, plus or minus an amount. The address is absolute already.
-fn refer(g: Given, lists: &[u64], sized: bool, k: Reference, minus: bool, amount: u64) -> Becomes
+fn refer(
+    g: Given,
+    lists: &[u64],
+    sized: bool,
+    k: Reference,
+    minus: bool,
+    amount: u64,
+) -> Result<u64, Fault>
     requires { (Readable g lists.now) × (amount < 2 ^ 24) }
     ensures { result ≡ referred (core_tables g lists.now) sized k minus amount }
 {
     if k.0 < g.tables {
         return plus_or_minus(minus, address_or_length(g, lists, sized, k), amount);
     }
-    Becomes::Bad(FAULT_20)
+    Err(FAULT_20)
 }
 
 // A form that takes 0 away.
 fn minus_zero(minus: bool, amount: u64) -> bool
     ensures { result ≡ minus_zero minus amount }
 {
-    if minus { amount == 0 } else { false }
+    minus && amount == 0
 }
 
 // The sum or the difference, which does not wrap.
-fn plus_or_minus(minus: bool, base: u64, amount: u64) -> Becomes
+fn plus_or_minus(minus: bool, base: u64, amount: u64) -> Result<u64, Fault>
     requires { (base < 2 ^ 24) × (amount < 2 ^ 24) }
     ensures { result ≡ plus_or_minus minus base amount }
 {
@@ -268,70 +247,40 @@ fn plus_or_minus(minus: bool, base: u64, amount: u64) -> Becomes
         if amount <= base {
             return valued_of(base - amount);
         }
-        return Becomes::Bad(FAULT_21);
+        return Err(FAULT_21);
     }
     valued_of(base + amount)
 }
 
 // A value from 0 to 65,535, else 21.
-fn valued_of(v: u64) -> Becomes
+fn valued_of(v: u64) -> Result<u64, Fault>
     ensures { result ≡ valued v }
 {
     if v < VALUE_LIMIT {
-        return Becomes::Value(v);
+        return Ok(v);
     }
-    Becomes::Bad(FAULT_21)
+    Err(FAULT_21)
 }
 
 // The word with what the field of half h becomes.
-fn put_back(h: Half, w: u64, b: Becomes) -> Changed
+fn put_back(h: Half, w: u64, b: Result<u64, Fault>) -> Result<u64, Fault>
     requires { (w < 2 ^ 36) × (Fits 16 b) }
     ensures { result ≡ put_back (lowest h) 16 w b }
 {
-    match b {
-        Becomes::Value(v) => Changed::Word(word::store_field(w, h, v)),
-        Becomes::Bad(fault) => Changed::Refused(fault),
-    }
+    Ok(word::store_field(w, h, b?))
 }
 
 // The word with what its bits 25-22 become.
-fn put_a(w: u64, b: Becomes) -> Changed
+fn put_a(w: u64, b: Result<u64, Fault>) -> Result<u64, Fault>
     requires { (w < 2 ^ 36) × (Fits 4 b) }
     ensures { result ≡ put_back 22 4 w b }
 {
-    match b {
-        Becomes::Value(v) => Changed::Word(word::store_a(w, v)),
-        Becomes::Bad(fault) => Changed::Refused(fault),
-    }
+    Ok(word::store_a(w, b?))
 }
 
-// The same where only the word is wanted: by a type that is not a long 010, by a long one, and of bits 25-22.
-fn put_word(h: Half, w: u64, b: Becomes) -> Stepped
-    requires { (w < 2 ^ 36) × (Fits 16 b) }
-    ensures { result ≡ stepped false (put_back (lowest h) 16 w b) }
+// The same where only the word is wanted.
+fn told(long: bool, r: Result<u64, Fault>) -> Option<Stepped>
+    ensures { result ≡ stepped long r }
 {
-    match b {
-        Becomes::Value(v) => Stepped::Word(word::store_field(w, h, v)),
-        Becomes::Bad(_) => Stepped::Refused,
-    }
-}
-
-fn put_long(h: Half, w: u64, b: Becomes) -> Stepped
-    requires { (w < 2 ^ 36) × (Fits 16 b) }
-    ensures { result ≡ stepped true (put_back (lowest h) 16 w b) }
-{
-    match b {
-        Becomes::Value(v) => Stepped::Long(word::store_field(w, h, v)),
-        Becomes::Bad(_) => Stepped::Refused,
-    }
-}
-
-fn put_switch(w: u64, b: Becomes) -> Stepped
-    requires { (w < 2 ^ 36) × (Fits 4 b) }
-    ensures { result ≡ stepped false (put_back 22 4 w b) }
-{
-    match b {
-        Becomes::Value(v) => Stepped::Word(word::store_a(w, v)),
-        Becomes::Bad(_) => Stepped::Refused,
-    }
+    r.ok().map(|word| Stepped { word, long })
 }

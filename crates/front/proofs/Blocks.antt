@@ -13,17 +13,17 @@ use Rattle.word.specs.Limits.{words_in_block}
 use Rattle.word.specs.Lists.{range}
 use Rattle.word.specs.declared.Fault.{Fault}
 use Rattle.block.specs.Records.{of_record, checksum_place}
+use Rattle.word.specs.Fault.{pass}
 use Rattle.block.specs.Block.{verdict}
 use Rattle.block.specs.declared.Record.{Record}
 use Rattle.block.specs.declared.Record.TheVariants.{Modification, Program}
-use Rattle.block.specs.declared.Verdict.{Verdict}
-use Rattle.block.specs.declared.Verdict.TheVariants.{Pass, Refused}
+use Rattle.std.specs.Prelude.{Err}
 use Rattle.block.proofs.OnePass.{passed_known, whole_long}
 use Rattle.block.specs.Checksum.{checksum}
-use Rattle.front.specs.Front.{block_at, wrong_record, modification_at, modifications_to, over_at, behind_label}
+use Rattle.front.specs.Front.{block_at, wrong_record, modification_at, modifications_to, over_at}
 
 -- a block that passes is of 256 words
-pub passed_long : (r : Record) (block : List ℕ) → verdict r block ≡ Pass → length block ≡ words_in_block
+pub passed_long : (r : Record) (block : List ℕ) → verdict r block ≡ pass → length block ≡ words_in_block
 unfolding verdict
 passed_long r block q = whole_long block (passed_known checksum (checksum_place r) block q).0
 
@@ -36,74 +36,65 @@ last-part l a n h =
 
 module _ (blocks : List ℕ) (i : ℕ) where
   -- where no block is there
-  pub missing : (f : Fault) → f ≡ wrong_record i → length blocks ≤ words_in_block * i → Refused f ≡ modification_at blocks i
+  pub missing : (f : Fault) → f ≡ wrong_record i → length blocks ≤ words_in_block * i → Err f ≡ modification_at blocks i
   unfolding modification_at
   missing f w h = rw (w, le-ltb (words_in_block * i) (length blocks) h)
 
-  pub none_over : length blocks ≤ words_in_block * i → Pass ≡ over_at blocks i
+  pub none_over : length blocks ≤ words_in_block * i → pass ≡ over_at blocks i
   unfolding over_at
   none_over h = rw (le-ltb (words_in_block * i) (length blocks) h)
 
   -- where one is
   module _ (h : words_in_block * i < length blocks) (b : List ℕ) (e : b ≡ block_at blocks i) where
-    pub right_record : verdict Modification b ≡ Pass → true ≡ of_record Modification b → Pass ≡ modification_at blocks i
+    pub right_record : verdict Modification b ≡ pass → true ≡ of_record Modification b → pass ≡ modification_at blocks i
     unfolding modification_at
     right_record q r = rw (lt-ltb (words_in_block * i) (length blocks) h, ← e, q, ← r)
 
-    pub other_record : (f : Fault) → f ≡ wrong_record i → verdict Modification b ≡ Pass → false ≡ of_record Modification b
-        → Refused f ≡ modification_at blocks i
+    pub other_record : (f : Fault) → f ≡ wrong_record i → verdict Modification b ≡ pass → false ≡ of_record Modification b
+        → Err f ≡ modification_at blocks i
     unfolding modification_at
     other_record f w q r = rw (w, lt-ltb (words_in_block * i) (length blocks) h, ← e, q, ← r)
 
-    pub refused-block : (f : Fault) → verdict Modification b ≡ Refused f → Refused f ≡ modification_at blocks i
+    pub refused-block : (f : Fault) → verdict Modification b ≡ Err f → Err f ≡ modification_at blocks i
     unfolding modification_at
     refused-block f q = rw (lt-ltb (words_in_block * i) (length blocks) h, ← e, q)
 
-    pub over : (f : Fault) → f ≡ wrong_record i → verdict Program b ≡ Pass → Refused f ≡ over_at blocks i
+    pub over : (f : Fault) → f ≡ wrong_record i → verdict Program b ≡ pass → Err f ≡ over_at blocks i
     unfolding over_at
     over f w q = rw (w, lt-ltb (words_in_block * i) (length blocks) h, ← e, q)
 
-    pub refused_over : (f : Fault) → verdict Program b ≡ Refused f → Refused f ≡ over_at blocks i
+    pub refused_over : (f : Fault) → verdict Program b ≡ Err f → Err f ≡ over_at blocks i
     unfolding over_at
     refused_over f q = rw (lt-ltb (words_in_block * i) (length blocks) h, ← e, q)
 
   -- the blocks up to i are right, and the next one is or is not
-  pub one_more : modifications_to blocks i ≡ Pass → modification_at blocks (i + 1) ≡ Pass → modifications_to blocks (i + 1) ≡ Pass
+  pub one_more : modifications_to blocks i ≡ pass → modification_at blocks (i + 1) ≡ pass → modifications_to blocks (i + 1) ≡ pass
   unfolding modifications_to
   one_more p q = let r = rw add-one at q in rw (add-one, p, r)
 
-  one_wrong : (f : Fault) → modifications_to blocks i ≡ Pass → modification_at blocks (i + 1) ≡ Refused f
-      → modifications_to blocks (i + 1) ≡ Refused f
+  one_wrong : (f : Fault) → modifications_to blocks i ≡ pass → modification_at blocks (i + 1) ≡ Err f
+      → modifications_to blocks (i + 1) ≡ Err f
   unfolding modifications_to
   one_wrong f p q = let r = rw add-one at q in rw (add-one, p, r)
 
 module _ (blocks : List ℕ) where
   -- the first that is not is told, however many are due
-  wrong_stays : (f : Fault) (i n : ℕ) → modifications_to blocks i ≡ Refused f → modifications_to blocks (n + i) ≡ Refused f
+  wrong_stays : (f : Fault) (i n : ℕ) → modifications_to blocks i ≡ Err f → modifications_to blocks (n + i) ≡ Err f
   unfolding modifications_to
   wrong_stays f i zero q = rw zero-add q
   wrong_stays f i (suc n) q = let e : suc n + i ≡ suc (n + i) = omega arith in rw (e, wrong_stays f i n q)
 
-  pub first_wrong_lem : (i : ℕ) (f : Fault) (m : ℕ) → i < m → modifications_to blocks i ≡ Pass
-      → modification_at blocks (i + 1) ≡ Refused f
-      → Refused f ≡ modifications_to blocks m
+  pub first_wrong_lem : (i : ℕ) (f : Fault) (m : ℕ) → i < m → modifications_to blocks i ≡ pass
+      → modification_at blocks (i + 1) ≡ Err f
+      → Err f ≡ modifications_to blocks m
   first_wrong_lem i f m h p q =
       let e : m - (i + 1) + (i + 1) ≡ m = omega arith in
       sym (rw e at (wrong_stays f (i + 1) (m - (i + 1)) (one_wrong blocks i f p q)))
 
   -- all that are due are right
-  pub all_right : (i m : ℕ) → i ≤ m → m ≤ i → modifications_to blocks i ≡ Pass → Pass ≡ modifications_to blocks m
+  pub all_right : (i m : ℕ) → i ≤ m → m ≤ i → modifications_to blocks i ≡ pass → pass ≡ modifications_to blocks m
   all_right i m h k q = let e : i ≡ m = omega arith in sym (rw e at q)
 
-  pub none_yet : modifications_to blocks 0 ≡ Pass
+  pub none_yet : modifications_to blocks 0 ≡ pass
   unfolding modifications_to
   none_yet = refl
-
-  -- and then what is over
-  pub behind_right : (m : ℕ) (v : Verdict) → modifications_to blocks m ≡ Pass → v ≡ over_at blocks (m + 1) → v ≡ behind_label blocks m
-  unfolding behind_label
-  behind_right m v p q = let r = rw add-one at q in rw (p, ← r)
-
-  pub behind_wrong : (m : ℕ) (f : Fault) → modifications_to blocks m ≡ Refused f → Refused f ≡ behind_label blocks m
-  unfolding behind_label
-  behind_wrong m f p = rw p

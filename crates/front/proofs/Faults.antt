@@ -6,22 +6,18 @@ use native.Mathlib.Omega.{arith}
 use lib.ListN.{length}
 use lib.Dec.{ltb}
 use Rattle.word.specs.Limits.{words_in_block}
-use Rattle.word.specs.Fault.{fault}
+use Rattle.word.specs.Fault.{fault, Verdict}
 use Rattle.word.specs.declared.Fault.{Fault}
-use Rattle.word.specs.declared.Side.TheVariants.{Whole}
 use Rattle.word.proofs.Cases.{both}
 use Rattle.block.specs.Block.{verdict}
 use Rattle.block.specs.Checksum.{checksum}
 use Rattle.block.specs.Records.{checksum_place, of_record}
 use Rattle.block.specs.declared.Record.{Record}
 use Rattle.block.specs.declared.Record.TheVariants.{Label as label-record, Modification, Program}
-use Rattle.block.specs.declared.Verdict.{Verdict}
-use Rattle.block.specs.declared.Verdict.TheVariants.{Pass, Refused}
+use Rattle.std.specs.Prelude.{Result, Ok, Err, None}
 use Rattle.block.proofs.OnePass.{seal-cases}
 use Rattle.label.specs.Label.{label_of, Carried}
 use Rattle.label.specs.declared.Label.{Label}
-use Rattle.label.specs.declared.LabelRead.{LabelRead}
-use Rattle.label.specs.declared.LabelRead.TheVariants.{Good, Bad}
 use Rattle.label.proofs.Faults.{label_faults}
 use Rattle.front.specs.Front.{on_pass, label_on_pass, label_block, block_at, wrong_record, modification_at, modifications_to}
 use Rattle.front.specs.Front.{over_at, behind_label, blocks_due, with_blocks, front_of}
@@ -35,24 +31,24 @@ pub record FrontFault (f : Fault) : Type 0 where
   pub least : 11 ≤ f.number
   pub most : f.number ≤ 15
   pub word : f.word ≤ front_most
-  pub half : f.half ≡ Whole
+  pub half : f.half ≡ None
 
 abbrev Ends : Verdict → Type 0
-Ends Pass = Unit {0}
-Ends (Refused f) = FrontFault f
+Ends (Ok t) = Unit {0}
+Ends (Err f) = FrontFault f
 
-abbrev Reads : LabelRead → Type 0
-Reads (Good l) = Unit {0}
-Reads (Bad f) = FrontFault f
+abbrev Reads : Result Label Fault → Type 0
+Reads (Ok l) = Unit {0}
+Reads (Err f) = FrontFault f
 
 -- ---- one after another
 ends_on : (v w : Verdict) → Ends v → Ends w → Ends (on_pass v w)
-ends_on Pass w p q = q
-ends_on (Refused f) w p q = p
+ends_on (Ok t) w p q = q
+ends_on (Err f) w p q = p
 
-reads_on : (v : Verdict) (r : LabelRead) → Ends v → Reads r → Reads (label_on_pass v r)
-reads_on Pass r p q = q
-reads_on (Refused f) r p q = p
+reads_on : (v : Verdict) (r : Result Label Fault) → Ends v → Reads r → Reads (label_on_pass v r)
+reads_on (Ok t) r p q = q
+reads_on (Err f) r p q = p
 
 plain : (n : ℕ) → 11 ≤ n → n ≤ 15 → FrontFault (fault n)
 plain n h k = record { least = h; most = k; word = omega arith; half = refl }
@@ -64,9 +60,9 @@ ends-verdict r block =
     (plain 12 (omega arith) (omega arith))
 
 -- ---- the label
-reads_label : (block : List ℕ) (r : LabelRead) → label_of block ≡ r → Reads r
-reads_label block (Good l) e = tt
-reads_label block (Bad f) e =
+reads_label : (block : List ℕ) (r : Result Label Fault) → label_of block ≡ r → Reads r
+reads_label block (Ok l) e = tt
+reads_label block (Err f) e =
     let p = label_faults block f e in
     record { least = omega (arith, p.least); most = p.most; word = omega (arith, p.word); half = p.half }
 
@@ -75,7 +71,7 @@ unfolding label_block
 label_reads block =
     reads_on (verdict label-record block) (label_of block) (ends-verdict label-record block) (reads_label block (label_of block) refl)
 
-pub label-block_faults : (block : List ℕ) (f : Fault) → label_block block ≡ Bad f → FrontFault f
+pub label-block_faults : (block : List ℕ) (f : Fault) → label_block block ≡ Err f → FrontFault f
 label-block_faults block f e = rw e at (label_reads block)
 
 -- ---- the blocks behind it
@@ -102,7 +98,7 @@ module _ (blocks : List ℕ) where
   unfolding over_at
   over_ends i h =
       both Ends (ltb (words_in_block * i) (length blocks))
-      (ends_on (verdict Program (block_at blocks i)) (Refused (wrong_record i)) (ends-verdict Program (block_at blocks i))
+      (ends_on (verdict Program (block_at blocks i)) (Err (wrong_record i)) (ends-verdict Program (block_at blocks i))
       (wrong_ends i h))
       tt
 
@@ -115,11 +111,11 @@ module _ (blocks : List ℕ) where
   few_due : (l : Label) → Carried l → blocks_due l ≤ 3
   few_due l c = omega (arith, c.io, c.core)
 
-  with_reads : (r : LabelRead) → label_block (block_at blocks 0) ≡ r → Reads (with_blocks blocks r)
-  with_reads (Good l) e =
-      reads_on (behind_label blocks (blocks_due l)) (Good l)
+  with_reads : (r : Result Label Fault) → label_block (block_at blocks 0) ≡ r → Reads (with_blocks blocks r)
+  with_reads (Ok l) e =
+      reads_on (behind_label blocks (blocks_due l)) (Ok l)
       (behind-ends (blocks_due l) (few_due l (label-block-carried (block_at blocks 0) l e))) tt
-  with_reads (Bad f) e = label-block_faults (block_at blocks 0) f e
+  with_reads (Err f) e = label-block_faults (block_at blocks 0) f e
 
   front_reads : Reads (front_of blocks)
   unfolding front_of
@@ -127,5 +123,5 @@ module _ (blocks : List ℕ) where
       both Reads (ltb (words_in_block * 0) (length blocks)) (with_reads (label_block (block_at blocks 0)) refl)
       (wrong_ends 0 (omega arith))
 
-  pub front_faults : (f : Fault) → front_of blocks ≡ Bad f → FrontFault f
+  pub front_faults : (f : Fault) → front_of blocks ≡ Err f → FrontFault f
   front_faults f e = rw e at front_reads

@@ -2,15 +2,14 @@
 // needs, and the words of the entries.
 #![tactic(auto)]
 
-ghost use Rattle.std.specs.Prelude.{◌≡◌, ◌*◌, ◌≤◌, ◌<◌, ◌^◌, length};
+ghost use Rattle.std.specs.Prelude.{◌≡◌, ◌*◌, ◌≤◌, ◌<◌, ◌^◌, length, Ok};
 ghost use Rattle.word.specs.Limits.{words_in_block};
 ghost use Rattle.label.specs.Label.{Carried};
 ghost use Rattle.front.specs.Front.{label_block, block_at, modification_at, modifications_to, over_at, behind_label, front_of};
 ghost use Rattle.front.specs.Front.{wrong_record, with_blocks, blocks_due, entry_word, needs_value};
-ghost use Rattle.label.specs.declared.LabelRead.TheVariants.{Good};
 
-use block::{BLOCK_WORDS, Record, Verdict};
-use label::{Label, LabelRead};
+use block::{BLOCK_WORDS, Record};
+use label::Label;
 use word::Fault;
 use word::faults::FAULT_13;
 
@@ -20,37 +19,31 @@ const TABLES_UNIT: u64 = 1 << 10;
 const BLOCKS_UNIT: u64 = 1 << 20;
 
 // A label that is lent alone.
-pub fn read_label_block(block: &[u64]) -> LabelRead
+pub fn read_label_block(block: &[u64]) -> Result<Label, Fault>
     ensures { result ≡ label_block block.now }
 {
-    match block::check_block(block, Record::Label) {
-        Verdict::Pass => label::read_label(block),
-        Verdict::Refused(f) => LabelRead::Bad(f),
-    }
+    block::check_block(block, Record::Label)?;
+    label::read_label(block)
 }
 
 // The label of a front whose blocks are all there and right, or the first fault.
-pub fn read_front(blocks: &[u64]) -> LabelRead
+pub fn read_front(blocks: &[u64]) -> Result<Label, Fault>
     ensures { result ≡ front_of blocks.now }
 {
-    if blocks.len() == 0 {
-        return LabelRead::Bad(FAULT_13);
+    if blocks.is_empty() {
+        return Err(FAULT_13);
     }
-    match read_label_block(block_at(blocks, 0)) {
-        LabelRead::Good(l) => with_blocks(blocks, l),
-        LabelRead::Bad(f) => LabelRead::Bad(f),
-    }
+    let l = read_label_block(block_at(blocks, 0))?;
+    with_blocks(blocks, l)
 }
 
 // The label, once the blocks behind it are seen to be right.
-fn with_blocks(blocks: &[u64], l: Label) -> LabelRead
+fn with_blocks(blocks: &[u64], l: Label) -> Result<Label, Fault>
     requires { Carried l }
-    ensures { result ≡ with_blocks blocks.now (Good l) }
+    ensures { result ≡ with_blocks blocks.now (Ok l) }
 {
-    match check_behind(blocks, blocks_due(l) as usize) {
-        Verdict::Pass => LabelRead::Good(l),
-        Verdict::Refused(f) => LabelRead::Bad(f),
-    }
+    check_behind(blocks, blocks_due(l) as usize)?;
+    Ok(l)
 }
 
 // How many modification blocks the label makes due.
@@ -62,65 +55,52 @@ fn blocks_due(l: Label) -> u64
 }
 
 // The blocks behind the label, of which m are due.
-fn check_behind(blocks: &[u64], m: usize) -> Verdict
+fn check_behind(blocks: &[u64], m: usize) -> Result<(), Fault>
     requires { m ≤ 65536 }
     ensures { result ≡ behind_label blocks.now m }
 {
-    match check_modifications(blocks, m) {
-        Verdict::Pass => check_over(blocks, m + 1),
-        Verdict::Refused(f) => Verdict::Refused(f),
-    }
+    check_modifications(blocks, m)?;
+    check_over(blocks, m + 1)
 }
 
 // Modification blocks 1 to m.
-fn check_modifications(blocks: &[u64], m: usize) -> Verdict
+fn check_modifications(blocks: &[u64], m: usize) -> Result<(), Fault>
     requires { m ≤ 65536 }
     ensures { result ≡ modifications_to blocks.now m }
 {
-    let mut i: usize = 0;
-    while i < m {
-        match check_modification(blocks, i + 1) {
-            Verdict::Pass => {
-                i += 1;
-            }
-            Verdict::Refused(f) => return Verdict::Refused(f),
-        }
+    for i in 0..m {
+        check_modification(blocks, i + 1)?;
     }
-    Verdict::Pass
+    Ok(())
 }
 
 // Block i, where a modification block is due.
-fn check_modification(blocks: &[u64], i: usize) -> Verdict
+fn check_modification(blocks: &[u64], i: usize) -> Result<(), Fault>
     requires { i ≤ 2 ^ 20 }
     ensures { result ≡ modification_at blocks.now i }
 {
     if blocks.len() <= BLOCK_WORDS * i {
-        return Verdict::Refused(wrong_record(i));
+        return Err(wrong_record(i));
     }
     let b = block_at(blocks, i);
-    match block::check_block(b, Record::Modification) {
-        Verdict::Pass => {
-            if block::of_record(b, Record::Modification) {
-                return Verdict::Pass;
-            }
-            Verdict::Refused(wrong_record(i))
-        }
-        Verdict::Refused(f) => Verdict::Refused(f),
+    block::check_block(b, Record::Modification)?;
+    if block::of_record(b, Record::Modification) {
+        Ok(())
+    } else {
+        Err(wrong_record(i))
     }
 }
 
 // Block i, where none is due any more.
-fn check_over(blocks: &[u64], i: usize) -> Verdict
+fn check_over(blocks: &[u64], i: usize) -> Result<(), Fault>
     requires { i ≤ 2 ^ 20 }
     ensures { result ≡ over_at blocks.now i }
 {
     if blocks.len() <= BLOCK_WORDS * i {
-        return Verdict::Pass;
+        return Ok(());
     }
-    match block::check_block(block_at(blocks, i), Record::Program) {
-        Verdict::Pass => Verdict::Refused(wrong_record(i)),
-        Verdict::Refused(f) => Verdict::Refused(f),
-    }
+    block::check_block(block_at(blocks, i), Record::Program)?;
+    Err(wrong_record(i))
 }
 
 // 13 at the first word of block i.

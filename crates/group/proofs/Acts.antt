@@ -1,5 +1,6 @@
 -- What a group answers and what it writes hang on its block and what the load was given, not on the core.
 use Prim.Native.Nat.{ℕ, ◌+◌, ◌-◌, ◌≤◌, ◌<◌}
+use Rattle.std.specs.Prelude.{Result, Err}
 use mathlib.Core.Path.{◌≡◌, refl, sym, ◌∙◌}
 use mathlib.Core.Bool.{Bool, true, false, cond}
 use mathlib.Core.List.{List, []}
@@ -14,14 +15,12 @@ use Rattle.word.proofs.Cases.{by-test, by-lt}
 use Rattle.word.proofs.Lists.{length-range_most, get_d_splice_in}
 use Rattle.word.proofs.Stretch.{splice-none, get_d_splice_beside}
 use Rattle.program.specs.declared.Group.{Group}
-use Rattle.program.specs.declared.GroupRead.{GroupRead}
-use Rattle.program.specs.declared.GroupRead.TheVariants.{Good, Bad}
+use Rattle.std.specs.Prelude.{Result, Ok, Err}
 use Rattle.program.specs.Groups.{group_of}
 use Rattle.field.specs.Field.{Assignments}
-use Rattle.group.specs.declared.GroupStep.{GroupStep}
-use Rattle.group.specs.declared.GroupStep.TheVariants.{Done, Refused}
+use Rattle.group.specs.declared.GroupEnd.{GroupEnd}
 use Rattle.group.specs.declared.Section.{Section}
-use Rattle.group.specs.Group.{Words, changed_words, program_words, indicator_bits_in, words_lie, group_fits, GroupOutcome}
+use Rattle.group.specs.Group.{ended, Words, changed_words, program_words, indicator_bits_in, words_lie, group_fits, GroupOutcome}
 use Rattle.group.specs.Group.{address_of, refused_group, stored_group, group_outcome, read_outcome, group_step, InArea}
 use Rattle.group.specs.Group.Words.{Become, Refuse}
 use Rattle.group.proofs.Group.{untouched, group_fits_lem}
@@ -30,7 +29,7 @@ use Rattle.group.proofs.Words.{Many, changed-many}
 
 -- one answer, and one stretch of words of the area, whatever the core holds
 pub record Acts (area : Area) (f : List ℕ → GroupOutcome) : Type 0 where
-  pub answer : GroupStep
+  pub answer : Result GroupEnd Fault
   pub to : ℕ
   pub words : List ℕ
   pub low : area.at.0 ≤ to
@@ -46,7 +45,7 @@ module _ (area : Area) where
 
   untouched_acts : (f : Fault) → Acts area (λ core. untouched core f)
   untouched_acts f = record {
-    answer = Refused f;
+    answer = Err f;
     to = area.at.0;
     words = [];
     low = omega arith;
@@ -63,7 +62,7 @@ module _ (area : Area) where
         (λ q. let l = words_lie_lem area section g room q in
         rw q
         (record {
-          answer = Refused f;
+          answer = Err f;
           to = (address_of area section g).0;
           words = replicate g.program 0;
           low = l.low;
@@ -79,7 +78,7 @@ module _ (area : Area) where
     stored_acts q i n few (Become vs) m =
         let l = words_lie_lem area section g room q in
         record {
-          answer = Done (i + 1 + g.words) g.last;
+          answer = ended (i + 1 + g.words) g.last;
           to = (address_of area section g).0;
           words = vs;
           low = l.low;
@@ -90,15 +89,15 @@ module _ (area : Area) where
     stored_acts q i n few (Refuse f) m = refused_acts (further 1 f)
 
 module _ (a : Assignments) (section : Section) (block : List ℕ) (i : ℕ) where
-  read_acts : InArea a.area section → (r : GroupRead) → Acts a.area (λ core. read_outcome a section block i core r)
+  read_acts : InArea a.area section → (r : Result Group Fault) → Acts a.area (λ core. read_outcome a section block i core r)
   unfolding read_outcome group_outcome
-  read_acts room (Good g) =
+  read_acts room (Ok g) =
       choose a.area (group_fits section block i g) _ _
       (λ q. stored_acts a.area section g room (group_fits_lem section block i g q).lies i (length (program_words block i g))
       (length-range_most block (i + 1) g.program) (changed_words a (indicator_bits_in block i g) 0 (program_words block i g))
       (changed-many a (indicator_bits_in block i g) 0 (program_words block i g)))
       (refused_acts a.area section g room (fault 18))
-  read_acts room (Bad f) = untouched_acts a.area f
+  read_acts room (Err f) = untouched_acts a.area f
 
   pub group_acts : InArea a.area section → Acts a.area (group_step a section block i)
   unfolding group_step

@@ -1,4 +1,5 @@
 -- Groups worked by hand, in a core of eight words with the area at word 2. The words of a block are in octal.
+use Rattle.std.specs.Prelude.{Err}
 use mathlib.Core.Path.{◌≡◌, refl}
 use mathlib.Core.Bool.{true}
 use mathlib.Core.List.{List, [], ◌∷◌, ◌++◌, map, flat_map}
@@ -8,16 +9,15 @@ use Rattle.word.specs.Fault.{fault}
 use Rattle.word.specs.declared.Fault.{Fault}
 use Rattle.word.specs.declared.Half.{Half}
 use Rattle.word.specs.declared.Half.TheVariants.{Left, Right}
-use Rattle.word.specs.declared.Side.TheVariants.{In}
+use Rattle.std.specs.Prelude.{Some}
 use Rattle.word.specs.Lists.{range, splice, cleared}
 use Rattle.word.specs.Runs.{within}
 use Rattle.program.specs.Groups.{group_of}
 use Rattle.field.specs.Field.{Assignments, valued, moved_field, becomes, put_back, field_change, field_step}
 use Rattle.indicator.specs.Indicator.{bits_of, indicator_bits, bits_before, number_at, indicator_at, after_field, after_word, after_all}
-use Rattle.group.specs.declared.GroupStep.TheVariants.{Done, Refused}
 use Rattle.group.specs.declared.Section.{Section}
 use Rattle.group.specs.declared.Section.TheVariants.{Segment as InSegment, Table as InTable}
-use Rattle.group.specs.Group.{half_step, word_step, changed_words, words_lie, indicators_fit, group_fits, GroupOutcome, address_of}
+use Rattle.group.specs.Group.{ended, half_step, word_step, changed_words, words_lie, indicators_fit, group_fits, GroupOutcome, address_of}
 use Rattle.group.specs.Group.{refused_group, stored_group, group_outcome, read_outcome, group_step}
 
 abbrev load : Assignments
@@ -45,23 +45,23 @@ after section block i = group_step load section block i (100 ∷ 101 ∷ 102 ∷
 
 -- the outcomes: the word at the Program Name is now v, or the table's second word is; a refusal cleared the former, or nothing
 abbrev stored : ℕ → ℕ → GroupOutcome
-stored p v = record { answer = Done p true; core = 100 ∷ 101 ∷ v ∷ 103 ∷ 104 ∷ 105 ∷ 106 ∷ 107 ∷ [] }
+stored p v = record { answer = ended p true; core = 100 ∷ 101 ∷ v ∷ 103 ∷ 104 ∷ 105 ∷ 106 ∷ 107 ∷ [] }
 
 abbrev stored_in_table : ℕ → ℕ → GroupOutcome
-stored_in_table p v = record { answer = Done p true; core = 100 ∷ 101 ∷ 102 ∷ 103 ∷ 104 ∷ v ∷ 106 ∷ 107 ∷ [] }
+stored_in_table p v = record { answer = ended p true; core = 100 ∷ 101 ∷ 102 ∷ 103 ∷ 104 ∷ v ∷ 106 ∷ 107 ∷ [] }
 
 abbrev zeros_at : Fault → GroupOutcome
-zeros_at f = record { answer = Refused f; core = 100 ∷ 101 ∷ 0 ∷ 103 ∷ 104 ∷ 105 ∷ 106 ∷ 107 ∷ [] }
+zeros_at f = record { answer = Err f; core = 100 ∷ 101 ∷ 0 ∷ 103 ∷ 104 ∷ 105 ∷ 106 ∷ 107 ∷ [] }
 
 -- at the identifier; and in a half of word k after it, whose indicator is at bit b
 abbrev zeros : ℕ → GroupOutcome
 zeros n = zeros_at (fault n)
 
 abbrev zeros_in : ℕ → ℕ → Half → ℕ → GroupOutcome
-zeros_in n k h b = zeros_at (record { number = n; word = k; half = In h; bit = b })
+zeros_in n k h b = zeros_at (record { number = n; word = k; half = Some h; bit = b })
 
 abbrev untouched : ℕ → GroupOutcome
-untouched n = record { answer = Refused (fault n); core = 100 ∷ 101 ∷ 102 ∷ 103 ∷ 104 ∷ 105 ∷ 106 ∷ 107 ∷ [] }
+untouched n = record { answer = Err (fault n); core = 100 ∷ 101 ∷ 102 ∷ 103 ∷ 104 ∷ 105 ∷ 106 ∷ 107 ∷ [] }
 
 -- the hand deck's program block: its group at word 5 has one program word, 7, whose indicators are a 0, and 1 000 for its right
 -- half

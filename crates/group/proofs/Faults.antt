@@ -1,5 +1,6 @@
 -- A group's refusal is 18, 19, 20 or 21, at its place.
 use Prim.Native.Nat.{ℕ, zero, suc, ◌+◌, ◌-◌, ◌*◌, ◌≤◌, ◌<◌}
+use Rattle.std.specs.Prelude.{Result, Ok, Err, Some}
 use mathlib.Core.Path.{◌≡◌, refl, sym, ◌∙◌}
 use mathlib.Core.Bool.{true}
 use mathlib.Core.Logic.{◌⊎◌, inl, inr}
@@ -11,7 +12,6 @@ use borrow.Author.Tests.{leb-true}
 use Rattle.word.specs.declared.Fault.{Fault}
 use Rattle.word.specs.declared.Half.{Half}
 use Rattle.word.specs.declared.Half.TheVariants.{Left, Right}
-use Rattle.word.specs.declared.Side.TheVariants.{In}
 use Rattle.word.specs.Fault.{fault, further}
 use Rattle.word.specs.Limits.{words_in_block}
 use Rattle.word.specs.Word.{word_bits, part, field_of}
@@ -19,18 +19,14 @@ use Rattle.word.proofs.Cases.{both, when, and_left, and_right}
 use Rattle.word.proofs.Lists.{length-range_most}
 use Rattle.program.specs.Sections.{last_word}
 use Rattle.program.specs.declared.Group.{Group}
-use Rattle.program.specs.declared.GroupRead.{GroupRead}
-use Rattle.program.specs.declared.GroupRead.TheVariants.{Good, Bad as no-group}
+use Rattle.std.specs.Prelude.{Result, Ok, Err}
 use Rattle.program.specs.Groups.{group_of}
 use Rattle.program.specs.Pieces.{HasGroup}
-use Rattle.field.specs.declared.Changed.{Changed}
-use Rattle.field.specs.declared.Changed.TheVariants.{Word, Refused as RefusedWord}
 use Rattle.field.specs.Field.{Assignments}
 use Rattle.indicator.specs.declared.Indicator.{Indicator}
 use Rattle.indicator.specs.declared.Indicator.TheVariants.{Same, Change, Long}
 use Rattle.indicator.specs.Indicator.{width_of, indicator_at, after_field, after_word, after_all}
-use Rattle.group.specs.declared.GroupStep.{GroupStep}
-use Rattle.group.specs.declared.GroupStep.TheVariants.{Done, Refused}
+use Rattle.group.specs.declared.GroupEnd.{GroupEnd}
 use Rattle.group.specs.declared.Section.{Section}
 use Rattle.group.specs.Group.{half_step, then_half, word_step, Words, then_words, changed_words, program_words, indicator_bits_in}
 use Rattle.group.specs.Group.{in_one_block, holds_program, words_lie, indicators_fit, group_fits, GroupOutcome, refused_group}
@@ -94,37 +90,37 @@ module _ (bits : List ℕ) where
     pub number : Among 19 21 f
     pub word : f.word < length ws
     pub half : Half
-    pub told : f.half ≡ In half
+    pub told : f.half ≡ Some half
     pub bit : f.bit ≡ indicator_place bits p ws f.word half
 
-  abbrev pub IsOfWord : ℕ → ℕ → Changed → Type 0
-  IsOfWord p w (Word v) = Unit {0}
-  IsOfWord p w (RefusedWord f) = OfWord p w f
+  abbrev pub IsOfWord : ℕ → ℕ → Result ℕ Fault → Type 0
+  IsOfWord p w (Ok v) = Unit {0}
+  IsOfWord p w (Err f) = OfWord p w f
 
   abbrev pub IsOfWords : ℕ → List ℕ → Words → Type 0
   IsOfWords p ws (Become vs) = Unit {0}
   IsOfWords p ws (Refuse f) = OfWords p ws f
 
-  in_word : (p w : ℕ) (h : Half) (r : Changed) → IsOfHalf h (half_place bits p w h) r → IsOfWord p w r
-  in_word p w h (Word v) o = tt
-  in_word p w h (RefusedWord f) o = record { half = h; in_half_lem = o }
+  in_word : (p w : ℕ) (h : Half) (r : Result ℕ Fault) → IsOfHalf h (half_place bits p w h) r → IsOfWord p w r
+  in_word p w h (Ok v) o = tt
+  in_word p w h (Err f) o = record { half = h; in_half_lem = o }
 
-  then_half_lem : (p w : ℕ) (r : Changed) (next : ℕ → Changed) → IsOfWord p w r → ((v : ℕ) → IsOfWord p w (next v))
+  then_half_lem : (p w : ℕ) (r : Result ℕ Fault) (next : ℕ → Result ℕ Fault) → IsOfWord p w r → ((v : ℕ) → IsOfWord p w (next v))
       → IsOfWord p w (then_half r next)
-  then_half_lem p w (Word v) next h k = k v
-  then_half_lem p w (RefusedWord f) next h k = h
+  then_half_lem p w (Ok v) next h k = k v
+  then_half_lem p w (Err f) next h k = h
 
-  then_words_lem : (p w : ℕ) (ws : List ℕ) (r : Changed) (rest : Words) → IsOfWord p w r → IsOfWords (after_word bits p w) ws rest
+  then_words_lem : (p w : ℕ) (ws : List ℕ) (r : Result ℕ Fault) (rest : Words) → IsOfWord p w r → IsOfWords (after_word bits p w) ws rest
       → IsOfWords p (w ∷ ws) (then_words r rest)
-  then_words_lem p w ws (Word v) (Become vs) h k = tt
-  then_words_lem p w ws (Word v) (Refuse f) h k = record {
+  then_words_lem p w ws (Ok v) (Become vs) h k = tt
+  then_words_lem p w ws (Ok v) (Refuse f) h k = record {
     number = k.number;
     word = omega (arith, k.word);
     half = k.half;
     told = k.told;
     bit = k.bit ∙ sym (place_later p w ws (1 + f.word) f.word k.half (omega arith));
   }
-  then_words_lem p w ws (RefusedWord f) rest h k = record {
+  then_words_lem p w ws (Err f) rest h k = record {
     number = h.in_half_lem.number;
     word = omega (arith, h.in_half_lem.word);
     half = h.half;
@@ -159,7 +155,7 @@ module _ (a : Assignments) where
 
 -- what reads as a group there is one of the block's groups
 abbrev pub Stands : List ℕ → ℕ → Type 0
-Stands block i = (g : Group) → group_of (get_or block i 0) ≡ Good g → HasGroup block i g
+Stands block i = (g : Group) → group_of (get_or block i 0) ≡ Ok g → HasGroup block i g
 
 -- a fault of what stands there, from the number `least` on
 pub record OfItem (least : ℕ) (block : List ℕ) (i : ℕ) (f : Fault) : Type 0 where
@@ -175,9 +171,9 @@ of_first least n block i top l h = record {
   place = λ s. record { inside = omega arith; field = λ k m. absurd (omega arith); whole = λ o. (refl, refl) };
 }
 
-abbrev pub IsOfGroup : List ℕ → ℕ → GroupStep → Type 0
-IsOfGroup block i (Done p last) = Unit {0}
-IsOfGroup block i (Refused f) = OfItem 18 block i f
+abbrev pub IsOfGroup : List ℕ → ℕ → Result GroupEnd Fault → Type 0
+IsOfGroup block i (Ok e) = Unit {0}
+IsOfGroup block i (Err f) = OfItem 18 block i f
 
 module _ (a : Assignments) (section : Section) (block : List ℕ) (i : ℕ) (top : i ≤ last_word) (core : List ℕ) where
   abbrev Answered : GroupOutcome → Type 0
@@ -190,7 +186,7 @@ module _ (a : Assignments) (section : Section) (block : List ℕ) (i : ℕ) (top
   unfolding refused_group
   refused-fault g f h = h
 
-  module _ (g : Group) (read : group_of (get_or block i 0) ≡ Good g) (fit : group_fits section block i g ≡ true) where
+  module _ (g : Group) (read : group_of (get_or block i 0) ≡ Ok g) (fit : group_fits section block i g ≡ true) where
     abbrev marks : ℕ
     marks = g.words - g.program
 
@@ -245,22 +241,22 @@ module _ (a : Assignments) (section : Section) (block : List ℕ) (i : ℕ) (top
     stored-fault (Become vs) h = tt
     stored-fault (Refuse f) h = refused-fault g (further 1 f) (field_of_lem f h)
 
-  abbrev IsOfRead : GroupRead → Type 0
-  IsOfRead (Good g) = Unit {0}
-  IsOfRead (no-group f) = OfItem 18 block i f
+  abbrev IsOfRead : Result Group Fault → Type 0
+  IsOfRead (Ok g) = Unit {0}
+  IsOfRead (Err f) = OfItem 18 block i f
 
   read-fault : (w : ℕ) → IsOfRead (group_of w)
   unfolding group_of
   read-fault w = both IsOfRead (eqb (part 34 2 w) 2) (both IsOfRead (eqb (part 18 8 w) 0) whole_18 tt) whole_18
 
-  outcome_fault : (r : GroupRead) → group_of (get_or block i 0) ≡ r → IsOfRead r → Answered (read_outcome a section block i core r)
+  outcome_fault : (r : Result Group Fault) → group_of (get_or block i 0) ≡ r → IsOfRead r → Answered (read_outcome a section block i core r)
   unfolding read_outcome group_outcome
-  outcome_fault (Good g) e h =
+  outcome_fault (Ok g) e h =
       when Answered (group_fits section block i g)
       (λ q. stored-fault g e q (changed_words a (indicator_bits_in block i g) 0 (program_words block i g))
       (words_fault a (indicator_bits_in block i g) 0 (program_words block i g)))
       (λ q. refused-fault g (fault 18) whole_18)
-  outcome_fault (no-group f) e h = h
+  outcome_fault (Err f) e h = h
 
   pub group_faults : IsOfGroup block i (group_step a section block i core).answer
   unfolding group_step

@@ -1,5 +1,6 @@
 -- A refusal of a field is 19, 20 or 21, of the one word that it was given.
 use Prim.Native.Nat.{ℕ, ◌+◌, ◌-◌, ◌≤◌}
+use Rattle.std.specs.Prelude.{Result, Ok, Err, Some}
 use mathlib.Core.Path.{◌≡◌, refl}
 use mathlib.Core.Bool.{Bool}
 use mathlib.Core.List.{List}
@@ -10,7 +11,6 @@ use Rattle.word.specs.declared.Area.{Area}
 use Rattle.word.specs.declared.Fault.{Fault}
 use Rattle.word.specs.declared.Half.{Half}
 use Rattle.word.specs.declared.Half.TheVariants.{Left, Right}
-use Rattle.word.specs.declared.Side.TheVariants.{In}
 use Rattle.word.specs.Fault.{fault}
 use Rattle.word.specs.declared.Reference.{Reference}
 use Rattle.word.specs.declared.Relative.{Relative}
@@ -18,10 +18,6 @@ use Rattle.word.specs.Sorts.{absolute_of}
 use Rattle.word.specs.Word.{part, is_set, field_of, a_field}
 use Rattle.word.proofs.Cases.{both}
 use Rattle.lists.specs.declared.Table.{Table}
-use Rattle.field.specs.declared.Becomes.{Becomes}
-use Rattle.field.specs.declared.Becomes.TheVariants.{Value, Bad}
-use Rattle.field.specs.declared.Changed.{Changed}
-use Rattle.field.specs.declared.Changed.TheVariants.{Word, Refused}
 use Rattle.field.specs.Field.{Assignments, relative, reference, address_or_length, table, valued, plus_or_minus, moved_field, referred}
 use Rattle.field.specs.Field.{pair, minus_zero, short, long, constant, switch, unit, becomes, changed_lowest, changed_width, put_back}
 use Rattle.field.specs.Field.{field_change, told_in, field_step}
@@ -35,9 +31,9 @@ pub record OfField (f : Fault) : Type 0 where
   pub number : Among 19 21 f
   pub word : f.word ≡ 0
 
-abbrev IsOfField : Becomes → Type 0
-IsOfField (Value v) = Unit {0}
-IsOfField (Bad f) = OfField f
+abbrev IsOfField : Result ℕ Fault → Type 0
+IsOfField (Ok v) = Unit {0}
+IsOfField (Err f) = OfField f
 
 is_19 : OfField (fault 19)
 is_19 = record { number = (omega arith, omega arith); word = refl }
@@ -112,17 +108,17 @@ becomes-fault a h t w x =
 pub record OfHalf (h : Half) (p : ℕ) (f : Fault) : Type 0 where
   pub number : Among 19 21 f
   pub word : f.word ≡ 0
-  pub told : f.half ≡ In h
+  pub told : f.half ≡ Some h
   pub bit : f.bit ≡ p
 
-abbrev pub IsOfHalf : Half → ℕ → Changed → Type 0
-IsOfHalf h p (Word v) = Unit {0}
-IsOfHalf h p (Refused f) = OfHalf h p f
+abbrev pub IsOfHalf : Half → ℕ → Result ℕ Fault → Type 0
+IsOfHalf h p (Ok v) = Unit {0}
+IsOfHalf h p (Err f) = OfHalf h p f
 
-put-fault : (k n w : ℕ) (b : Becomes) → IsOfField b → (h : Half) (p : ℕ) → IsOfHalf h p (told_in h p (put_back k n w b))
+put-fault : (k n w : ℕ) (b : Result ℕ Fault) → IsOfField b → (h : Half) (p : ℕ) → IsOfHalf h p (told_in h p (put_back k n w b))
 unfolding put_back
-put-fault k n w (Value v) o h p = tt
-put-fault k n w (Bad f) o h p = record { number = o.number; word = o.word; told = refl; bit = refl }
+put-fault k n w (Ok v) o h p = tt
+put-fault k n w (Err f) o h p = record { number = o.number; word = o.word; told = refl; bit = refl }
 
 pub field_fault : (a : Assignments) (h : Half) (p t w x : ℕ) → IsOfHalf h p (field_step a h p t w x)
 unfolding field_step field_change

@@ -1,4 +1,5 @@
 -- The loop that finds the first refusal: each word before it is fine, so what is left tells it.
+use Rattle.std.specs.Prelude.{Result, Ok, Err}
 use mathlib.Core.Path.{◌≡◌, refl, sym, ◌∙◌}
 use mathlib.Core.List.{List}
 use Prim.Native.Nat.{ℕ, ◌+◌, ◌-◌, ◌≤◌, ◌<◌, ◌^◌}
@@ -13,8 +14,6 @@ use Rattle.word.proofs.Lists.{length-range, range_turn, range_end}
 use Rattle.word.proofs.PassedUp.{further_twice, further-none}
 use Rattle.word.proofs.Says.{every-at}
 use Rattle.lists.specs.declared.Given.{Given}
-use Rattle.field.specs.declared.Changed.{Changed}
-use Rattle.field.specs.declared.Changed.TheVariants.{Word, Refused as RefusedWord}
 use Rattle.field.specs.Field.{Assignments}
 use Rattle.indicator.specs.Indicator.{after_word}
 use Rattle.indicator.specs.declared.Cursor.{Cursor}
@@ -38,7 +37,7 @@ from_first (Become vs) = refl
 from_first (Refuse f) = further-none f
 
 -- a word that is fine leaves the refusal to the words after it
-then_later : (k v : ℕ) (r : Words) → fault_from k (then_words (Word v) r) ≡ fault_from (k + 1) r
+then_later : (k v : ℕ) (r : Words) → fault_from k (then_words (Ok v) r) ≡ fault_from (k + 1) r
 then_later k v (Become vs) = refl
 then_later k v (Refuse f) = further_twice k 1 f
 
@@ -123,19 +122,19 @@ module _ (a : Assignments) (words : List ℕ) (n : ℕ) where
       unfolding changed_words
       turned = rw (range_turn words k n h ready.program)
 
-      module _ (r : Changed) (i : r ≡ word_of a at (get_or words k 0) full) where
+      module _ (r : Result ℕ Fault) (i : r ≡ word_of a at (get_or words k 0) full) where
         step : word_step a (group_bits words n) at (get_or words k 0) ≡ r
         step = sym (word_of_lem a words n ready.program full at (get_or words k 0) sees) ∙ sym i
 
         -- it is told of the one word
-        pub look_word : (f : Fault) → r ≡ RefusedWord f → f.word < 1
+        pub look_word : (f : Fault) → r ≡ Err f → f.word < 1
         look_word f q =
             omega (arith, (rw (step ∙ q) at (word_fault a (group_bits words n) at (get_or words k 0))).in_half_lem.word)
 
-        pub look_stops : (f : Fault) → r ≡ RefusedWord f → further k f ≡ first_fault a words n
+        pub look_stops : (f : Fault) → r ≡ Err f → further k f ≡ first_fault a words n
         look_stops f q = sym (turned ∙ rw (step ∙ q)) ∙ t.same
 
-        pub look_on : (v : ℕ) → r ≡ Word v → Looks (past_word full (get_or words k 0)) (k + 1)
+        pub look_on : (v : ℕ) → r ≡ Ok v → Looks (past_word full (get_or words k 0)) (k + 1)
         look_on v q =
             let w = get_or words k 0 in
             let s = word_sees words n ready.program full at w sees in

@@ -1,6 +1,7 @@
 -- What a group does, whatever it answers: the core keeps its length, nothing but the group's own words changes, what is stored is
 -- a word, and the later group stands.
-use mathlib.Core.Path.{◌≡◌, refl, sym, ◌∙◌}
+use Rattle.std.specs.Prelude.{Result, Ok, Err}
+use mathlib.Core.Path.{◌≡◌, refl, sym, ap, ◌∙◌}
 use mathlib.Core.Bool.{Bool, true, ◌&&◌}
 use mathlib.Core.List.{List}
 use mathlib.Core.Logic.{⊎_elim, inl, inr}
@@ -19,14 +20,12 @@ use Rattle.word.proofs.Cases.{and_left, and_right, when}
 use Rattle.word.proofs.Lists.{length-range, length-range_most, length-splice, get_d_splice_in}
 use Rattle.word.proofs.Stretch.{Beside, length-cleared, get_d_splice_beside, get_d_cleared_beside, every-range}
 use Rattle.program.specs.declared.Group.{Group}
-use Rattle.program.specs.declared.GroupRead.{GroupRead}
-use Rattle.program.specs.declared.GroupRead.TheVariants.{Good, Bad}
+use Rattle.std.specs.Prelude.{Result, Ok, Err}
 use Rattle.program.specs.Groups.{group_of}
 use Rattle.field.specs.Field.{Assignments}
-use Rattle.group.specs.declared.GroupStep.{GroupStep}
-use Rattle.group.specs.declared.GroupStep.TheVariants.{Done, Refused}
+use Rattle.group.specs.declared.GroupEnd.{GroupEnd}
 use Rattle.group.specs.declared.Section.{Section}
-use Rattle.group.specs.Group.{Words, changed_words, program_words, indicator_bits_in, in_one_block, holds_program, words_lie}
+use Rattle.group.specs.Group.{ended, Words, changed_words, program_words, indicator_bits_in, in_one_block, holds_program, words_lie}
 use Rattle.group.specs.Group.{indicators_fit, group_fits, GroupOutcome, GroupMeets, address_of, refused_group, stored_group}
 use Rattle.group.specs.Group.{group_outcome, read_outcome, group_step, InArea}
 use Rattle.group.specs.Group.Words.{Become, Refuse}
@@ -34,8 +33,12 @@ use Rattle.group.proofs.Stored.{StoredWords, stored-none, stored-splice, stored-
 use Rattle.group.proofs.Places.{Lies, words_lie_lem}
 use Rattle.group.proofs.Words.{changed-many, changed_below}
 
+-- two ends that are told alike are one
+ended_same : {e d : GroupEnd} → ◌≡◌ {A = Result GroupEnd Fault} (Ok e) (Ok d) → d ≡ e
+ended_same q = cc
+
 -- two outcomes that meet the contract are equal
-pub one_outcome : (o : GroupOutcome) (r r' : GroupStep) (core core' : List ℕ) → GroupMeets o r core → GroupMeets o r' core'
+pub one_outcome : (o : GroupOutcome) (r r' : Result GroupEnd Fault) (core core' : List ℕ) → GroupMeets o r core → GroupMeets o r' core'
     → (r ≡ r') × (core ≡ core')
 one_outcome o r r' core core' p q = (p.told ∙ sym q.told, p.left ∙ sym q.left)
 
@@ -59,7 +62,7 @@ group_fits_lem section block i g q =
 -- ---- the group at place i
 -- it is g, and its words go to the address `to`
 pub record Goes (a : Assignments) (section : Section) (block : List ℕ) (i : ℕ) (g : Group) (to : Absolute) : Type 0 where
-  pub read : group_of (get_or block i 0) ≡ Good g
+  pub read : group_of (get_or block i 0) ≡ Ok g
   pub lies : words_lie section g ≡ true
   pub address : address_of a.area section g ≡ to
 
@@ -69,18 +72,18 @@ Gives a block i g vs = changed_words a (indicator_bits_in block i g) 0 (program_
 
 -- the three outcomes
 abbrev pub untouched : List ℕ → Fault → GroupOutcome
-untouched core f = record { answer = Refused f; core = core }
+untouched core f = record { answer = Err f; core = core }
 
 abbrev pub zeroed : Group → Absolute → List ℕ → Fault → GroupOutcome
-zeroed g to core f = record { answer = Refused f; core = cleared core to.0 g.program }
+zeroed g to core f = record { answer = Err f; core = cleared core to.0 g.program }
 
 abbrev pub stored : ℕ → Group → Absolute → List ℕ → List ℕ → GroupOutcome
-stored i g to core vs = record { answer = Done (i + 1 + g.words) g.last; core = splice core to.0 vs }
+stored i g to core vs = record { answer = ended (i + 1 + g.words) g.last; core = splice core to.0 vs }
 
 -- the next identifier is due at place p
 pub record GroupEnded (block : List ℕ) (i p : ℕ) (last : Bool) : Type 0 where
   pub group : Group
-  pub read : group_of (get_or block i 0) ≡ Good group
+  pub read : group_of (get_or block i 0) ≡ Ok group
   pub place : p ≡ i + 1 + group.words
   pub flag : last ≡ group.last
   pub most : p ≤ 255
@@ -92,14 +95,14 @@ module _ (a : Assignments) (section : Section) (block : List ℕ) (i : ℕ) wher
       (zeros : (g : Group) (to : Absolute) (f : Fault) → Goes a section block i g to → P (zeroed g to core f))
       (all : (g : Group) (to : Absolute) (vs : List ℕ) → Goes a section block i g to → Fit section i g → Gives a block i g vs
       → P (stored i g to core vs)) where
-    by_place : (g : Group) (f : Fault) → group_of (get_or block i 0) ≡ Good g → P (refused_group a.area section g core f)
+    by_place : (g : Group) (f : Fault) → group_of (get_or block i 0) ≡ Ok g → P (refused_group a.area section g core f)
     unfolding refused_group
     by_place g f e =
         when (λ (l : List ℕ). P (untouched l f)) (words_lie section g)
         (λ q. zeros g (address_of a.area section g) f (record { read = e; lies = q; address = refl }))
         (λ q. none f)
 
-    by_words : (g : Group) → group_of (get_or block i 0) ≡ Good g → Fit section i g → (r : Words)
+    by_words : (g : Group) → group_of (get_or block i 0) ≡ Ok g → Fit section i g → (r : Words)
         → changed_words a (indicator_bits_in block i g) 0 (program_words block i g) ≡ r
         → P (stored_group a.area section i g core r)
     unfolding stored_group
@@ -107,28 +110,28 @@ module _ (a : Assignments) (section : Section) (block : List ℕ) (i : ℕ) wher
         (record { read = e; lies = h.lies; address = refl }) h q
     by_words g e h (Refuse f) q = by_place g (further 1 f) e
 
-    by_read : (x : GroupRead) → group_of (get_or block i 0) ≡ x → P (read_outcome a section block i core x)
+    by_read : (x : Result Group Fault) → group_of (get_or block i 0) ≡ x → P (read_outcome a section block i core x)
     unfolding read_outcome group_outcome
-    by_read (Good g) e =
+    by_read (Ok g) e =
         when P (group_fits section block i g)
         (λ q. by_words g e (group_fits_lem section block i g q)
         (changed_words a (indicator_bits_in block i g) 0 (program_words block i g)) refl)
         (λ q. by_place g (fault 18) e)
-    by_read (Bad f) e = none f
+    by_read (Err f) e = none f
 
     pub group_outcomes : P (group_step a section block i core)
     unfolding group_step
     group_outcomes = by_read (group_of (get_or block i 0)) refl
 
-  -- where it answers `Done`, the next identifier is due behind it, at word 255 at the latest
-  pub group_done : (core : List ℕ) (p : ℕ) (last : Bool) → (group_step a section block i core).answer ≡ Done p last
+  -- where it answers `ended`, the next identifier is due behind it, at word 255 at the latest
+  pub group_done : (core : List ℕ) (p : ℕ) (last : Bool) → (group_step a section block i core).answer ≡ ended p last
       → GroupEnded block i p last
-  group_done core p last = group_outcomes core (λ (o : GroupOutcome). o.answer ≡ Done p last → GroupEnded block i p last)
+  group_done core p last = group_outcomes core (λ (o : GroupOutcome). o.answer ≡ ended p last → GroupEnded block i p last)
       (λ f q. let z : ◌≡◌ {A = ℕ} 0 1 = cc in absurd (omega arith))
       (λ g to f h q. let z : ◌≡◌ {A = ℕ} 0 1 = cc in absurd (omega arith))
       (λ g to vs h t e q.
-      let x : p ≡ i + 1 + g.words = cc in
-      let y : last ≡ g.last = cc in
+      let x : p ≡ i + 1 + g.words = ap (λ (e : GroupEnd). e.past) (ended_same q) in
+      let y : last ≡ g.last = ap (λ (e : GroupEnd). e.last) (ended_same q) in
       record { group = g; read = h.read; place = x; flag = y; most = omega (arith, t.whole); after = omega arith })
 
   -- it is one group, with one address
@@ -138,7 +141,7 @@ module _ (a : Assignments) (section : Section) (block : List ℕ) (i : ℕ) wher
       let x : g ≡ g' = good (group_of (get_or block i 0)) h.read h'.read in
       (x, sym (rw x at h.address) ∙ h'.address)
     where
-      good : (r : GroupRead) → r ≡ Good g → r ≡ Good g' → g ≡ g'
+      good : (r : Result Group Fault) → r ≡ Ok g → r ≡ Ok g' → g ≡ g'
       good r p q = cc
 
   -- ---- of any group in an area that lies in the core
@@ -186,12 +189,12 @@ module _ (a : Assignments) (section : Section) (block : List ℕ) (i : ℕ) wher
         (rw e at (changed_below a (indicator_bits_in block i g) 0 (program_words block i g)
         (every-range is_word block (i + 1) g.program w))))
 
-    -- where it answers `Done`, each of its words stands in the core, whatever stood there
-    pub group_stored : length block ≡ words_in_block → (p : ℕ) (last : Bool) → (group_step a section block i core).answer ≡ Done p last
+    -- where it answers `ended`, each of its words stands in the core, whatever stood there
+    pub group_stored : length block ≡ words_in_block → (p : ℕ) (last : Bool) → (group_step a section block i core).answer ≡ ended p last
         → (g : Group) (to : Absolute) (vs : List ℕ) → Goes a section block i g to → Gives a block i g vs
         → (k : ℕ) → k < g.program → get_or (group_step a section block i core).core (to.0 + k) 0 ≡ get_or vs k 0
     group_stored long p last q g to vs h e k b =
-        group_outcomes core (λ (o : GroupOutcome). o.answer ≡ Done p last → get_or o.core (to.0 + k) 0 ≡ get_or vs k 0)
+        group_outcomes core (λ (o : GroupOutcome). o.answer ≡ ended p last → get_or o.core (to.0 + k) 0 ≡ get_or vs k 0)
         (λ f r. let z : ◌≡◌ {A = ℕ} 0 1 = cc in absurd (omega arith))
         (λ g' to' f h' r. let z : ◌≡◌ {A = ℕ} 0 1 = cc in absurd (omega arith))
         (λ g' to' vs' h' t e' r.
@@ -213,7 +216,7 @@ module _ (a : Assignments) (section : Section) (block : List ℕ) (i : ℕ) wher
 pub later_stands : (a : Assignments) (section : Section) (block : List ℕ) (i : ℕ) (core : List ℕ) → InArea a.area section
     → a.area.at.0 + a.area.size ≤ length core
     → (section' : Section) (block' : List ℕ) (j : ℕ) → InArea a.area section' → length block' ≡ words_in_block
-    → (p : ℕ) (last : Bool) → (group_step a section' block' j (group_step a section block i core).core).answer ≡ Done p last
+    → (p : ℕ) (last : Bool) → (group_step a section' block' j (group_step a section block i core).core).answer ≡ ended p last
     → (g : Group) (to : Absolute) (vs : List ℕ) → Goes a section' block' j g to → Gives a block' j g vs
     → (k : ℕ) → k < g.program
     → get_or (group_step a section' block' j (group_step a section block i core).core).core (to.0 + k) 0 ≡ get_or vs k 0

@@ -1,5 +1,6 @@
 -- The loop over a group's program words, which are changed and stored into the core: what is left to do after some steps is what
 -- there was to do.
+use Rattle.std.specs.Prelude.{Result, Ok, Err, Option, Some, None}
 use mathlib.Core.Path.{◌≡◌, refl, sym, ap, ◌∙◌}
 use mathlib.Core.Logic.{inl, inr, ⊎_elim}
 use mathlib.Core.List.{List, [], ◌∷◌}
@@ -10,14 +11,13 @@ use lib.Dec.{eqb}
 use lib.ListN.{length, get_or, set, length-set}
 use lib.Seq.{take-length}
 use borrow.Author.Tests.{eq-eqb, eqb-true}
+use Rattle.word.specs.declared.Fault.{Fault}
 use Rattle.word.specs.Lists.{every, range, splice}
 use Rattle.word.specs.Word.{is_word}
 use Rattle.word.proofs.Cases.{by-test}
 use Rattle.word.proofs.Lists.{length-range, length-splice, range_turn, range_end, splice-whole}
 use Rattle.word.proofs.PassedUp.{further_twice, further-none}
 use Rattle.word.proofs.Stretch.{splice-none, splice-first}
-use Rattle.field.specs.declared.Changed.{Changed}
-use Rattle.field.specs.declared.Changed.TheVariants.{Word, Refused as RefusedWord}
 use Rattle.field.specs.Field.{Assignments}
 use Rattle.indicator.specs.Indicator.{indicator_at, after_field, after_word, after_all}
 use Rattle.indicator.specs.declared.Cursor.{Cursor}
@@ -26,31 +26,27 @@ use Rattle.indicator.proofs.Places.{after_word_most}
 use Rattle.indicator.proofs.Reading.{start_sees, sees_place, sees_fewer, word_sees, refill_sees}
 use Rattle.indicator.proofs.Reading.{plain_bits, plain_sees, plain_words_lem}
 use Rattle.indicator.proofs.Turns.{after-zeros, after-all_plain}
-use Rattle.group.specs.declared.changes.GroupChange.TheVariants.{Bits, Stop as stop-group}
-use Rattle.group.specs.declared.changes.NextWord.{NextWord}
-use Rattle.group.specs.declared.changes.NextWord.TheVariants.{At, Stop as stop-words}
-use Rattle.group.specs.declared.halves.WordChange.{WordChange}
-use Rattle.group.specs.declared.halves.WordChange.TheVariants.{Next, Stop}
+use Rattle.group.specs.declared.changes.Progress.{Progress}
 use Rattle.group.specs.Group.{half_step, word_step, Words, then_words, changed_words}
 use Rattle.group.specs.Group.Words.{Become, Refuse}
 use Rattle.group.specs.HowHalves.{onward, both_of}
 use Rattle.group.specs.HowLoop.{Refuses, onto, become_from, Reached}
 use Rattle.group.specs.HowWords.{Step, Steps, stored_step, plain_step, NextSteps, unchanged_step, bits_or, Became, Changes}
-use Rattle.group.proofs.Both.{both_word, plain_both}
+use Rattle.group.proofs.Both.{some_parts, both_word, plain_both}
 use Rattle.group.proofs.Words.{Many, changed-many}
 
 -- ---- what a word's two halves gave
-onward_next : (r : Changed) (e : Cursor) (v : ℕ) (d : Cursor) → onward r (λ u. Next u e) ≡ Next v d → (r ≡ Word v) × (d ≡ e)
-onward_next (Word u) e v d q = (cc, cc)
-onward_next (RefusedWord f) e v d q = let z : ◌≡◌ {A = ℕ} 0 1 = cc in absurd (omega arith)
+onward_next : (r : Result ℕ Fault) (e : Cursor) (v : ℕ) (d : Cursor) → onward r (λ u. Some (u, e)) ≡ Some (v, d) → (r ≡ Ok v) × (d ≡ e)
+onward_next (Ok u) e v d q = let p = some_parts u v e d q in (ap Ok p.0, sym p.1)
+onward_next (Err f) e v d q = let z : ◌≡◌ {A = ℕ} 0 1 = cc in absurd (omega arith)
 
-onward_stop : (r : Changed) (e : Cursor) (rest : Words) → onward r (λ u. Next u e) ≡ Stop → Refuses (then_words r rest)
-onward_stop (Word u) e rest q = let z : ◌≡◌ {A = ℕ} 0 1 = cc in absurd (omega arith)
-onward_stop (RefusedWord x) e rest q = tt
+onward_stop : (r : Result ℕ Fault) (e : Cursor) (rest : Words) → onward r (λ u. Some (u, e)) ≡ None → Refuses (then_words r rest)
+onward_stop (Ok u) e rest q = let z : ◌≡◌ {A = ℕ} 0 1 = cc in absurd (omega arith)
+onward_stop (Err x) e rest q = tt
 
 -- ---- what the words become, onto the core's words
 onto-first : (out : List ℕ) (k v : ℕ) (r : Words) → k < length out
-    → onto out k (then_words (Word v) r) ≡ onto (set out k v) (k + 1) r
+    → onto out k (then_words (Ok v) r) ≡ onto (set out k v) (k + 1) r
 unfolding onto
 onto-first out k v (Become vs) h = ap Become (splice-first out k v vs h)
 onto-first out k v (Refuse f) h = ap Refuse (further_twice k 1 f)
@@ -66,7 +62,7 @@ onto_refuses out k (Become vs) x = x
 onto_refuses out k (Refuse f) x = tt
 
 -- a refusal is told as one, and nothing is said of the words
-pub refusal-told : (r : Words) (n : ℕ) → Refuses r → stop-group ≡ bits_or r n
+pub refusal-told : (r : Words) (n : ℕ) → Refuses r → None ≡ bits_or r n
 refusal-told (Become vs) n x = absurd x
 refusal-told (Refuse f) n x = refl
 
@@ -94,12 +90,12 @@ reach_plain p q n k r h e g = omega arith
 
 -- two 0s leave a word as it is
 plain_step_lem : (a : Assignments) (bits : List ℕ) (p w : ℕ) → get_or bits p 0 ≡ 0 → get_or bits (p + 1) 0 ≡ 0
-    → word_step a bits p w ≡ Word w
+    → word_step a bits p w ≡ Ok w
 unfolding word_step half_step after_field indicator_at
 plain_step_lem a bits p w x y = rw (eq-eqb (get_or bits p 0) 0 x, eq-eqb (get_or bits (p + 1) 0) 0 y)
 
 -- words without change, by the code's own test
-pub unchanged_next : (a : Assignments) (given : List ℕ) (c : Cursor) (k : ℕ) (out : List ℕ) (m : NextWord) (out' : List ℕ)
+pub unchanged_next : (a : Assignments) (given : List ℕ) (c : Cursor) (k : ℕ) (out : List ℕ) (m : Option Progress) (out' : List ℕ)
     → c.ahead < 4611686018427387904 → Steps (unchanged_step given c k out) m out' → NextSteps a given c k out m out'
 unfolding unchanged_step stored_step
 unchanged_next a given c k out m out' l e =
@@ -171,17 +167,17 @@ module _ (a : Assignments) (words : List ℕ) (n : ℕ) (given : List ℕ) where
   pub none_left : (out : List ℕ) (k q : ℕ) → length out ≡ length given → length given ≤ k
       → become out k q ≡ changed_words a bits 0 given
       → after_all bits q (rest k) ≡ after_all bits 0 given
-      → Changes a bits given (Bits q) out
+      → Changes a bits given (Some q) out
   unfolding changed_words after_all onto
   none_left out k q m h b d =
       let l = range_end given k (length given) h in
       let r : become out k q ≡ Become out = rw (l, splice-none out k) in
       let t : after_all bits q (rest k) ≡ q = rw l in
       let e = sym r ∙ b in
-      record { told = rw (← e) (ap Bits (sym t ∙ d)); left = rw (← e); long = m }
+      record { told = rw (← e) (ap Some (sym t ∙ d)); left = rw (← e); long = m }
 
   module _ (out : List ℕ) (c : Cursor) (k : ℕ) (w : Here out c k) where
-    pub reached_end : length given ≤ k → Changes a bits given (Bits (place c)) out
+    pub reached_end : length given ≤ k → Changes a bits given (Some (place c)) out
     reached_end h = none_left out k (place c) w.long h w.become w.ends
 
   -- a word more of the indicators, where bits are wanting
@@ -211,16 +207,16 @@ module _ (a : Assignments) (words : List ℕ) (n : ℕ) (given : List ℕ) where
     turned : rest k ≡ get_or given k 0 ∷ rest (k + 1)
     turned = range_turn given k (length given) h (omega arith)
 
-    step_is : (r : WordChange) → both_of a (get_or given k 0) c ≡ r
-        → onward (word_step a bits (place c) (get_or given k 0)) (λ v. Next v (past_word c (get_or given k 0))) ≡ r
+    step_is : (r : Option (ℕ × Cursor)) → both_of a (get_or given k 0) c ≡ r
+        → onward (word_step a bits (place c) (get_or given k 0)) (λ v. Some (v, past_word c (get_or given k 0))) ≡ r
     step_is r e = sym (both_word a words n inside c (place c) (get_or given k 0) s) ∙ e
 
     -- one word
-    pub reached_one : (v : ℕ) (d : Cursor) → both_of a (get_or given k 0) c ≡ Next v d → Here (set out k v) d (k + 1)
+    pub reached_one : (v : ℕ) (d : Cursor) → both_of a (get_or given k 0) c ≡ Some (v, d) → Here (set out k v) d (k + 1)
     unfolding changed_words after_all
     reached_one v d e =
         let x = get_or given k 0 in
-        let o = onward_next (word_step a bits (place c) x) (past_word c x) v d (step_is (Next v d) e) in
+        let o = onward_next (word_step a bits (place c) x) (past_word c x) v d (step_is (Some (v, d)) e) in
         let y = word_sees words n inside c (place c) x s in
         let q : place d ≡ after_word bits (place c) x = rw o.1
         (sees_place words n (past_word c x) (after_word bits (place c) x) 0 y) in
@@ -234,7 +230,7 @@ module _ (a : Assignments) (words : List ℕ) (n : ℕ) (given : List ℕ) where
           ends = rw q (sym (rw turned) ∙ w.ends);
         }
 
-    pub stop_one : both_of a (get_or given k 0) c ≡ Stop → Refuses (become out k (place c))
+    pub stop_one : both_of a (get_or given k 0) c ≡ None → Refuses (become out k (place c))
     unfolding changed_words
     stop_one e =
         let x = get_or given k 0 in
@@ -242,7 +238,7 @@ module _ (a : Assignments) (words : List ℕ) (n : ℕ) (given : List ℕ) where
         (onto_refuses out k
         (then_words (word_step a bits (place c) x) (changed_words a bits (after_word bits (place c) x) (rest (k + 1))))
         (onward_stop (word_step a bits (place c) x) (past_word c x) (changed_words a bits (after_word bits (place c) x) (rest (k + 1)))
-        (step_is Stop e)))
+        (step_is None e)))
 
     -- r words without change
     reached_plain : (r : ℕ) → k + r ≤ length given → c.ahead ≡ 0 → 2 * r ≤ c.left
@@ -263,42 +259,40 @@ module _ (a : Assignments) (words : List ℕ) (n : ℕ) (given : List ℕ) where
 
     -- what a step leaves is still to do, and there is less of it; or it is the refusal
     abbrev Goes : Step → Type 0
-    Goes m = (d : Cursor) (j : ℕ) → m.answer ≡ At d j → (k < j) × Here m.words d j
+    Goes m = (q : Progress) → m.answer ≡ Some q → (k < q.word) × Here m.words q.cursor q.word
 
     abbrev Stops : Step → Type 0
-    Stops m = m.answer ≡ stop-words → (m.words ≡ out) × Refuses (become out k (place c))
+    Stops m = m.answer ≡ None → (m.words ≡ out) × Refuses (become out k (place c))
 
-    one_goes : (r : WordChange) → both_of a (get_or given k 0) c ≡ r → Goes (stored_step k out r)
+    one_goes : (r : Option (ℕ × Cursor)) → both_of a (get_or given k 0) c ≡ r → Goes (stored_step k out r)
     unfolding stored_step
-    one_goes (Next v d) e = λ x j q.
-        let y : d ≡ x = cc in
-        let z : k + 1 ≡ j = cc in
-        rw (← y, ← z) (omega arith, reached_one v d e)
-    one_goes Stop e = λ x j q. let z : ◌≡◌ {A = ℕ} 0 1 = cc in absurd (omega arith)
+    one_goes (Some (v, d)) e = λ x q.
+        let y : record { cursor = d; word = k + 1 } ≡ x = cc in
+        rw (← y) (omega arith, reached_one v d e)
+    one_goes None e = λ x q. let z : ◌≡◌ {A = ℕ} 0 1 = cc in absurd (omega arith)
 
-    one_stops : (r : WordChange) → both_of a (get_or given k 0) c ≡ r → Stops (stored_step k out r)
+    one_stops : (r : Option (ℕ × Cursor)) → both_of a (get_or given k 0) c ≡ r → Stops (stored_step k out r)
     unfolding stored_step
-    one_stops (Next v d) e = λ q. let z : ◌≡◌ {A = ℕ} 0 1 = cc in absurd (omega arith)
-    one_stops Stop e = λ q. (refl, stop_one e)
+    one_stops (Some (v, d)) e = λ q. let z : ◌≡◌ {A = ℕ} 0 1 = cc in absurd (omega arith)
+    one_stops None e = λ q. (refl, stop_one e)
 
     plain_goes : c.ahead ≡ 0 → Goes (plain_step given c k out (plain_words c (length given - k)))
-    plain_goes u = λ x j q.
+    plain_goes u = λ x q.
         let r = plain_words c (length given - k) in
         let p = plain_words_lem c (length given - k) s.room (omega arith) in
-        let y : past_plain c r ≡ x = cc in
-        let z : k + r ≡ j = cc in
-        rw (← y, ← z) (omega (arith, p.0), reached_plain r (omega (arith, p.1)) u p.2)
+        let y : record { cursor = past_plain c r; word = k + r } ≡ x = cc in
+        rw (← y) (omega (arith, p.0), reached_plain r (omega (arith, p.1)) u p.2)
 
     plain_stops : (r : ℕ) → Stops (plain_step given c k out r)
     plain_stops r = λ q. let z : ◌≡◌ {A = ℕ} 0 1 = cc in absurd (omega arith)
 
-    module _ (m : NextWord) (out' : List ℕ) (e : NextSteps a given c k out m out') where
-      pub step_goes : (d : Cursor) (j : ℕ) → m ≡ At d j → (k < j) × Here out' d j
-      step_goes d j g =
-          ⊎_elim (λ t. rw t.left (one_goes (both_of a (get_or given k 0) c) refl d j (sym t.told ∙ g)))
-          (λ t. rw t.1.left (plain_goes t.0 d j (sym t.1.told ∙ g))) e
+    module _ (m : Option Progress) (out' : List ℕ) (e : NextSteps a given c k out m out') where
+      pub step_goes : (q : Progress) → m ≡ Some q → (k < q.word) × Here out' q.cursor q.word
+      step_goes q g =
+          ⊎_elim (λ t. rw t.left (one_goes (both_of a (get_or given k 0) c) refl q (sym t.told ∙ g)))
+          (λ t. rw t.1.left (plain_goes t.0 q (sym t.1.told ∙ g))) e
 
-      pub step_stops : m ≡ stop-words → (out' ≡ out) × Refuses (become out k (place c))
+      pub step_stops : m ≡ None → (out' ≡ out) × Refuses (become out k (place c))
       step_stops g =
           ⊎_elim (λ t. rw t.left (one_stops (both_of a (get_or given k 0) c) refl (sym t.told ∙ g)))
           (λ t. rw t.1.left (plain_stops (plain_words c (length given - k)) (sym t.1.told ∙ g))) e

@@ -1,15 +1,17 @@
 -- A turn of the loop over a group's program words, an indicator word more where bits are wanting and then a step; and a group
 -- without any change.
+use Rattle.std.specs.Prelude.{Option, Some, None}
 use mathlib.Core.Path.{◌≡◌, refl, sym, ap, ◌∙◌}
-use mathlib.Core.Bool.{true}
+use mathlib.Core.Bool.{Bool, true, ◌&&◌}
 use mathlib.Core.Logic.{inl}
-use mathlib.Core.List.{List}
+use mathlib.Core.List.{List, [], ◌∷◌}
 use Prim.Native.Nat.{ℕ, ◌+◌, ◌-◌, ◌*◌, ◌/◌, ◌%◌, ◌<◌, ◌≤◌, ◌^◌}
 use native.Mathlib.Nat.{zero-div}
 use native.Mathlib.Omega.{arith}
 use lib.ListN.{length, get_or, set, take, drop}
 use lib.Seq.{take-length}
 use borrow.Author.Tests.{eq-eqb, eqb-true, ltb-true}
+use Rattle.std.specs.List.{list_all}
 use Rattle.lists.specs.declared.Given.{Given}
 use Rattle.word.specs.Limits.{words_in_block}
 use Rattle.word.specs.Lists.{every, range, splice}
@@ -23,24 +25,19 @@ use Rattle.indicator.specs.HowCursor.{group_bits, endless, Sees, start_cursor, p
 use Rattle.indicator.proofs.Bits.{bits_at, bits_past}
 use Rattle.indicator.proofs.Reading.{start_sees, sees_place}
 use Rattle.indicator.proofs.Turns.{after-all_plain}
-use Rattle.group.specs.declared.changes.GroupChange.TheVariants.{Bits, Stop as stop-group}
-use Rattle.group.specs.declared.changes.NextWord.{NextWord}
-use Rattle.group.specs.declared.changes.NextWord.TheVariants.{At, Stop}
 use Rattle.group.specs.declared.changes.Progress.{Progress}
-use Rattle.group.specs.declared.halves.WordChange.{WordChange}
-use Rattle.group.specs.declared.halves.WordChange.TheVariants.{Next, Stop as stop-word}
 use Rattle.group.specs.Group.{changed_words}
 use Rattle.group.specs.HowHalves.{both_of, moved_word, HalfReady}
 use Rattle.group.specs.HowLoop.{Refuses, Reached, TurnReady, Turns}
-use Rattle.group.specs.HowWords.{program_in, Steps, stored_step, NextSteps, PassReady, Changes, ChangeReady, is_zero}
+use Rattle.group.specs.HowWords.{program_in, stands, Steps, stored_step, NextSteps, PassReady, Changes, ChangeReady, is_zero}
 use Rattle.group.proofs.Both.{moved_both}
 use Rattle.group.proofs.Loop.{reached_start, none_left, refusal-told, refusal-left, full_sees, reached-refilled, reached_one}
 use Rattle.group.proofs.Loop.{stop_one, step_goes, step_stops, plain_become}
 
 -- the program words as the code lends them
-pub lent-given : (words : List ℕ) (n : ℕ) → take (n - 0) words ≡ program_in words n
+pub lent-given : (words : List ℕ) (n : ℕ) → take n words ≡ program_in words n
 unfolding range
-lent-given words n = let e : n - 0 ≡ n = omega arith in rw e
+lent-given words n = refl
 
 -- ---- a group's words: its program words, and how many bits they have at most
 program-many : (words : List ℕ) (n : ℕ) → n ≤ length words → length (program_in words n) ≡ n
@@ -117,32 +114,32 @@ module _ (x : Given) (l : List ℕ) (a : Assignments) (words : List ℕ) (n : �
     turn_word = ltb-true (get_or words k 0) (2 ^ 36) (every-at is_word words k (omega (arith, ready.program)) ready.all)
 
     -- a step of `NextSteps`
-    module _ (m : NextWord) (out'' : List ℕ) (e : NextSteps a program c k out' m out'') where
-      pub next_goes : (d : Cursor) (j : ℕ) → m ≡ At d j → (k < j) × Reached a words n program out'' d j
+    module _ (m : Option Progress) (out'' : List ℕ) (e : NextSteps a program c k out' m out'') where
+      pub next_goes : (q : Progress) → m ≡ Some q → (k < q.word) × Reached a words n program out'' q.cursor q.word
       next_goes = step_goes a words n program ready.program out' c k w here sees m out'' e
 
-      next_stops : m ≡ Stop → (out'' ≡ out') × Refuses (changed_words a (group_bits words n) 0 program)
+      next_stops : m ≡ None → (out'' ≡ out') × Refuses (changed_words a (group_bits words n) 0 program)
       next_stops q =
           let y = step_stops a words n program ready.program out' c k w here sees m out'' e q in
           (y.0, rw w.become at y.1)
 
     -- one word of a run
-    module _ (r : WordChange) (i : r ≡ moved_word a.area (get_or words k 0) c) (q : c.ahead / 576460752303423488 ≡ 8) where
+    module _ (r : Option (ℕ × Cursor)) (i : r ≡ moved_word a.area (get_or words k 0) c) (q : c.ahead / 576460752303423488 ≡ 8) where
       both : both_of a (get_or program k 0) c ≡ r
       both = rw (program_word_lem words n k h) (moved_both a (get_or words k 0) c (eq-eqb (c.ahead / 576460752303423488) 8 q)) ∙ sym i
 
-      pub run_goes : (v : ℕ) (d : Cursor) → r ≡ Next v d → Reached a words n program (set out' k v) d (k + 1)
+      pub run_goes : (v : ℕ) (d : Cursor) → r ≡ Some (v, d) → Reached a words n program (set out' k v) d (k + 1)
       run_goes v d e = reached_one a words n program ready.program out' c k w here sees v d (both ∙ e)
 
-      pub run_stops : r ≡ stop-word → Refuses (changed_words a (group_bits words n) 0 program)
+      pub run_stops : r ≡ None → Refuses (changed_words a (group_bits words n) 0 program)
       run_stops e = rw w.become at (stop_one a words n program ready.program out' c k w here sees (both ∙ e))
 
   -- where the turn begins
-  module _ (m : NextWord) (out'' : List ℕ) (e : NextSteps a program p.cursor p.word out m out'') where
-    long_by : (r : NextWord) → m ≡ r → length out'' ≡ n
-    long_by (At d j) q =
-        (next_goes out p.cursor p.word ready.reached ready.more ready.many m out'' e d j q).1.long ∙ turn_many
-    long_by Stop q =
+  module _ (m : Option Progress) (out'' : List ℕ) (e : NextSteps a program p.cursor p.word out m out'') where
+    long_by : (r : Option Progress) → m ≡ r → length out'' ≡ n
+    long_by (Some d) q =
+        (next_goes out p.cursor p.word ready.reached ready.more ready.many m out'' e d q).1.long ∙ turn_many
+    long_by None q =
         ap length (next_stops out p.cursor p.word ready.reached ready.more ready.many m out'' e q).0
         ∙ ready.reached.long ∙ turn_many
 
@@ -175,23 +172,23 @@ module _ (x : Given) (l : List ℕ) (a : Assignments) (words : List ℕ) (n : �
   pub store_ready : (p.word < length out) × (length out < 2 ^ 64)
   store_ready = (omega (arith, out_many, ready.more), omega (arith, out_many, ready.program, ready.few))
 
-  pub one_turns : (r : WordChange) (m : NextWord) (out'' : List ℕ) → r ≡ both_of a (get_or words p.word 0) p.cursor
+  pub one_turns : (r : Option (ℕ × Cursor)) (m : Option Progress) (out'' : List ℕ) → r ≡ both_of a (get_or words p.word 0) p.cursor
       → Steps (stored_step p.word out r) m out'' → Turns a words n p m out''
   one_turns r m out'' e s = next_turns m out'' (inl (rw (program_word_lem words n p.word ready.more, ← e) s))
 
 -- a run of words ends: less is left to do, or there is a refusal
 pub run_at : (a : Assignments) (words : List ℕ) (n : ℕ) (p : Progress) (d : Cursor) (j : ℕ) (out : List ℕ) → n ≤ length words
-    → p.word < j → Reached a words n (program_in words n) out d j → Turns a words n p (At d j) out
+    → p.word < j → Reached a words n (program_in words n) out d j → Turns a words n p (stands d j) out
 run_at a words n p d j out h l w = record {
-  goes = λ e i q. let y : d ≡ e = cc in let z : j ≡ i = cc in rw (← y, ← z) (l, w);
+  goes = λ e q. let y : record { cursor = d; word = j } ≡ e = cc in rw (← y) (l, w);
   stops = λ q. let z : ◌≡◌ {A = ℕ} 0 1 = cc in absurd (omega arith);
   long = w.long ∙ program-many words n h;
 }
 
 pub run_stop : (a : Assignments) (words : List ℕ) (n : ℕ) (p : Progress) (out : List ℕ) → length out ≡ n
-    → Refuses (changed_words a (group_bits words n) 0 (program_in words n)) → Turns a words n p Stop out
+    → Refuses (changed_words a (group_bits words n) 0 (program_in words n)) → Turns a words n p None out
 run_stop a words n p out l x = record {
-  goes = λ e i q. let z : ◌≡◌ {A = ℕ} 0 1 = cc in absurd (omega arith);
+  goes = λ e q. let z : ◌≡◌ {A = ℕ} 0 1 = cc in absurd (omega arith);
   stops = λ q. x;
   long = l;
 }
@@ -200,8 +197,8 @@ pub fewer_left : (n k : ℕ) → k < n → n - (k + 1) < n - k
 fewer_left n k h = omega arith
 
 -- a turn that stops is the group's refusal
-pub turn_stops : (a : Assignments) (words : List ℕ) (n : ℕ) (p : Progress) (m : NextWord) (out : List ℕ) → n ≤ length words
-    → Turns a words n p m out → m ≡ Stop → Changes a (group_bits words n) (program_in words n) stop-group out
+pub turn_stops : (a : Assignments) (words : List ℕ) (n : ℕ) (p : Progress) (m : Option Progress) (out : List ℕ) → n ≤ length words
+    → Turns a words n p m out → m ≡ None → Changes a (group_bits words n) (program_in words n) None out
 turn_stops a words n p m out h t q = record {
   told = refusal-told (changed_words a (group_bits words n) 0 (program_in words n)) _ (t.stops q);
   left = refusal-left out (changed_words a (group_bits words n) 0 (program_in words n)) (t.stops q);
@@ -209,6 +206,13 @@ turn_stops a words n p m out h t q = record {
 }
 
 -- ---- where no indicator word has a 1, no bit is one
+
+-- the library's word for a test of every element
+pub every_list_all : (f : ℕ → Bool) (l : List ℕ) → list_all f l ≡ every f l
+unfolding every
+every_list_all f [] = refl
+every_list_all f (x ∷ xs) = ap (λ (b : Bool). f x && b) (every_list_all f xs)
+
 lent-zero : (ws : List ℕ) (m : ℕ) → every is_zero (take (length ws - m) (drop m ws)) ≡ true
     → every is_zero (range ws m (length ws - m)) ≡ true
 unfolding range
@@ -236,7 +240,7 @@ splice_all given n m out k = rw (← m, take-length given) (splice-whole out giv
 pub no_change : (x : Given) (l words : List ℕ) (n : ℕ) (out₀ : List ℕ) (ready : ChangeReady x l words n out₀) (a : Assignments)
     (out : List ℕ) → out ≡ program_in words n
     → every is_zero (take (length words - n) (drop n words)) ≡ true
-    → Changes a (group_bits words n) (program_in words n) (Bits (2 * n)) out
+    → Changes a (group_bits words n) (program_in words n) (Some (2 * n)) out
 no_change x l words n out₀ ready a out e z =
     let bits = group_bits words n in
     let given = program_in words n in

@@ -13,8 +13,8 @@ use Rattle.word.proofs.Says.{says_within}
 use Rattle.word.proofs.Word.{part_below}
 use Rattle.program.specs.declared.Bank.{Bank}
 use Rattle.program.specs.declared.Group.{Group}
-use Rattle.program.specs.declared.GroupRead.{GroupRead}
-use Rattle.program.specs.declared.GroupRead.TheVariants.{Good, Bad}
+use Rattle.std.specs.Prelude.{Result, Ok, Err}
+use Rattle.word.specs.declared.Fault.{Fault}
 use Rattle.program.specs.Groups.{group_of}
 use Rattle.group.specs.declared.Section.{Section}
 use Rattle.group.specs.declared.Section.TheVariants.{Segment as InSegment, Table as InTable}
@@ -46,9 +46,9 @@ words_lie_lem area (InTable t count) g r q =
     record { low = omega (arith, r.0); high = omega (arith, f, r.1, r.2) }
 
 -- a group that was read has numbers of as many bits as its identifier has for them
-abbrev SizedRead : GroupRead → Type 0
-SizedRead (Good g) = Sized g
-SizedRead (Bad f) = Unit {0}
+abbrev SizedRead : Result Group Fault → Type 0
+SizedRead (Ok g) = Sized g
+SizedRead (Err f) = Unit {0}
 
 read_sized : (w : ℕ) → SizedRead (group_of w)
 unfolding group_of
@@ -58,5 +58,5 @@ read_sized w =
     (λ z. record { words = part_below 26 8 w; program = part_below 18 8 w; at = part_below 0 16 w }))
     (λ q. tt)
 
-pub group_sized : (w : ℕ) (g : Group) → group_of w ≡ Good g → Sized g
+pub group_sized : (w : ℕ) (g : Group) → group_of w ≡ Ok g → Sized g
 group_sized w g e = rw e at (read_sized w)

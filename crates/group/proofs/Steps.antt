@@ -1,4 +1,5 @@
 -- Each test of a group, as the code makes it, gives the outcome that the definition says.
+use Rattle.std.specs.Prelude.{Result, Err, Option, Some, None}
 use mathlib.Core.Path.{◌≡◌, refl, sym, ap, ◌∙◌}
 use mathlib.Core.Bool.{Bool, true, false}
 use mathlib.Core.List.{List, [], ◌∷◌, ◌++◌}
@@ -22,12 +23,9 @@ use Rattle.field.specs.Field.{Assignments}
 use Rattle.indicator.specs.Indicator.{indicator_bits, bits_before, after_word, after_all, just_enough}
 use Rattle.indicator.specs.HowCursor.{group_bits}
 use Rattle.indicator.proofs.Places.{after_word_most}
-use Rattle.group.specs.declared.changes.GroupChange.{GroupChange}
-use Rattle.group.specs.declared.changes.GroupChange.TheVariants.{Bits, Stop as stop-group}
-use Rattle.group.specs.declared.GroupStep.{GroupStep}
-use Rattle.group.specs.declared.GroupStep.TheVariants.{Done, Refused}
+use Rattle.group.specs.declared.GroupEnd.{GroupEnd}
 use Rattle.group.specs.declared.Section.{Section}
-use Rattle.group.specs.Group.{Words, changed_words, program_words, indicator_bits_in, in_one_block, holds_program, words_lie}
+use Rattle.group.specs.Group.{ended, Words, changed_words, program_words, indicator_bits_in, in_one_block, holds_program, words_lie}
 use Rattle.group.specs.Group.{indicators_fit, group_fits, GroupMeets, address_of, refused_group, stored_group, group_outcome}
 use Rattle.group.specs.Group.Words.{Become, Refuse}
 use Rattle.group.specs.HowGroup.{Fills, zero_fill, changed_fill, counted_fill, fill_of, FillReady, Fitting}
@@ -116,29 +114,29 @@ module _ (x : Given) (l block : List ℕ) (i : ℕ) (g : Group) (out : List ℕ)
     abbrev ends : ℕ
     ends = after_all (indicator_bits_in block i g) 0 (program_words block i g)
 
-    filled-bits : (r : Words) (b : ℕ) → Bits b ≡ bits_or r ends → (out' : List ℕ) → Became out' r
-        → (b ≡ ends) × Fills (changed_fill i g r) (Done (i + 1 + g.words) g.last) out'
+    filled-bits : (r : Words) (b : ℕ) → Some b ≡ bits_or r ends → (out' : List ℕ) → Became out' r
+        → (b ≡ ends) × Fills (changed_fill i g r) (ended (i + 1 + g.words) g.last) out'
     filled-bits (Become vs) b q out' e = (cc, record { told = refl; left = e })
     filled-bits (Refuse f) b q out' e = let z : ◌≡◌ {A = ℕ} 0 1 = cc in absurd (omega arith)
 
-    filled_stop : (r : Words) → stop-group ≡ bits_or r ends → changed_fill i g r ≡ zero_fill g.program (further 1 (fault_or r))
+    filled_stop : (r : Words) → None ≡ bits_or r ends → changed_fill i g r ≡ zero_fill g.program (further 1 (fault_or r))
     filled_stop (Become vs) q = let z : ◌≡◌ {A = ℕ} 0 1 = cc in absurd (omega arith)
     filled_stop (Refuse x) q = refl
 
-    module _ (r : GroupChange) (out' : List ℕ)
+    module _ (r : Option ℕ) (out' : List ℕ)
         (run : Changes a (group_bits lent g.program) (program_in lent g.program) r out') where
       changed : Changes a (indicator_bits_in block i g) (program_words block i g) r out'
       changed = rw (lent-bits, lent-program) at run
 
-      bits-told : (b : ℕ) → r ≡ Bits b → (b ≡ ends) × Fills (changed_fill i g gives) (Done (i + 1 + g.words) g.last) out'
+      bits-told : (b : ℕ) → r ≡ Some b → (b ≡ ends) × Fills (changed_fill i g gives) (ended (i + 1 + g.words) g.last) out'
       bits-told b e = filled-bits gives b (sym e ∙ changed.told) out' changed.left
 
-      pub bits_most : (b : ℕ) → r ≡ Bits b → b ≤ 26 * g.program
+      pub bits_most : (b : ℕ) → r ≡ Some b → b ≤ 26 * g.program
       bits_most b e = let s = bits-told b e in omega
           (arith, s.0, after-all_most (indicator_bits_in block i g) 0 (program_words block i g), many)
 
-      pub counted_done : (b : ℕ) → r ≡ Bits b → (q : Bool) → q ≡ just_enough b (g.words - g.program) → q ≡ true
-          → Fills (counted_fill a block i g) (Done (i + 1 + g.words) g.last) out'
+      pub counted_done : (b : ℕ) → r ≡ Some b → (q : Bool) → q ≡ just_enough b (g.words - g.program) → q ≡ true
+          → Fills (counted_fill a block i g) (ended (i + 1 + g.words) g.last) out'
       unfolding counted_fill indicators_fit
       counted_done b e q j t = let s = bits-told b e in rw (← s.0, sym j ∙ t) s.1
 
@@ -146,14 +144,14 @@ module _ (x : Given) (l block : List ℕ) (i : ℕ) (g : Group) (out : List ℕ)
       pub long_out : length out' ≡ g.program
       long_out = changed.long ∙ many
 
-      pub counted_wrong : (b : ℕ) → r ≡ Bits b → (q : Bool) → q ≡ just_enough b (g.words - g.program) → q ≡ false
-          → (x : GroupStep) (out'' : List ℕ) → Fills (zero_fill (length out') (fault 18)) x out''
+      pub counted_wrong : (b : ℕ) → r ≡ Some b → (q : Bool) → q ≡ just_enough b (g.words - g.program) → q ≡ false
+          → (x : Result GroupEnd Fault) (out'' : List ℕ) → Fills (zero_fill (length out') (fault 18)) x out''
           → Fills (counted_fill a block i g) x out''
       unfolding counted_fill indicators_fit
       counted_wrong b e q j t x out'' z = let s = bits-told b e in rw (← s.0, sym j ∙ t) (rw long_out at z)
 
       -- a field is refused: the count, and then the first refusal
-      pub counted_stop : r ≡ stop-group → (f : Fault) → f ≡ group_fault a lent g.program → (x : GroupStep) (out'' : List ℕ)
+      pub counted_stop : r ≡ None → (f : Fault) → f ≡ group_fault a lent g.program → (x : Result GroupEnd Fault) (out'' : List ℕ)
           → Fills (zero_fill (length out') f) x out'' → Fills (counted_fill a block i g) x out''
       unfolding counted_fill indicators_fit group_fault first_fault
       counted_stop e f q x out'' z =
@@ -169,7 +167,7 @@ module _ (a : Assignments) (section : Section) (block : List ℕ) (i : ℕ) (g :
 
   -- the tests that are left where the words lie where they must
   zero-stored : (f : Fault) → words_lie section g ≡ true
-      → GroupMeets (refused_group a.area section g core f) (Refused f) (splice core to (replicate g.program 0))
+      → GroupMeets (refused_group a.area section g core f) (Err f) (splice core to (replicate g.program 0))
   unfolding refused_group cleared
   zero-stored f q = rw q (record { told = refl; left = refl })
 
@@ -194,7 +192,7 @@ module _ (a : Assignments) (section : Section) (block : List ℕ) (i : ℕ) (g :
       (λ y. rw (x, y) (zero-stored (fault 18) q)))
       (λ x. rw x (zero-stored (fault 18) q)))
 
-  pub outcome_outside : words_lie section g ≡ false → GroupMeets (group_outcome a section block i g core) (Refused (fault 18)) core
+  pub outcome_outside : words_lie section g ≡ false → GroupMeets (group_outcome a section block i g core) (Err (fault 18)) core
   unfolding group_outcome group_fits refused_group
   outcome_outside q =
       rw q
@@ -225,7 +223,7 @@ module _ (a : Assignments) (section : Section) (block : List ℕ) (i : ℕ) (g :
 
   -- the words that were lent come back filled
   pub outcome_filled : length block ≡ words_in_block → to + g.program ≤ length core → words_lie section g ≡ true → (t : ℕ) → t ≡ to
-      → (r : GroupStep) (out : List ℕ) → Fills (fill_of a block i g) r out
+      → (r : Result GroupEnd Fault) (out : List ℕ) → Fills (fill_of a block i g) r out
       → GroupMeets (group_outcome a section block i g core) r (take t core ++ (out ++ drop (t + g.program - t) (drop t core)))
   outcome_filled long h q t e r out m =
       let o = fill_is q in

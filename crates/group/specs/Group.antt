@@ -1,6 +1,6 @@
 -- One group of a program block (01, "Program blocks", from "Group: bits 35-34 are 10" on): what its program words become, where
 -- they go, and what the core holds afterwards. The word of a fault is counted from the group's identifier.
-use Rattle.std.specs.Prelude.{ℕ, ◌+◌, ◌-◌, ◌≤◌, ◌≡◌, Bool, true, cond, not, ◌&&◌, List, [], ◌∷◌, length, get_or, leb}
+use Rattle.std.specs.Prelude.{ℕ, ◌+◌, ◌-◌, ◌≤◌, ◌≡◌, Bool, true, cond, not, ◌&&◌, List, [], ◌∷◌, length, get_or, leb, Result, Ok, Err}
 use Rattle.program.specs.Sections.{last_word}
 use Rattle.word.specs.Limits.{core_most, words_in_block}
 use Rattle.word.specs.declared.Absolute.{Absolute}
@@ -17,17 +17,12 @@ use Rattle.lists.specs.declared.Given.{Given}
 use Rattle.lists.specs.Load.{Readable}
 use Rattle.program.specs.declared.Bank.{Bank}
 use Rattle.program.specs.declared.Group.{Group}
-use Rattle.program.specs.declared.GroupRead.{GroupRead}
-use Rattle.program.specs.declared.GroupRead.TheVariants.{Good, Bad}
 use Rattle.program.specs.Groups.{group_of}
-use Rattle.field.specs.declared.Changed.{Changed}
-use Rattle.field.specs.declared.Changed.TheVariants.{Word, Refused as RefusedWord}
 use Rattle.field.specs.Field.{Assignments, field_step}
 use Rattle.indicator.specs.declared.Indicator.{Indicator}
 use Rattle.indicator.specs.declared.Indicator.TheVariants.{Same, Change, Long}
 use Rattle.indicator.specs.Indicator.{bits_before, indicator_at, after_field, after_word, after_all, just_enough}
-use Rattle.group.specs.declared.GroupStep.{GroupStep}
-use Rattle.group.specs.declared.GroupStep.TheVariants.{Done, Refused}
+use Rattle.group.specs.declared.GroupEnd.{GroupEnd}
 use Rattle.group.specs.declared.Section.{Section}
 use Rattle.group.specs.declared.Section.TheVariants.{Segment as InSegment, Table as InTable}
 
@@ -35,19 +30,19 @@ use Rattle.group.specs.declared.Section.TheVariants.{Segment as InSegment, Table
 
 -- a half of the word w by its indicator, which starts at place p of the bits: no change, a change by a type, or a long type 010 with
 -- its nine bits more
-unfoldable pub half_step : Assignments → Half → ℕ → Indicator → ℕ → Changed
-half_step a h p Same w = Word w
+unfoldable pub half_step : Assignments → Half → ℕ → Indicator → ℕ → Result ℕ Fault
+half_step a h p Same w = Ok w
 half_step a h p (Change t) w = field_step a h p t w 0
 half_step a h p (Long x) w = field_step a h p 2 w x
 
 -- one change and then another of what it gave; the first refusal stands
-abbrev pub then_half : Changed → (ℕ → Changed) → Changed
-then_half (Word v) next = next v
-then_half (RefusedWord f) next = RefusedWord f
+abbrev pub then_half : Result ℕ Fault → (ℕ → Result ℕ Fault) → Result ℕ Fault
+then_half (Ok v) next = next v
+then_half (Err f) next = Err f
 
 -- "Each program word has a left indicator, then a right": the word w, whose indicators start at place p of the bits. How long they
 -- are is decided by the fields of the word as it stands in the block.
-unfoldable pub word_step : Assignments → List ℕ → ℕ → ℕ → Changed
+unfoldable pub word_step : Assignments → List ℕ → ℕ → ℕ → Result ℕ Fault
 word_step a bits p w =
     then_half (half_step a Left p (indicator_at bits p (field_of Left w)) w)
     (half_step a Right (after_field bits p (field_of Left w))
@@ -61,10 +56,10 @@ pub data Words : Type 0 where
   Refuse : Fault → Words
 
 -- a word, and the words after it, which start a word further on
-abbrev pub then_words : Changed → Words → Words
-then_words (Word v) (Become vs) = Become (v ∷ vs)
-then_words (Word v) (Refuse f) = Refuse (further 1 f)
-then_words (RefusedWord f) rest = Refuse f
+abbrev pub then_words : Result ℕ Fault → Words → Words
+then_words (Ok v) (Become vs) = Become (v ∷ vs)
+then_words (Ok v) (Refuse f) = Refuse (further 1 f)
+then_words (Err f) rest = Refuse f
 
 -- each program word in turn, with the place p of its indicators
 unfoldable pub changed_words : Assignments → List ℕ → ℕ → List ℕ → Words
@@ -106,12 +101,17 @@ group_fits section block i g =
     in_one_block i g && (holds_program g && (words_lie section g && indicators_fit block i g))
 
 -- ---- the outcome: the answer, and the core afterwards
+
+-- the next identifier is due at place p, in a section of its own where the group was its section's last
+abbrev pub ended : ℕ → Bool → Result GroupEnd Fault
+ended p last = Ok (record { past = p; last = last })
+
 pub record GroupOutcome : Type 0 where
-  pub answer : GroupStep
+  pub answer : Result GroupEnd Fault
   pub core : List ℕ
 
 -- an answer and a core are those of an outcome
-pub record GroupMeets (o : GroupOutcome) (answer : GroupStep) (core : List ℕ) : Type 0 where
+pub record GroupMeets (o : GroupOutcome) (answer : Result GroupEnd Fault) (core : List ℕ) : Type 0 where
   pub told : answer ≡ o.answer
   pub left : core ≡ o.core
 
@@ -125,13 +125,13 @@ address_of area (InTable t count) g = from_table t.at g.at
 -- is read.
 unfoldable pub refused_group : Area → Section → Group → List ℕ → Fault → GroupOutcome
 refused_group area section g core f =
-    record { answer = Refused f; core = cond (words_lie section g) (cleared core (address_of area section g).0 g.program) core }
+    record { answer = Err f; core = cond (words_lie section g) (cleared core (address_of area section g).0 g.program) core }
 
 -- all fields read: the words stand in the core, and the next identifier is due after the group; or the first field's refusal, at a
 -- program word, of which the first stands behind the identifier
 unfoldable pub stored_group : Area → Section → ℕ → Group → List ℕ → Words → GroupOutcome
 stored_group area section i g core (Become vs) =
-    record { answer = Done (i + 1 + g.words) g.last; core = splice core (address_of area section g).0 vs }
+    record { answer = ended (i + 1 + g.words) g.last; core = splice core (address_of area section g).0 vs }
 stored_group area section i g core (Refuse f) = refused_group area section g core (further 1 f)
 
 -- "Otherwise 18, tested before any field of the group."
@@ -142,9 +142,9 @@ group_outcome a section block i g core =
     (refused_group a.area section g core (fault 18))
 
 -- a word that is no group where one is due: 18, and nothing is changed
-unfoldable pub read_outcome : Assignments → Section → List ℕ → ℕ → List ℕ → GroupRead → GroupOutcome
-read_outcome a section block i core (Good g) = group_outcome a section block i g core
-read_outcome a section block i core (Bad f) = record { answer = Refused f; core = core }
+unfoldable pub read_outcome : Assignments → Section → List ℕ → ℕ → List ℕ → Result Group Fault → GroupOutcome
+read_outcome a section block i core (Ok g) = group_outcome a section block i g core
+read_outcome a section block i core (Err f) = record { answer = Err f; core = core }
 
 -- the group whose identifier is due at place i of a block
 unfoldable pub group_step : Assignments → Section → List ℕ → ℕ → List ℕ → GroupOutcome

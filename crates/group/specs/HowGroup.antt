@@ -1,5 +1,5 @@
 -- A group whose words lie where they must, filled into the words of the core that it goes to: how the code goes, not a rule of 01.
-use Rattle.std.specs.Prelude.{ℕ, ◌+◌, ◌≤◌, ◌<◌, ◌^◌, ◌≡◌, true, cond, List, length, replicate}
+use Rattle.std.specs.Prelude.{ℕ, ◌+◌, ◌≤◌, ◌<◌, ◌^◌, ◌≡◌, true, cond, List, length, replicate, Result, Err}
 use Rattle.program.specs.Sections.{last_word}
 use Rattle.word.specs.Limits.{words_in_block, core_most}
 use Rattle.lists.specs.declared.Given.{Given}
@@ -12,28 +12,27 @@ use Rattle.word.specs.Word.{is_word}
 use Rattle.program.specs.declared.Group.{Group}
 use Rattle.field.specs.Field.{Assignments}
 use Rattle.group.specs.declared.Section.{Section}
-use Rattle.group.specs.declared.GroupStep.{GroupStep}
-use Rattle.group.specs.declared.GroupStep.TheVariants.{Done, Refused}
-use Rattle.group.specs.Group.{Words, changed_words, program_words, indicator_bits_in, in_one_block}
+use Rattle.group.specs.declared.GroupEnd.{GroupEnd}
+use Rattle.group.specs.Group.{ended, Words, changed_words, program_words, indicator_bits_in, in_one_block}
 use Rattle.group.specs.Group.{holds_program, indicators_fit, InArea}
 use Rattle.group.specs.Group.Words.{Become, Refuse}
 
 -- the answer, and the words of the core that the group goes to
 pub record Fill : Type 0 where
-  pub answer : GroupStep
+  pub answer : Result GroupEnd Fault
   pub words : List ℕ
 
-pub record Fills (f : Fill) (answer : GroupStep) (words : List ℕ) : Type 0 where
+pub record Fills (f : Fill) (answer : Result GroupEnd Fault) (words : List ℕ) : Type 0 where
   pub told : answer ≡ f.answer
   pub left : words ≡ f.words
 
 -- refused
 abbrev pub zero_fill : ℕ → Fault → Fill
-zero_fill n f = record { answer = Refused f; words = replicate n 0 }
+zero_fill n f = record { answer = Err f; words = replicate n 0 }
 
 -- all fields read
 abbrev pub changed_fill : ℕ → Group → Words → Fill
-changed_fill i g (Become vs) = record { answer = Done (i + 1 + g.words) g.last; words = vs }
+changed_fill i g (Become vs) = record { answer = ended (i + 1 + g.words) g.last; words = vs }
 changed_fill i g (Refuse f) = zero_fill g.program (further 1 f)
 
 unfoldable pub counted_fill : Assignments → List ℕ → ℕ → Group → Fill

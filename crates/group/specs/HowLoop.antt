@@ -1,5 +1,5 @@
 -- The loop over a group's program words: where it stands, and what a turn of it leaves; how the code goes, not a rule of 01.
-use Rattle.std.specs.Prelude.{ℕ, ◌+◌, ◌-◌, ◌*◌, ◌≤◌, ◌<◌, ◌≡◌, true, List, length}
+use Rattle.std.specs.Prelude.{ℕ, ◌+◌, ◌-◌, ◌*◌, ◌≤◌, ◌<◌, ◌≡◌, true, List, length, Option, Some, None}
 use Rattle.word.specs.Fault.{further}
 use Rattle.word.specs.Limits.{words_in_block}
 use Rattle.word.specs.Lists.{every, range, splice}
@@ -10,8 +10,6 @@ use Rattle.field.specs.Field.{Assignments}
 use Rattle.indicator.specs.declared.Cursor.{Cursor}
 use Rattle.indicator.specs.Indicator.{after_all}
 use Rattle.indicator.specs.HowCursor.{group_bits, Sees, place_of}
-use Rattle.group.specs.declared.changes.NextWord.{NextWord}
-use Rattle.group.specs.declared.changes.NextWord.TheVariants.{At, Stop}
 use Rattle.group.specs.declared.changes.Progress.{Progress}
 use Rattle.group.specs.Group.{Words, changed_words}
 use Rattle.group.specs.Group.Words.{Become, Refuse}
@@ -55,7 +53,7 @@ pub record TurnReady (g : Given) (l : List ℕ) (a : Assignments) (words : List 
   pub reached : Reached a words n (program_in words n) out p.cursor p.word
 
 -- what it leaves: less to do, or a refusal
-pub record Turns (a : Assignments) (words : List ℕ) (n : ℕ) (p : Progress) (m : NextWord) (out : List ℕ) : Type 0 where
-  pub goes : (d : Cursor) (j : ℕ) → m ≡ At d j → (p.word < j) × (Reached a words n (program_in words n) out d j)
-  pub stops : m ≡ Stop → Refuses (changed_words a (group_bits words n) 0 (program_in words n))
+pub record Turns (a : Assignments) (words : List ℕ) (n : ℕ) (p : Progress) (m : Option Progress) (out : List ℕ) : Type 0 where
+  pub goes : (q : Progress) → m ≡ Some q → (p.word < q.word) × (Reached a words n (program_in words n) out q.cursor q.word)
+  pub stops : m ≡ None → Refuses (changed_words a (group_bits words n) 0 (program_in words n))
   pub long : length out ≡ n

@@ -1,5 +1,5 @@
 -- The program words of a group, changed one after the other and stored into the core: how the code goes, not a rule of 01.
-use Rattle.std.specs.Prelude.{ℕ, ◌+◌, ◌-◌, ◌≤◌, ◌<◌, ◌≡◌, ◌⊎◌, Bool, true, cond, List, length, get_or, set, eqb}
+use Rattle.std.specs.Prelude.{ℕ, ◌+◌, ◌-◌, ◌≤◌, ◌<◌, ◌≡◌, ◌⊎◌, Bool, true, cond, List, length, get_or, set, eqb, Option, Some, None}
 use Rattle.word.specs.Limits.{core_most, words_in_block}
 use Rattle.lists.specs.declared.Given.{Given}
 use Rattle.lists.specs.Load.{Readable}
@@ -9,13 +9,8 @@ use Rattle.field.specs.Field.{Assignments}
 use Rattle.indicator.specs.declared.Cursor.{Cursor}
 use Rattle.indicator.specs.Indicator.{after_all}
 use Rattle.indicator.specs.HowCursor.{past_bits, plain_words, past_plain}
+use Rattle.group.specs.declared.changes.Progress.{Progress}
 use Rattle.group.specs.Group.{Words, changed_words}
-use Rattle.group.specs.declared.changes.GroupChange.{GroupChange}
-use Rattle.group.specs.declared.changes.GroupChange.TheVariants.{Bits, Stop as stop-group}
-use Rattle.group.specs.declared.changes.NextWord.{NextWord}
-use Rattle.group.specs.declared.changes.NextWord.TheVariants.{At, Stop as stop-words}
-use Rattle.group.specs.declared.halves.WordChange.{WordChange}
-use Rattle.group.specs.declared.halves.WordChange.TheVariants.{Next, Stop}
 use Rattle.group.specs.Group.Words.{Become, Refuse}
 use Rattle.group.specs.HowHalves.{both_of}
 
@@ -25,24 +20,28 @@ program_in words n = range words 0 n
 
 -- ---- a step of the loop: what it leads to, and the words in the core afterwards
 pub record Step : Type 0 where
-  pub answer : NextWord
+  pub answer : Option Progress
   pub words : List ℕ
 
-pub record Steps (s : Step) (answer : NextWord) (words : List ℕ) : Type 0 where
+pub record Steps (s : Step) (answer : Option Progress) (words : List ℕ) : Type 0 where
   pub told : answer ≡ s.answer
   pub left : words ≡ s.words
 
+-- the loop stands before word number k, with the cursor c
+abbrev pub stands : Cursor → ℕ → Option Progress
+stands c k = Some (record { cursor = c; word = k })
+
 -- word number k
-unfoldable pub stored_step : ℕ → List ℕ → WordChange → Step
-stored_step k out (Next v d) = record { answer = At d (k + 1); words = set out k v }
-stored_step k out Stop = record { answer = stop-words; words = out }
+unfoldable pub stored_step : ℕ → List ℕ → Option (ℕ × Cursor) → Step
+stored_step k out (Some s) = record { answer = stands s.1 (k + 1); words = set out k s.0 }
+stored_step k out None = record { answer = None; words = out }
 
 -- from word number k of the program words given on, r words without change
 abbrev pub plain_step : List ℕ → Cursor → ℕ → List ℕ → ℕ → Step
-plain_step given c k out r = record { answer = At (past_plain c r) (k + r); words = splice out k (range given k r) }
+plain_step given c k out r = record { answer = stands (past_plain c r) (k + r); words = splice out k (range given k r) }
 
 -- from word number k on: one word; or where all bits at hand are 0, as many without change as these tell
-abbrev pub NextSteps : Assignments → List ℕ → Cursor → ℕ → List ℕ → NextWord → List ℕ → Type 0
+abbrev pub NextSteps : Assignments → List ℕ → Cursor → ℕ → List ℕ → Option Progress → List ℕ → Type 0
 NextSteps a given c k out m out' =
     (Steps (stored_step k out (both_of a (get_or given k 0) c)) m out')
     ⊎ ((c.ahead ≡ 0) × (Steps (plain_step given c k out (plain_words c (length given - k))) m out'))
@@ -52,7 +51,7 @@ unfoldable pub unchanged_step : List ℕ → Cursor → ℕ → List ℕ → Ste
 unchanged_step given c k out =
     cond (eqb c.ahead 0)
     (plain_step given c k out (plain_words c (length given - k)))
-    (record { answer = At (past_bits c 2) (k + 1); words = set out k (get_or given k 0) })
+    (record { answer = stands (past_bits c 2) (k + 1); words = set out k (get_or given k 0) })
 
 -- what is known where words without change are passed
 pub record PassReady (given : List ℕ) (c : Cursor) (k : ℕ) (out : List ℕ) : Type 0 where
@@ -62,16 +61,16 @@ pub record PassReady (given : List ℕ) (c : Cursor) (k : ℕ) (out : List ℕ) 
   pub near : 26 ≤ c.left
 
 -- ---- all words: how many bits their indicators have, or that a field is refused
-abbrev pub bits_or : Words → ℕ → GroupChange
-bits_or (Become vs) n = Bits n
-bits_or (Refuse f) n = stop-group
+abbrev pub bits_or : Words → ℕ → Option ℕ
+bits_or (Become vs) n = Some n
+bits_or (Refuse f) n = None
 
 -- the words in the core are what the program words become; where a field is refused, nothing is said of them
 abbrev pub Became : List ℕ → Words → Type 0
 Became out (Become vs) = out ≡ vs
 Became out (Refuse f) = Unit {0}
 
-pub record Changes (a : Assignments) (bits given : List ℕ) (r : GroupChange) (out : List ℕ) : Type 0 where
+pub record Changes (a : Assignments) (bits given : List ℕ) (r : Option ℕ) (out : List ℕ) : Type 0 where
   pub told : r ≡ bits_or (changed_words a bits 0 given) (after_all bits 0 given)
   pub left : Became out (changed_words a bits 0 given)
   pub long : length out ≡ length given

@@ -1,13 +1,12 @@
 -- Where a fault of a block can be (02, #105): its word lies in the block; a half is told for 19 to 21 and for no other; and then
 -- the word is one of the program words of one of the block's groups, and the bit is where the half's indicator starts, among the
 -- bits of that group's indicator words. Which of these places it is, the definitions say that say which refusal it is.
-use Rattle.std.specs.Prelude.{ℕ, ◌+◌, ◌-◌, ◌*◌, ◌<◌, ◌≤◌, ◌≡◌, List, ◌⊎◌, get_or, take}
+use Rattle.std.specs.Prelude.{ℕ, ◌+◌, ◌-◌, ◌*◌, ◌<◌, ◌≤◌, ◌≡◌, List, ◌⊎◌, get_or, take, Some, None}
 use Rattle.word.specs.Limits.{words_in_block}
 use Rattle.word.specs.Word.{word_bits, field_of}
 use Rattle.word.specs.declared.Fault.{Fault}
 use Rattle.word.specs.declared.Half.{Half}
 use Rattle.word.specs.declared.Half.TheVariants.{Left, Right}
-use Rattle.word.specs.declared.Side.TheVariants.{Whole, In}
 use Rattle.program.specs.declared.Group.{Group}
 use Rattle.program.specs.Pieces.{HasGroup}
 use Rattle.indicator.specs.Indicator.{after_field, after_all}
@@ -32,11 +31,11 @@ pub record InField (block : List ℕ) (f : Fault) : Type 0 where
   pub few : number < group.program
   pub word : f.word ≡ identifier + 1 + number
   pub half : Half
-  pub told : f.half ≡ In half
+  pub told : f.half ≡ Some half
   pub place : f.bit ≡ indicator_place (indicator_bits_in block identifier group) 0 (program_words block identifier group) number half
   pub bit : f.bit < word_bits * (group.words - group.program)
 
 pub record Placed (block : List ℕ) (f : Fault) : Type 0 where
   pub inside : f.word < words_in_block
   pub field : 19 ≤ f.number → f.number ≤ 21 → InField block f
-  pub whole : (f.number < 19) ⊎ (21 < f.number) → (f.half ≡ Whole) × (f.bit ≡ 0)
+  pub whole : (f.number < 19) ⊎ (21 < f.number) → (f.half ≡ None) × (f.bit ≡ 0)

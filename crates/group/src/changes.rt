@@ -3,7 +3,7 @@
 // has a way of its own. Where a field is refused, nothing here says why (refusals.rt does), so that nothing of a fault is carried
 // through the loop.
 ghost use Rattle.std.specs.Prelude.{◌≡◌, ◌/◌, ◌<◌, ◌^◌, length};
-ghost use Rattle.word.specs.Lists.{every};
+ghost use Rattle.std.specs.List.{list_all};
 ghost use Rattle.field.specs.Field.{assigned_by};
 ghost use Rattle.indicator.specs.HowCursor.{group_bits};
 ghost use Rattle.group.specs.HowHalves.{moved_word, MovedReady};
@@ -12,7 +12,6 @@ ghost use Rattle.group.specs.HowWords.{unchanged_step, stored_step};
 ghost use Rattle.group.specs.HowLoop.{TurnReady, Turns};
 
 use crate::halves;
-use crate::halves::WordChange;
 use field::{Assigned, VALUE_LIMIT};
 use indicator::{Cursor, FEW, NEXT_BIT};
 use word::{Area, Half, Relative};
@@ -32,20 +31,6 @@ pub struct Progress {
     pub word: usize,
 }
 
-// How many bits the indicators of all program words have; or that a field is refused.
-#[derive(Clone, Copy)]
-pub enum GroupChange {
-    Bits(usize),
-    Stop,
-}
-
-// The cursor and the number of the next program word; or that a field is refused.
-#[derive(Clone, Copy)]
-pub enum NextWord {
-    At(Cursor, usize),
-    Stop,
-}
-
 // The n program words of a group's words, changed, in the core's words out.
 pub fn change_group(
     s: Assigned,
@@ -53,54 +38,46 @@ pub fn change_group(
     words: &[u64],
     n: usize,
     out: &mut [u64],
-) -> GroupChange
+) -> Option<usize>
     requires { ChangeReady s.given lists.now words.now n out.old }
     ensures { Changes (assigned_by s lists.now) (group_bits words.now n)
         (program_in words.now n) result out.new }
 {
-    let end = words.len();
-    if all_zero(&words[n..end]) {
-        word::slices::copy_whole(out, &words[0..n]);
-        return GroupChange::Bits(2 * n);
+    if all_zero(&words[n..]) {
+        word::slices::copy_whole(out, &words[..n]);
+        return Some(2 * n);
     }
     change_words(s, lists, words, n, out)
 }
 
 fn all_zero(numbers: &[u64]) -> bool
-    ensures { result ≡ every is_zero numbers.now }
+    ensures { result ≡ list_all is_zero numbers.now }
 {
-    let mut i: usize = 0;
-    while i < numbers.len() {
-        if numbers[i] != 0 {
-            return false;
-        }
-        i += 1;
-    }
-    true
+    numbers.iter().all(|x| *x == 0)
 }
 
-// Word after word, from number 0 on.
-fn change_words(s: Assigned, lists: &[u64], words: &[u64], n: usize, out: &mut [u64]) -> GroupChange
+// Word after word, from number 0 on. Stays a while loop: a turn goes on by one word or by many.
+fn change_words(
+    s: Assigned,
+    lists: &[u64],
+    words: &[u64],
+    n: usize,
+    out: &mut [u64],
+) -> Option<usize>
     requires { ChangeReady s.given lists.now words.now n out.old }
     ensures { Changes (assigned_by s lists.now) (group_bits words.now n)
         (program_in words.now n) result out.new }
 {
     let end = words.len();
     let mut c = indicator::start(end, n);
-    let mut k: usize = 0;
+    let mut k = 0;
     while k < n {
         let cursor = indicator::refill(words, n, c);
-        match change_next(s, lists, words, n, Progress { cursor, word: k }, out) {
-            NextWord::At(d, j) => {
-                c = d;
-                k = j;
-            }
-            NextWord::Stop => {
-                return GroupChange::Stop;
-            }
-        }
+        let p = change_next(s, lists, words, n, Progress { cursor, word: k }, out)?;
+        c = p.cursor;
+        k = p.word;
     }
-    GroupChange::Bits(indicator::place(c, end, n))
+    Some(indicator::place(c, end, n))
 }
 
 // From where the loop stands: a run of the commonest change, words without change, or one word.
@@ -111,7 +88,7 @@ fn change_next(
     n: usize,
     p: Progress,
     out: &mut [u64],
-) -> NextWord
+) -> Option<Progress>
     requires { TurnReady s.given lists.now (assigned_by s lists.now) words.now n p out.old }
     ensures { Turns (assigned_by s lists.now) words.now n p result out.new }
 {
@@ -122,7 +99,7 @@ fn change_next(
             return move_words(s, lists, words, n, p, out);
         }
         if c.ahead < NO_CHANGE {
-            return pass_unchanged(&words[0..n], c, k, out);
+            return pass_unchanged(&words[..n], c, k, out);
         }
     }
     let w = words[k];
@@ -130,7 +107,7 @@ fn change_next(
 }
 
 // Words whose indicators are 01000, one after the other, as long as 29 bits are at hand. A loop of its own, since its turns are
-// short and the processor foresees them.
+// short and the processor foresees them. Stays a while loop: it ends by the indicators, by the words or by the bits at hand.
 fn move_words(
     s: Assigned,
     lists: &[u64],
@@ -138,7 +115,7 @@ fn move_words(
     n: usize,
     p: Progress,
     out: &mut [u64],
-) -> NextWord
+) -> Option<Progress>
     requires { (TurnReady s.given lists.now (assigned_by s lists.now) words.now n p out.old)
         × (p.cursor.ahead / 2 ^ 59 ≡ 8) }
     ensures { Turns (assigned_by s lists.now) words.now n p result out.new }
@@ -147,63 +124,61 @@ fn move_words(
     let mut k = p.word;
     while c.ahead / FIVE_BITS == MOVED {
         if n <= k {
-            return NextWord::At(c, k);
+            return Some(Progress { cursor: c, word: k });
         }
-        let area = s.given.area;
-        match moved_word(area, c, words[k]) {
-            WordChange::Next(moved, d) => {
-                out[k] = moved;
-                k += 1;
-                if d.left <= FEW {
-                    return NextWord::At(d, k);
-                }
-                c = d;
-            }
-            WordChange::Stop => {
-                return NextWord::Stop;
-            }
+        let (moved, d) = moved_word(s.given.area, c, words[k])?;
+        out[k] = moved;
+        k += 1;
+        if d.left <= FEW {
+            return Some(Progress { cursor: d, word: k });
         }
+        c = d;
     }
-    NextWord::At(c, k)
+    Some(Progress { cursor: c, word: k })
 }
 
 // Words without change at once, or the one whose two 0s come next.
-fn pass_unchanged(given: &[u64], c: Cursor, k: usize, out: &mut [u64]) -> NextWord
+fn pass_unchanged(given: &[u64], c: Cursor, k: usize, out: &mut [u64]) -> Option<Progress>
     requires { PassReady given.now c k out.old }
     ensures { Steps (unchanged_step given.now c k out.old) result out.new }
 {
     if c.ahead != 0 {
         out[k] = given[k];
-        return NextWord::At(indicator::pass_bits(c, 2), k + 1);
+        return Some(Progress {
+            cursor: indicator::pass_bits(c, 2),
+            word: k + 1,
+        });
     }
     let m = indicator::unchanged(c, given.len() - k);
     let past = k + m;
     word::slices::copy_in(out, k, &given[k..past]);
-    NextWord::At(indicator::pass_plain(c, m), past)
+    Some(Progress {
+        cursor: indicator::pass_plain(c, m),
+        word: past,
+    })
 }
 
 // What became of word number k.
-fn store_word(out: &mut [u64], k: usize, r: WordChange) -> NextWord
+fn store_word(out: &mut [u64], k: usize, r: Option<(u64, Cursor)>) -> Option<Progress>
     requires { (k < length out.old) × (length out.old < 2 ^ 64) }
     ensures { Steps (stored_step k out.old r) result out.new }
 {
-    match r {
-        WordChange::Next(v, d) => {
-            out[k] = v;
-            NextWord::At(d, k + 1)
-        }
-        WordChange::Stop => NextWord::Stop,
-    }
+    let (v, cursor) = r?;
+    out[k] = v;
+    Some(Progress {
+        cursor,
+        word: k + 1,
+    })
 }
 
 // A word whose indicators are 01000: its right field is moved by the area's address.
-fn moved_word(area: Area, c: Cursor, w: u64) -> WordChange
+fn moved_word(area: Area, c: Cursor, w: u64) -> Option<(u64, Cursor)>
     requires { MovedReady area c w }
     ensures { result ≡ moved_word area w c }
 {
     let a = word::placed(area, Relative(word::field(w, Half::Right)));
     if a.0 < VALUE_LIMIT {
-        return WordChange::Next(word::move_right(area, w), indicator::pass_bits(c, 5));
+        return Some((word::move_right(area, w), indicator::pass_bits(c, 5)));
     }
-    WordChange::Stop
+    None
 }

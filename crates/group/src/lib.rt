@@ -12,10 +12,9 @@ ghost use Rattle.field.specs.Field.{assigned_by};
 ghost use Rattle.group.specs.Group.{lies_in, words_lie, address_of, group_step, GroupMeets, Ready};
 ghost use Rattle.group.specs.HowGroup.{AddressReady, FillReady, Fitting, zero_fill, counted_fill, fill_of, Fills};
 
-use crate::changes::GroupChange;
 use field::Assigned;
 use lists::Table;
-use program::{Bank, Group, GroupRead, LAST_WORD, Segment};
+use program::{Bank, Group, LAST_WORD, Segment};
 use word::faults::FAULT_18;
 use word::{Absolute, Area, Fault};
 
@@ -26,11 +25,11 @@ pub enum Section {
     Table(Table, u64),
 }
 
-// The place of the next identifier and whether the group was its section's last; or the fault.
+// Where a group ends: the place of the next identifier, and whether the group was its section's last.
 #[derive(Clone, Copy)]
-pub enum GroupStep {
-    Done(usize, bool),
-    Refused(Fault),
+pub struct GroupEnd {
+    pub past: usize,
+    pub last: bool,
 }
 
 // The group whose identifier stands at place i of a block, into the words of the core that it goes to: 18 where these do not lie
@@ -42,24 +41,19 @@ pub fn group_step(
     block: &[u64],
     i: usize,
     core: &mut [u64],
-) -> GroupStep
+) -> Result<GroupEnd, Fault>
     requires { Ready s.given lists.now section block.now i core.old }
     ensures { GroupMeets (group_step (assigned_by s lists.now) section block.now i core.old)
         result core.new }
 {
-    match program::read_group(block[i]) {
-        GroupRead::Good(g) => {
-            if words_lie(section, g) {
-                let area = s.given.area;
-                let to = address_of(area, section, g);
-                let first = to.0 as usize;
-                let past = first + g.program as usize;
-                return fill_group(s, lists, block, i, g, &mut core[first..past]);
-            }
-            GroupStep::Refused(FAULT_18)
-        }
-        GroupRead::Bad(f) => GroupStep::Refused(f),
+    let g = program::read_group(block[i])?;
+    if !words_lie(section, g) {
+        return Err(FAULT_18);
     }
+    let to = address_of(s.given.area, section, g);
+    let first = to.0 as usize;
+    let past = first + g.program as usize;
+    fill_group(s, lists, block, i, g, &mut core[first..past])
 }
 
 // Whether the words of a group lie in their bank, or in the table section's count. Bit 16 zero is the IBANK; a table section has no
@@ -115,7 +109,7 @@ fn fill_group(
     i: usize,
     g: Group,
     out: &mut [u64],
-) -> GroupStep
+) -> Result<GroupEnd, Fault>
     requires { FillReady s.given lists.now block.now i g out.old }
     ensures { Fills (fill_of (assigned_by s lists.now) block.now i g) result out.new }
 {
@@ -136,7 +130,7 @@ fn count_group(
     i: usize,
     g: Group,
     out: &mut [u64],
-) -> GroupStep
+) -> Result<GroupEnd, Fault>
     requires { (FillReady s.given lists.now block.now i g out.old) × (Fitting i g) }
     ensures { Fills (counted_fill (assigned_by s lists.now) block.now i g) result out.new }
 {
@@ -144,22 +138,23 @@ fn count_group(
     let end = first + g.words as usize;
     let n = g.program as usize;
     let marks = (g.words - g.program) as usize;
-    match changes::change_group(s, lists, &block[first..end], n, out) {
-        GroupChange::Bits(bits) => {
-            if indicator::just_enough(bits, marks) {
-                return GroupStep::Done(end, g.last);
-            }
-            refuse(out, FAULT_18)
-        }
-        GroupChange::Stop => refuse(out, refusals::group_fault(s, lists, &block[first..end], n)),
+    let Some(bits) = changes::change_group(s, lists, &block[first..end], n, out) else {
+        return refuse(out, refusals::group_fault(s, lists, &block[first..end], n));
+    };
+    if indicator::just_enough(bits, marks) {
+        return Ok(GroupEnd {
+            past: end,
+            last: g.last,
+        });
     }
+    refuse(out, FAULT_18)
 }
 
 // A refused group leaves zeros where its words would have gone.
-fn refuse(out: &mut [u64], f: Fault) -> GroupStep
+fn refuse(out: &mut [u64], f: Fault) -> Result<GroupEnd, Fault>
     ensures { Fills (zero_fill (length out.old) f) result out.new }
 {
     let n = out.len();
     word::slices::clear(out, 0, n);
-    GroupStep::Refused(f)
+    Err(f)
 }

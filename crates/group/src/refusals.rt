@@ -8,7 +8,7 @@ ghost use Rattle.group.specs.Group.{half_step};
 ghost use Rattle.group.specs.HowHalves.{word_of, HalfReady};
 ghost use Rattle.group.specs.HowFaults.{first_fault, group_fault, FaultReady};
 
-use field::{Assigned, Changed};
+use field::Assigned;
 use indicator::{Cursor, Indicator};
 use word::faults::{FAULT_0, FAULT_18};
 use word::{Fault, Half};
@@ -31,54 +31,51 @@ fn first_fault(s: Assigned, lists: &[u64], words: &[u64], n: usize) -> Fault
 {
     let end = words.len();
     let mut c = indicator::start(end, n);
-    let mut k: usize = 0;
-    while k < n {
+    for k in 0..n {
         let w = words[k];
         let bit = indicator::place(c, end, n) as u64;
         let full = indicator::refill(words, n, c);
         match word_step(s, lists, bit, full, w) {
-            Changed::Word(_) => {
-                c = indicator::pass_word(full, w);
-                k += 1;
-            }
-            Changed::Refused(f) => {
-                return word::further(k as u64, f);
-            }
+            Ok(_) => c = indicator::pass_word(full, w),
+            Err(f) => return word::further(k as u64, f),
         }
     }
     FAULT_0
 }
 
 // The word w, whose indicators come next, before them so many bits: by its left half and then by its right one.
-fn word_step(s: Assigned, lists: &[u64], bit: u64, c: Cursor, w: u64) -> Changed
+fn word_step(s: Assigned, lists: &[u64], bit: u64, c: Cursor, w: u64) -> Result<u64, Fault>
     requires { (HalfReady s.given lists.now w c 26) × (bit < 2 ^ 32) }
     ensures { result ≡ word_of (assigned_by s lists.now) bit w c }
 {
     let m = indicator::look(c.ahead, word::field(w, Half::Left));
     let d = indicator::pass(c, m);
-    match half_step(s, lists, Half::Left, bit, m, w) {
-        Changed::Word(v) => {
-            let r = indicator::look(d.ahead, word::field(w, Half::Right));
-            half_step(
-                s,
-                lists,
-                Half::Right,
-                bit + indicator::width(m) as u64,
-                r,
-                v,
-            )
-        }
-        Changed::Refused(f) => Changed::Refused(f),
-    }
+    let v = half_step(s, lists, Half::Left, bit, m, w)?;
+    let r = indicator::look(d.ahead, word::field(w, Half::Right));
+    half_step(
+        s,
+        lists,
+        Half::Right,
+        bit + indicator::width(m) as u64,
+        r,
+        v,
+    )
 }
 
 // A half of the word w by its indicator, before which so many bits stand.
-fn half_step(s: Assigned, lists: &[u64], h: Half, bit: u64, m: Indicator, w: u64) -> Changed
+fn half_step(
+    s: Assigned,
+    lists: &[u64],
+    h: Half,
+    bit: u64,
+    m: Indicator,
+    w: u64,
+) -> Result<u64, Fault>
     requires { (Readable s.given lists.now) × (w < 2 ^ 36) }
     ensures { result ≡ half_step (assigned_by s lists.now) h bit m w }
 {
     match m {
-        Indicator::Same => Changed::Word(w),
+        Indicator::Same => Ok(w),
         Indicator::Change(t) => field::field_step(s, lists, h, bit, t, w, 0),
         Indicator::Long(x) => field::field_step(s, lists, h, bit, 2, w, x),
     }

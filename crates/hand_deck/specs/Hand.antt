@@ -1,12 +1,11 @@
 -- The P cases of 01's hand deck, all in one list: each a pair, the number that the definitions give and the number that 01 says,
 -- or request #104 where it changed that. A field's case is in either half, since 01 does not say which.
-use Rattle.std.specs.Prelude.{ℕ, ◌+◌, ◌-◌, ◌*◌, ◌^◌, List, [], ◌∷◌}
+use Rattle.std.specs.Prelude.{ℕ, ◌+◌, ◌-◌, ◌*◌, ◌^◌, List, [], ◌∷◌, Result, Ok, Err}
+use Rattle.word.specs.declared.Fault.{Fault}
 use Rattle.word.specs.declared.Half.{Half}
 use Rattle.word.specs.Word.{field_of, field_stored}
 use Rattle.block.specs.Records.{modification, program, termination}
 use Rattle.block.specs.Checksum.{checksum}
-use Rattle.field.specs.declared.Changed.{Changed}
-use Rattle.field.specs.declared.Changed.TheVariants.{Word, Refused}
 use Rattle.field.specs.Field.{Assignments, field_step}
 
 -- "area at 5000", "table 0 at 40,000, length 120"
@@ -22,9 +21,9 @@ deck_load = record {
 abbrev pub refusal : ℕ → ℕ
 refusal n = n * 2 ^ 32
 
-abbrev pub as_number : Half → Changed → ℕ
-as_number h (Word w) = field_of h w
-as_number h (Refused f) = refusal f.number
+abbrev pub as_number : Half → Result ℕ Fault → ℕ
+as_number h (Ok w) = field_of h w
+as_number h (Err f) = refusal f.number
 
 -- the field f of half h in a word else zero, changed by type t, no indicator bits before its own; x is the nine more bits of a long type
 -- 010

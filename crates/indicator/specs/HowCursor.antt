@@ -1,7 +1,7 @@
 -- how the code goes, not a rule of 01
 -- Reading a group's indicators with the next 64 bits at hand as one number. What a cursor sees is said by `Sees`, in terms of the
 -- bits that specs/Indicator.antt defines; that it reads the same indicators is proved in proofs/Reading.antt.
-use Rattle.std.specs.Prelude.{ℕ, ◌+◌, ◌-◌, ◌*◌, ◌/◌, ◌%◌, ◌^◌, ◌≤◌, ◌<◌, ◌≡◌, true, cond, ◌&&◌, List, length, get_or, ltb, leb, eqb}
+use Rattle.std.specs.Prelude.{ℕ, ◌+◌, ◌-◌, ◌*◌, ◌/◌, ◌%◌, ◌^◌, ◌≤◌, ◌<◌, ◌≡◌, true, cond, ◌&&◌, List, length, get_or, min, ltb, leb, eqb}
 use Rattle.word.specs.declared.Half.TheVariants.{Left, Right}
 use Rattle.word.specs.Limits.{words_in_block}
 use Rattle.word.specs.Lists.{every}
@@ -73,7 +73,7 @@ refilled words n c =
 
 -- how many of the program words left have no change, where all bits at hand are 0: two 0s each
 unfoldable pub plain_words : Cursor → ℕ → ℕ
-plain_words c most = cond (ltb (c.left / 2) most) (c.left / 2) most
+plain_words c most = min (c.left / 2) most
 
 -- past k words without change
 abbrev pub past_plain : Cursor → ℕ → Cursor

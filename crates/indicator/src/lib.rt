@@ -1,7 +1,7 @@
 // An indicator: what is to be done with a half of a program word; and the indicators of a group read fast, straight from the
 // group's words: the next 64 bits are held in one number, and where all of them are 0 many words without change are passed at once.
 // A group's words are its program words, the first n, and its indicator words after them.
-#![tactic(auto)]
+#![tactic(auto, using(word::proofs::Tests::tests), unfolding(crate::specs::HowCursor::beyond, crate::specs::HowCursor::look_of, crate::specs::HowCursor::plain_words))]
 
 ghost use Rattle.std.specs.Prelude.{◌≡◌, ◌+◌, ◌-◌, ◌*◌, ◌≤◌, ◌<◌, ◌^◌, length};
 ghost use Rattle.word.specs.Lists.{range};
@@ -57,6 +57,7 @@ fn beyond_last(n: usize, next: usize) -> usize
 }
 
 // The place of the next bit.
+#[tactic(auto, using(crate::proofs::Reading::beyond_most))]
 pub fn place(c: Cursor, end: usize, n: usize) -> usize
     requires { PlaceReady c end n }
     ensures { result ≡ place_of end n c }
@@ -72,10 +73,7 @@ pub fn look(ahead: u64, f: u64) -> Indicator
         return Indicator::Same;
     }
     let t = word::bits(ahead, 62, 60);
-    if t != 2 {
-        return Indicator::Change(t);
-    }
-    if word::is_set(f, 15) {
+    if t == 2 && word::is_set(f, 15) {
         Indicator::Long(word::bits(ahead, 59, 51))
     } else {
         Indicator::Change(t)
@@ -106,6 +104,7 @@ pub fn pass_bits(c: Cursor, k: usize) -> Cursor
 }
 
 // Past an indicator.
+#[tactic(auto, using(crate::proofs::Places::width_most), unfolding(crate::specs::HowCursor::past_of))]
 pub fn pass(c: Cursor, m: Indicator) -> Cursor
     requires { 13 ≤ c.left }
     ensures { result ≡ past_of c m }
@@ -114,6 +113,7 @@ pub fn pass(c: Cursor, m: Indicator) -> Cursor
 }
 
 // Past the indicator of a field that holds f.
+#[tactic(auto, unfolding(crate::specs::HowCursor::past_field))]
 fn pass_field(c: Cursor, f: u64) -> Cursor
     requires { 13 ≤ c.left }
     ensures { result ≡ past_field c f }
@@ -122,6 +122,7 @@ fn pass_field(c: Cursor, f: u64) -> Cursor
 }
 
 // Past a program word's two indicators.
+#[tactic(auto, using(crate::proofs::Reading::past_left), unfolding(crate::specs::HowCursor::past_word))]
 pub fn pass_word(c: Cursor, w: u64) -> Cursor
     requires { 26 ≤ c.left }
     ensures { result ≡ past_word c w }
@@ -151,8 +152,7 @@ pub fn refill(words: &[u64], n: usize, c: Cursor) -> Cursor
 pub fn unchanged(c: Cursor, most: usize) -> usize
     ensures { result ≡ plain_words c most }
 {
-    let k = c.left / 2;
-    if k < most { k } else { most }
+    (c.left / 2).min(most)
 }
 
 // Past this many words without change.
@@ -172,10 +172,7 @@ pub fn just_enough(bits: usize, n: usize) -> bool
     requires { (bits + 36 < 2 ^ 64) × (36 * n < 2 ^ 64) }
     ensures { result ≡ just_enough bits n }
 {
-    if bits <= WORD_BITS * n {
-        return WORD_BITS * n < bits + WORD_BITS;
-    }
-    false
+    bits <= WORD_BITS * n && WORD_BITS * n < bits + WORD_BITS
 }
 
 // Whether the indicators of the n program words of a group need just the words after these.
@@ -186,10 +183,8 @@ pub fn count_fits(words: &[u64], n: usize) -> bool
 {
     let end = words.len();
     let mut c = start(end, n);
-    let mut k: usize = 0;
-    while k < n {
+    for k in 0..n {
         c = pass_word(refill(words, n, c), words[k]);
-        k += 1;
     }
     just_enough(place(c, end, n), end - n)
 }

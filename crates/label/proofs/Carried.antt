@@ -14,12 +14,12 @@ use Rattle.label.specs.Label.{name_of, program_word_fits, total_of, finished, la
 use Rattle.label.proofs.Tables.{few_channels, few_io, few_tables, stand_within}
 use Rattle.label.specs.declared.Counts.{Counts}
 use Rattle.label.specs.declared.Label.{Label}
-use Rattle.label.specs.declared.LabelRead.{LabelRead}
-use Rattle.label.specs.declared.LabelRead.TheVariants.{Good, Bad}
+use Rattle.std.specs.Prelude.{Result, Ok, Err}
+use Rattle.word.specs.declared.Fault.{Fault}
 
-abbrev Holds : LabelRead → Type 0
-Holds (Good l) = Carried l
-Holds (Bad f) = Unit {0}
+abbrev Holds : Result Label Fault → Type 0
+Holds (Ok l) = Carried l
+Holds (Err f) = Unit {0}
 
 sections_few : (w n : ℕ) → program_word_fits w n ≡ true → bits 15 0 w ≤ n
 unfolding program_word_fits
@@ -55,5 +55,5 @@ label-holds block =
     (λ _. tt))
     (λ _. tt)
 
-pub label-carried : (block : List ℕ) (l : Label) → label_of block ≡ Good l → Carried l
+pub label-carried : (block : List ℕ) (l : Label) → label_of block ≡ Ok l → Carried l
 label-carried block l e = rw e at (label-holds block)

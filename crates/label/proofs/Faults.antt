@@ -8,14 +8,13 @@ use lib.Dec.{eqb}
 use Rattle.word.specs.Word.{bits}
 use Rattle.word.specs.Fault.{fault, further}
 use Rattle.word.specs.declared.Fault.{Fault}
-use Rattle.word.specs.declared.Side.TheVariants.{Whole}
 use Rattle.word.proofs.Cases.{both, when}
 use Rattle.label.specs.Name.{is_name}
 use Rattle.label.specs.Tables.{TableWord, table_words, first_table, tables_stand, table_fault, counts_of}
 use Rattle.label.specs.Label.{name_of, program_word_fits, total_of, finished, label_of}
 use Rattle.label.specs.declared.Counts.{Counts}
-use Rattle.label.specs.declared.LabelRead.{LabelRead}
-use Rattle.label.specs.declared.LabelRead.TheVariants.{Good, Bad}
+use Rattle.std.specs.Prelude.{Result, Ok, Err, None}
+use Rattle.label.specs.declared.Label.{Label}
 use Rattle.label.proofs.Spelt.{name_place}
 use Rattle.label.proofs.Tables.{table_few}
 
@@ -24,7 +23,7 @@ pub record OfWhole (low high : ℕ) (f : Fault) : Type 0 where
   pub least : low ≤ f.number
   pub most : f.number ≤ high
   pub word : f.word ≤ 255
-  pub half : f.half ≡ Whole
+  pub half : f.half ≡ None
   pub bit : f.bit ≡ 0
 
 pub whole-at : (low high n k : ℕ) → low ≤ n → n ≤ high → k ≤ 255 → OfWhole low high (further k (fault n))
@@ -37,9 +36,9 @@ pub whole_wider : (low high : ℕ) {l h : ℕ} {f : Fault} → low ≤ l → h �
 whole_wider low high a b p =
     record { least = omega arith; most = omega arith; word = p.word; half = p.half; bit = p.bit }
 
-abbrev Read : LabelRead → Type 0
-Read (Good l) = Unit {0}
-Read (Bad f) = OfWhole 14 15 f
+abbrev Read : Result Label Fault → Type 0
+Read (Ok l) = Unit {0}
+Read (Err f) = OfWhole 14 15 f
 
 of_15 : (k : ℕ) → k ≤ 255 → OfWhole 14 15 (further k (fault 15))
 of_15 k h = whole-at 14 15 15 k (omega arith) (omega arith) h
@@ -69,5 +68,5 @@ label-read block =
     (whole-at 14 15 14 2 (omega arith) (omega arith) (omega arith)))
     (λ q. of_15 _ (omega (arith, name_place (get_or block 0 0) (get_or block 1 0) q)))
 
-pub label_faults : (block : List ℕ) (f : Fault) → label_of block ≡ Bad f → OfWhole 14 15 f
+pub label_faults : (block : List ℕ) (f : Fault) → label_of block ≡ Err f → OfWhole 14 15 f
 label_faults block f e = rw e at (label-read block)

@@ -9,7 +9,7 @@ use lib.Seq.{take-suc, take_all, take-append-le, drop-cons}
 use lib.Dec.{eqb, leb}
 use borrow.Author.Tests.{leb-true, eqb-false, eq-eqb, ne_eqb}
 use Rattle.word.specs.Word.{part}
-use Rattle.word.specs.Fault.{fault, further}
+use Rattle.word.specs.Fault.{fault, further, Verdict, pass}
 use Rattle.word.specs.Lists.{every}
 use Rattle.word.specs.declared.Fault.{Fault}
 use Rattle.word.proofs.Cases.{by-test, by-lt, both, when, and_left}
@@ -17,8 +17,7 @@ use Rattle.word.proofs.First.{AllBelow, first-at, first_most, first-before, firs
 use Rattle.block.specs.Fieldata.{hyphen, characters, is_letter, letter, digit}
 use Rattle.label.specs.Name.{letter_or_digit, is_space, no_space, may_stand, first_wrong, is_name, name_fault, name_read}
 use Rattle.label.specs.HowSpelling.{next_spelling, spelled, is_wrong}
-use Rattle.label.specs.declared.NameRead.{NameRead}
-use Rattle.label.specs.declared.NameRead.TheVariants.{Good, Bad}
+use Rattle.std.specs.Prelude.{Err}
 use Rattle.label.specs.declared.Spelling.{Spelling}
 use Rattle.label.specs.declared.Spelling.TheVariants.{First, Inside, Spaces, Wrong}
 use Rattle.label.proofs.Fronts.{every_front}
@@ -176,7 +175,7 @@ module _ (a b : List ℕ) (six : length a ≡ 6) (more : length b ≡ 6) where
       absurd (false≢true (sym f ∙ alike (first_wrong (a ++ b)) h ∙ t)))
       (λ g. g)
 
-  pub name_first : (s : Spelling) → s ≡ spelled First a → is_wrong s ≡ true → Bad (fault 15) ≡ name_read (a ++ b)
+  pub name_first : (s : Spelling) → s ≡ spelled First a → is_wrong s ≡ true → Err (fault 15) ≡ name_read (a ++ b)
   unfolding name_read is_name
   name_first s p h =
       let k = in_first (ap is_wrong (sym p) ∙ h) in
@@ -187,7 +186,7 @@ module _ (a b : List ℕ) (six : length a ≡ 6) (more : length b ≡ 6) where
     spelled_both : t ≡ spelled First (a ++ b)
     spelled_both = q ∙ ap (λ (r : Spelling). spelled r b) p ∙ sym (spelled-append First a b)
 
-    pub name_second : is_wrong s ≡ false → is_wrong t ≡ true → Bad (further 1 (fault 15)) ≡ name_read (a ++ b)
+    pub name_second : is_wrong s ≡ false → is_wrong t ≡ true → Err (further 1 (fault 15)) ≡ name_read (a ++ b)
     unfolding name_read is_name
     name_second h g =
         let k = not_in_first (ap is_wrong (sym p) ∙ h) in
@@ -195,7 +194,7 @@ module _ (a b : List ℕ) (six : length a ≡ 6) (more : length b ≡ 6) where
         let e : first_wrong (a ++ b) / 6 ≡ 1 = omega (arith, twelve) in
         rw (ne_eqb (first_wrong (a ++ b)) (length (a ++ b)) (λ z. omega arith), e)
 
-    pub name_right : is_wrong t ≡ false → Good ≡ name_read (a ++ b)
+    pub name_right : is_wrong t ≡ false → pass ≡ name_read (a ++ b)
     unfolding name_read is_name
     name_right g = rw (eq-eqb _ _ (none_wrong (a ++ b) (ap is_wrong (sym spelled_both) ∙ g)))
 
@@ -215,15 +214,15 @@ name_place u v q =
 
 -- ---- what it is answered with
 module _ (cs : List ℕ) where
-  pub name_good : name_read cs ≡ Good → is_name cs ≡ true
+  pub name_good : name_read cs ≡ pass → is_name cs ≡ true
   unfolding name_read
   name_good =
-      when (λ (y : NameRead). y ≡ Good → is_name cs ≡ true) (is_name cs) (λ s q. s)
+      when (λ (y : Verdict). y ≡ pass → is_name cs ≡ true) (is_name cs) (λ s q. s)
       (λ s q. let z : ◌≡◌ {A = ℕ} 0 1 = cc in absurd (omega arith))
 
-  pub name_bad : (f : Fault) → name_read cs ≡ Bad f → (is_name cs ≡ false) × (f ≡ name_fault cs)
+  pub name_bad : (f : Fault) → name_read cs ≡ Err f → (is_name cs ≡ false) × (f ≡ name_fault cs)
   unfolding name_read
   name_bad f =
-      when (λ (y : NameRead). y ≡ Bad f → (is_name cs ≡ false) × (f ≡ name_fault cs)) (is_name cs)
+      when (λ (y : Verdict). y ≡ Err f → (is_name cs ≡ false) × (f ≡ name_fault cs)) (is_name cs)
       (λ s q. let z : ◌≡◌ {A = ℕ} 0 1 = cc in absurd (omega arith))
       (λ s q. (s, cc))

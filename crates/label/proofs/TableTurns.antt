@@ -21,8 +21,7 @@ use Rattle.label.specs.Tables.{TableWord, table_word, table_words_in, table_word
 use Rattle.label.specs.Tables.{counts_of, within_limits, table_at, table_stands, first_table, tables_stand, table_fault}
 use Rattle.label.specs.HowTables.{may_follow, counted_with, table_read, tables_read}
 use Rattle.label.specs.declared.Counts.{Counts}
-use Rattle.label.specs.declared.TablesRead.{TablesRead}
-use Rattle.label.specs.declared.TablesRead.TheVariants.{Good, Bad}
+use Rattle.std.specs.Prelude.{Result, Ok, Err}
 use Rattle.label.proofs.Fronts.{every_front}
 use Rattle.label.proofs.Tables.{few_stand, counts-front}
 
@@ -61,22 +60,22 @@ module _ (least : ℕ) (c : Counts) (x : TableWord) where
   abbrev Added : Counts → Type 0
   Added d = (may_follow least x ≡ true) × (within_limits (counted_with c x) ≡ true) × (d ≡ counted_with c x)
 
-  of_good : (d : Counts) → table_read least c x ≡ Good d → Added d
+  of_good : (d : Counts) → table_read least c x ≡ Ok d → Added d
   unfolding table_read
   of_good d =
-      when (λ (y : TablesRead). y ≡ Good d → Added d) (may_follow least x)
-      (λ m. when (λ (y : TablesRead). y ≡ Good d → Added d) (within_limits (counted_with c x)) (λ w q. (m, w, cc))
+      when (λ (y : Result Counts Fault). y ≡ Ok d → Added d) (may_follow least x)
+      (λ m. when (λ (y : Result Counts Fault). y ≡ Ok d → Added d) (within_limits (counted_with c x)) (λ w q. (m, w, cc))
       (λ w q. let z : ◌≡◌ {A = ℕ} 0 1 = cc in absurd (omega arith)))
       (λ m q. let z : ◌≡◌ {A = ℕ} 0 1 = cc in absurd (omega arith))
 
   abbrev Kept : Fault → Type 0
   Kept f = ((may_follow least x && within_limits (counted_with c x)) ≡ false) × (f ≡ fault 15)
 
-  pub of_bad : (f : Fault) → table_read least c x ≡ Bad f → Kept f
+  pub of_bad : (f : Fault) → table_read least c x ≡ Err f → Kept f
   unfolding table_read
   of_bad f =
-      when (λ (y : TablesRead). y ≡ Bad f → Kept f) (may_follow least x)
-      (λ m. when (λ (y : TablesRead). y ≡ Bad f → Kept f) (within_limits (counted_with c x))
+      when (λ (y : Result Counts Fault). y ≡ Err f → Kept f) (may_follow least x)
+      (λ m. when (λ (y : Result Counts Fault). y ≡ Err f → Kept f) (within_limits (counted_with c x))
       (λ w q. let z : ◌≡◌ {A = ℕ} 0 1 = cc in absurd (omega arith))
       (λ w q. (rw (m, w), cc)))
       (λ m q. (rw m, cc))
@@ -90,7 +89,7 @@ module _ (ts : List TableWord) (i least : ℕ) (c : Counts) (x : TableWord) (h :
       (same_tests (carries (table_at ts i)) (leb least (table_at ts i).type) (has_entries (table_at ts i))
       (within_limits (counted_with c (table_at ts i))))
 
-  read_more : (d : Counts) → table_read least c x ≡ Good d → ReadTo ts (i + 1) (x.type + 1) d
+  read_more : (d : Counts) → table_read least c x ≡ Ok d → ReadTo ts (i + 1) (x.type + 1) d
   unfolding may_follow
   read_more d q =
       let g = of_good least c x d q in
@@ -102,7 +101,7 @@ module _ (ts : List TableWord) (i least : ℕ) (c : Counts) (x : TableWord) (h :
         within = rw g.2 g.1;
       })
 
-  read_bad : (f : Fault) → table_read least c x ≡ Bad f → Bad (further i f) ≡ tables_read ts
+  read_bad : (f : Fault) → table_read least c x ≡ Err f → Err (further i f) ≡ tables_read ts
   unfolding tables_read tables_stand first_table
   read_bad f q =
       let b = of_bad least c x f q in
@@ -119,12 +118,12 @@ read_none ts = record {
 }
 
 module _ (ts : List TableWord) (i least : ℕ) (c : Counts) (r : ReadTo ts i least c) where
-  read_all : i ≡ length ts → Good c ≡ tables_read ts
+  read_all : i ≡ length ts → Ok c ≡ tables_read ts
   unfolding tables_read tables_stand first_table
   read_all e =
       let k = first-all (table_stands ts) (length ts) (rw e at r.stand) in
       rw (k, eq-eqb (length ts) (length ts) refl)
-      (ap Good (r.counted ∙ ap counts_of (take_all i ts (omega arith))))
+      (ap Ok (r.counted ∙ ap counts_of (take_all i ts (omega arith))))
 
 -- ---- the table words of a block
 module _ (block : List ℕ) where
@@ -141,32 +140,32 @@ module _ (block : List ℕ) where
     pub word_short : i ≤ bits 28 18 (get_or block 3 0) → i ≤ 4
     word_short h = few_stand (table_words block) i (omega (arith, tables-length)) r.stand
 
-    pub word_more : (d : Counts) → i < bits 28 18 (get_or block 3 0) → table_read least c (table_word (get_or block (4 + i) 0)) ≡ Good d
+    pub word_more : (d : Counts) → i < bits 28 18 (get_or block 3 0) → table_read least c (table_word (get_or block (4 + i) 0)) ≡ Ok d
         → ReadTo (table_words block) (i + 1) (bits 35 32 (get_or block (4 + i) 0) + 1) d
     word_more d h q =
         let l : i < length (table_words block) = omega (arith, tables-length) in
         read_more (table_words block) i least c (table_word (get_or block (4 + i) 0)) l r (table-at i h) d q
 
-    pub word_bad : (f : Fault) → i < bits 28 18 (get_or block 3 0) → table_read least c (table_word (get_or block (4 + i) 0)) ≡ Bad f
-        → Bad (further i f) ≡ tables_read (table_words block)
+    pub word_bad : (f : Fault) → i < bits 28 18 (get_or block 3 0) → table_read least c (table_word (get_or block (4 + i) 0)) ≡ Err f
+        → Err (further i f) ≡ tables_read (table_words block)
     word_bad f h q =
         let l : i < length (table_words block) = omega (arith, tables-length) in
         read_bad (table_words block) i least c (table_word (get_or block (4 + i) 0)) l r (table-at i h) f q
 
-    pub word_all : i ≡ bits 28 18 (get_or block 3 0) → Good c ≡ tables_read (table_words block)
+    pub word_all : i ≡ bits 28 18 (get_or block 3 0) → Ok c ≡ tables_read (table_words block)
     word_all h = read_all (table_words block) i least c r (omega (arith, tables-length))
 
 -- ---- what the tables are answered with
 module _ (ts : List TableWord) where
-  pub tables_good : (c : Counts) → tables_read ts ≡ Good c → (tables_stand ts ≡ true) × (c ≡ counts_of ts)
+  pub tables_good : (c : Counts) → tables_read ts ≡ Ok c → (tables_stand ts ≡ true) × (c ≡ counts_of ts)
   unfolding tables_read
   tables_good c =
-      when (λ (y : TablesRead). y ≡ Good c → (tables_stand ts ≡ true) × (c ≡ counts_of ts)) (tables_stand ts) (λ s q. (s, cc))
+      when (λ (y : Result Counts Fault). y ≡ Ok c → (tables_stand ts ≡ true) × (c ≡ counts_of ts)) (tables_stand ts) (λ s q. (s, cc))
       (λ s q. let z : ◌≡◌ {A = ℕ} 0 1 = cc in absurd (omega arith))
 
-  pub tables_bad : (f : Fault) → tables_read ts ≡ Bad f → (tables_stand ts ≡ false) × (f ≡ table_fault ts)
+  pub tables_bad : (f : Fault) → tables_read ts ≡ Err f → (tables_stand ts ≡ false) × (f ≡ table_fault ts)
   unfolding tables_read
   tables_bad f =
-      when (λ (y : TablesRead). y ≡ Bad f → (tables_stand ts ≡ false) × (f ≡ table_fault ts)) (tables_stand ts)
+      when (λ (y : Result Counts Fault). y ≡ Err f → (tables_stand ts ≡ false) × (f ≡ table_fault ts)) (tables_stand ts)
       (λ s q. let z : ◌≡◌ {A = ℕ} 0 1 = cc in absurd (omega arith))
       (λ s q. (s, cc))

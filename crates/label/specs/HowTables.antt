@@ -2,13 +2,12 @@
 -- The tables of a label taken one after another: each is carried, has entries, its type is none below a least one, and with its
 -- entries the counts are within the limits. That this tells of each table what `table_stands` tells is `stands_read` in
 -- proofs/TableTurns.antt.
-use Rattle.std.specs.Prelude.{ℕ, ◌+◌, ◌≤◌, ◌^◌, Bool, cond, ◌&&◌, List, leb}
+use Rattle.std.specs.Prelude.{ℕ, ◌+◌, ◌≤◌, ◌^◌, Bool, cond, ◌&&◌, List, leb, Result, Ok, Err}
 use Rattle.word.specs.Fault.{fault}
 use Rattle.label.specs.Tables.{TableWord, switch_type, channel_type, unit_type, core_type, is_carried, has_entries, entries_if}
 use Rattle.label.specs.Tables.{counts_of, within_limits, tables_stand, table_fault}
 use Rattle.label.specs.declared.Counts.{Counts}
-use Rattle.label.specs.declared.TablesRead.{TablesRead}
-use Rattle.label.specs.declared.TablesRead.TheVariants.{Good, Bad}
+use Rattle.word.specs.declared.Fault.{Fault}
 
 -- a table that may come where the least type is given
 unfoldable pub may_follow : ℕ → TableWord → Bool
@@ -23,12 +22,12 @@ counted_with c x = record {
   tables = c.tables + entries_if core_type x;
 }
 
-unfoldable pub table_read : ℕ → Counts → TableWord → TablesRead
+unfoldable pub table_read : ℕ → Counts → TableWord → Result Counts Fault
 table_read least c x =
-    cond (may_follow least x) (cond (within_limits (counted_with c x)) (Good (counted_with c x)) (Bad (fault 15))) (Bad (fault 15))
+    cond (may_follow least x) (cond (within_limits (counted_with c x)) (Ok (counted_with c x)) (Err (fault 15))) (Err (fault 15))
 
-unfoldable pub tables_read : List TableWord → TablesRead
-tables_read ts = cond (tables_stand ts) (Good (counts_of ts)) (Bad (table_fault ts))
+unfoldable pub tables_read : List TableWord → Result Counts Fault
+tables_read ts = cond (tables_stand ts) (Ok (counts_of ts)) (Err (table_fault ts))
 
 -- counts whose sums cannot wrap
 pub record FewEntries (c : Counts) : Type 0 where

@@ -1,12 +1,10 @@
 -- A program's name: "12 Fieldata characters: A to Z .., 0 to 9 .., hyphen .., space .. . The first is a letter or digit; spaces
 -- only at the end." Where it is none, the fault is 15 at the word of the first wrong character.
-use Rattle.std.specs.Prelude.{ℕ, zero, suc, ◌/◌, Bool, cond, not, ◌&&◌, ◌||◌, List, length, get_or, take, eqb}
+use Rattle.std.specs.Prelude.{ℕ, zero, suc, ◌/◌, Bool, cond, not, ◌&&◌, ◌||◌, List, length, get_or, take, eqb, Err}
 use Rattle.word.specs.Lists.{every, first_not}
-use Rattle.word.specs.Fault.{fault, further}
+use Rattle.word.specs.Fault.{fault, further, Verdict, pass}
 use Rattle.word.specs.declared.Fault.{Fault}
 use Rattle.block.specs.Fieldata.{space, hyphen, is_letter, is_digit}
-use Rattle.label.specs.declared.NameRead.{NameRead}
-use Rattle.label.specs.declared.NameRead.TheVariants.{Good, Bad}
 
 unfoldable pub letter_or_digit : ℕ → Bool
 letter_or_digit c = is_letter c || is_digit c
@@ -38,5 +36,5 @@ abbrev pub name_fault : List ℕ → Fault
 name_fault cs = further (first_wrong cs / 6) (fault 15)
 
 -- what the reader of a name answers
-unfoldable pub name_read : List ℕ → NameRead
-name_read cs = cond (is_name cs) Good (Bad (name_fault cs))
+unfoldable pub name_read : List ℕ → Verdict
+name_read cs = cond (is_name cs) pass (Err (name_fault cs))

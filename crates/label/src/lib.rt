@@ -3,7 +3,7 @@
 
 pub mod name;
 
-ghost use Rattle.std.specs.Prelude.{◌≡◌, true, length};
+ghost use Rattle.std.specs.Prelude.{◌≡◌, true, length, Err};
 ghost use Rattle.word.specs.Fault.{fault, further};
 ghost use Rattle.word.specs.Limits.{words_in_block};
 ghost use Rattle.label.specs.Tables.{table_word, table_words, is_carried, entries_if, within_limits};
@@ -48,12 +48,6 @@ pub enum Spelling {
     Wrong,
 }
 
-#[derive(Clone, Copy)]
-pub enum NameRead {
-    Good,
-    Bad(Fault),
-}
-
 // How many entries each table type carried has: jump switches (0), channels (2), units (3), core tables (12).
 #[derive(Clone, Copy)]
 pub struct Counts {
@@ -61,13 +55,6 @@ pub struct Counts {
     pub channels: u64,
     pub units: u64,
     pub tables: u64,
-}
-
-// The tables of a label: what they count, or the first that breaks a rule.
-#[derive(Clone, Copy)]
-pub enum TablesRead {
-    Good(Counts),
-    Bad(Fault),
 }
 
 // What later records need of a label: the entries of each table type, whether longer tables are forbidden, and how many table
@@ -82,33 +69,23 @@ pub struct Label {
     pub sections: u64,
 }
 
-#[derive(Clone, Copy)]
-pub enum LabelRead {
-    Good(Label),
-    Bad(Fault),
-}
-
 // The label of a block of 256 words.
-pub fn read_label(block: &[u64]) -> LabelRead
+pub fn read_label(block: &[u64]) -> Result<Label, Fault>
     requires { length block.now ≡ words_in_block }
     ensures { result ≡ label_of block.now }
 {
-    match name::read_name(block[0], block[1]) {
-        NameRead::Good => {
-            if word::bits(block[FLAG_WORD], 35, 33) != 1 {
-                return LabelRead::Bad(word::further(FLAG_WORD as u64, FAULT_14));
-            }
-            match read_tables(block) {
-                TablesRead::Good(c) => finish(block, c),
-                TablesRead::Bad(f) => LabelRead::Bad(word::further(TABLE_WORDS as u64, f)),
-            }
-        }
-        NameRead::Bad(f) => LabelRead::Bad(f),
+    name::read_name(block[0], block[1])?;
+    if word::bits(block[FLAG_WORD], 35, 33) != 1 {
+        return Err(word::further(FLAG_WORD as u64, FAULT_14));
+    }
+    match read_tables(block) {
+        Ok(c) => finish(block, c),
+        Err(f) => Err(word::further(TABLE_WORDS as u64, f)),
     }
 }
 
 // The table words from word 4 on, as many as word 3 counts: the entries of each type, or 15 at the first word that breaks a rule.
-fn read_tables(block: &[u64]) -> TablesRead
+fn read_tables(block: &[u64]) -> Result<Counts, Fault>
     requires { length block.now ≡ words_in_block }
     ensures { result ≡ tables_read (table_words block.now) }
 {
@@ -120,63 +97,48 @@ fn read_tables(block: &[u64]) -> TablesRead
         tables: 0,
     };
     let mut least: u64 = 0;
-    let mut i: usize = 0;
-    while i < n {
+    for i in 0..n {
         let w = block[TABLE_WORDS + i];
         match read_table(least, c, w) {
-            TablesRead::Good(d) => {
+            Ok(d) => {
                 c = d;
                 least = word::bits(w, 35, 32) + 1;
-                i += 1;
             }
-            TablesRead::Bad(f) => return TablesRead::Bad(word::further(i as u64, f)),
+            Err(f) => return Err(word::further(i as u64, f)),
         }
     }
-    TablesRead::Good(c)
+    Ok(c)
 }
 
 // One table word, whose type must be none below the least: the counts with its entries, or 15.
-fn read_table(least: u64, c: Counts, w: u64) -> TablesRead
+fn read_table(least: u64, c: Counts, w: u64) -> Result<Counts, Fault>
     requires { within_limits c ≡ true }
     ensures { result ≡ table_read least c (table_word w) }
 {
     if !may_follow(least, w) {
-        return TablesRead::Bad(FAULT_15);
+        return Err(FAULT_15);
     }
     let d = count_with(c, w);
     if !within_limits(d) {
-        return TablesRead::Bad(FAULT_15);
+        return Err(FAULT_15);
     }
-    TablesRead::Good(d)
+    Ok(d)
 }
 
 // One table word: its type must be carried and none below the least, its entries some.
+#[tactic(auto, using(word::proofs::Tests::tests), unfolding(crate::specs::HowTables::may_follow))]
 fn may_follow(least: u64, w: u64) -> bool
     ensures { result ≡ may_follow least (table_word w) }
 {
     let t = word::bits(w, 35, 32);
-    if t < least {
-        return false;
-    }
-    if word::bits(w, 8, 0) == 0 {
-        return false;
-    }
-    is_carried(t)
+    least <= t && word::bits(w, 8, 0) != 0 && is_carried(t)
 }
 
+#[tactic(auto, using(word::proofs::Tests::tests), unfolding(crate::specs::Tables::is_carried))]
 fn is_carried(t: u64) -> bool
     ensures { result ≡ is_carried t }
 {
-    if t == JUMP_SWITCH {
-        return true;
-    }
-    if t == CHANNEL {
-        return true;
-    }
-    if t == UNIT {
-        return true;
-    }
-    t == CORE
+    matches!(t, JUMP_SWITCH | CHANNEL | UNIT | CORE)
 }
 
 // The counts, and the entries of one table more.
@@ -197,26 +159,24 @@ fn entries_if(w: u64, t: u64) -> u64
     ensures { result ≡ entries_if t (table_word w) }
 {
     if word::bits(w, 35, 32) == t {
-        return word::bits(w, 8, 0);
+        word::bits(w, 8, 0)
+    } else {
+        0
     }
-    0
 }
 
+#[tactic(auto, using(word::proofs::Tests::tests), unfolding(crate::specs::Tables::within_limits))]
 fn within_limits(c: Counts) -> bool
     requires { FewEntries c }
     ensures { result ≡ within_limits c }
 {
-    if CHANNELS_MOST < c.switches + c.channels {
-        return false;
-    }
-    if (IO_MOST as u64) < c.switches + c.channels + c.units {
-        return false;
-    }
-    c.tables <= TABLES_MOST as u64
+    c.switches + c.channels <= CHANNELS_MOST
+        && c.switches + c.channels + c.units <= IO_MOST as u64
+        && c.tables <= TABLES_MOST as u64
 }
 
 // What is read after the table words: the entry total, word 253 and word 255.
-fn finish(block: &[u64], c: Counts) -> LabelRead
+fn finish(block: &[u64], c: Counts) -> Result<Label, Fault>
     requires { (length block.now ≡ words_in_block) × (FewEntries c) }
     ensures { result ≡ finished block.now c }
 {
@@ -231,7 +191,7 @@ fn finish(block: &[u64], c: Counts) -> LabelRead
     if block[NAME_AGAIN] != block[0] {
         return bad_at(NAME_AGAIN);
     }
-    LabelRead::Good(Label {
+    Ok(Label {
         switches: c.switches,
         channels: c.channels,
         units: c.units,
@@ -242,24 +202,19 @@ fn finish(block: &[u64], c: Counts) -> LabelRead
 }
 
 // 15 at word k.
-fn bad_at(k: usize) -> LabelRead
-    ensures { result ≡ LabelRead.Bad (further k (fault 15)) }
+fn bad_at(k: usize) -> Result<Label, Fault>
+    ensures { result ≡ Err (further k (fault 15)) }
 {
-    LabelRead::Bad(word::further(k as u64, FAULT_15))
+    Err(word::further(k as u64, FAULT_15))
 }
 
 // Word 253: its other bits zero, one segment, no more table sections than core tables.
+#[tactic(auto, using(word::proofs::Tests::tests), unfolding(crate::specs::Label::program_word_fits))]
 fn program_word_fits(w: u64, tables: u64) -> bool
     ensures { result ≡ program_word_fits w tables }
 {
-    if word::bits(w, 35, 34) != 0 {
-        return false;
-    }
-    if word::bits(w, 17, 16) != 0 {
-        return false;
-    }
-    if word::bits(w, 33, 18) != 1 {
-        return false;
-    }
-    word::bits(w, 15, 0) <= tables
+    word::bits(w, 35, 34) == 0
+        && word::bits(w, 17, 16) == 0
+        && word::bits(w, 33, 18) == 1
+        && word::bits(w, 15, 0) <= tables
 }

@@ -4,7 +4,8 @@ ghost use Rattle.block.specs.Fieldata.{characters};
 ghost use Rattle.label.specs.Name.{letter_or_digit, name_read};
 ghost use Rattle.label.specs.HowSpelling.{next_spelling, spelled, is_wrong};
 
-use crate::{NameRead, Spelling};
+use crate::Spelling;
+use word::Fault;
 use word::faults::FAULT_15;
 
 // "12 Fieldata characters": six a word, of six bits each.
@@ -24,28 +25,23 @@ const HYPHEN: u64 = 0o41;
 const SPACE: u64 = 0o05;
 
 // The name that two words spell, or 15 at the one in which the first wrong character stands.
-pub fn read_name(first: u64, second: u64) -> NameRead
+pub fn read_name(first: u64, second: u64) -> Result<(), Fault>
     ensures { result ≡ name_read (characters 6 first ++ characters 6 second) }
 {
     let s = spell_word(Spelling::First, first);
     if is_wrong(s) {
-        return NameRead::Bad(FAULT_15);
+        return Err(FAULT_15);
     }
     if is_wrong(spell_word(s, second)) {
-        return NameRead::Bad(word::further(1, FAULT_15));
+        return Err(word::further(1, FAULT_15));
     }
-    NameRead::Good
+    Ok(())
 }
 
 fn is_wrong(s: Spelling) -> bool
     ensures { result ≡ is_wrong s }
 {
-    match s {
-        Spelling::First => false,
-        Spelling::Inside => false,
-        Spelling::Spaces => false,
-        Spelling::Wrong => true,
-    }
+    matches!(s, Spelling::Wrong)
 }
 
 // The six characters of a word, the leftmost first.
@@ -53,9 +49,7 @@ fn spell_word(start: Spelling, w: u64) -> Spelling
     ensures { result ≡ spelled start (characters 6 w) }
 {
     let mut s = start;
-    let mut n: u64 = IN_WORD;
-    while 0 < n {
-        n -= 1;
+    for n in (0..IN_WORD).rev() {
         s = spell(s, (w >> (6 * n)) % 64);
     }
     s
@@ -106,17 +100,9 @@ fn spell_space(c: u64) -> Spelling
     Spelling::Wrong
 }
 
+#[tactic(auto, using(word::proofs::Tests::tests), unfolding(crate::specs::Name::letter_or_digit))]
 fn letter_or_digit(c: u64) -> bool
     ensures { result ≡ letter_or_digit c }
 {
-    if c < LETTER_A {
-        return false;
-    }
-    if c <= LETTER_Z {
-        return true;
-    }
-    if c < DIGIT_0 {
-        return false;
-    }
-    c <= DIGIT_9
+    matches!(c, LETTER_A..=LETTER_Z | DIGIT_0..=DIGIT_9)
 }

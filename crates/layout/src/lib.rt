@@ -58,6 +58,7 @@ pub fn place_at(desk: &[u64], p: usize) -> &[u64]
 }
 
 // A place's own numbers.
+#[tactic(auto, unfolding(crate::specs::Layout::own_of))]
 pub fn own_of(place: &[u64]) -> Place
     requires { length place.now ≡ place_words }
     ensures { result ≡ own_of place.now }
@@ -98,10 +99,8 @@ pub fn read_holders(desk: &[u64]) -> [u64; PLACES]
     ensures { result ≡ holders desk.now }
 {
     let mut h = [0u64; PLACES];
-    let mut p: usize = 0;
-    while p < PLACES {
+    for p in 0..PLACES {
         h[p] = desk[PLACES_AT + p * PLACE_WORDS];
-        p += 1;
     }
     h
 }
@@ -111,10 +110,7 @@ pub fn holds_place(desk: &[u64], room: u64, place: u64) -> bool
     requires { (length desk.now ≡ desk_words) × (room < room_count) }
     ensures { result ≡ holds desk.now room place }
 {
-    if PLACES as u64 <= place {
-        return false;
-    }
-    desk[PLACES_AT + place as usize * PLACE_WORDS] == room + 1
+    place < PLACES as u64 && desk[PLACES_AT + place as usize * PLACE_WORDS] == room + 1
 }
 
 // The map's numbers.

@@ -1,17 +1,18 @@
 -- The words that are kept for tables that lie in the area pass the one pass just when no two of the tables share a word.
-use Rattle.std.proofs.Common.{◌≡◌, ℕ, suc, ◌+◌, ◌^◌, ◌<◌, ◌≤◌, Bool, true, false, ◌&&◌, ltb, leb, List, [], ◌∷◌, length, sym, refl, ap, ◌∙◌, arith, eq-eqb, ne_eqb, le-leb, leb-true}
+use Rattle.std.proofs.Common.{◌≡◌, ℕ, suc, ◌+◌, ◌/◌, ◌^◌, ◌<◌, ◌≤◌, Bool, true, false, ◌&&◌, ltb, leb, List, [], ◌∷◌, length, get_or, sym, refl, ap, ◌∙◌, arith, eq-eqb, ne_eqb, le-leb, leb-true}
 use Rattle.word.specs.declared.Area.{Area}
 use Rattle.word.specs.Lists.{every, every_two}
 use Rattle.word.specs.Runs.{Says}
 use Rattle.word.proofs.Cases.{by-eq, and_both, and_left, and_right}
-use Rattle.word.proofs.Every.{every-then}
+use Rattle.word.proofs.Every.{every-place, every-then}
 use Rattle.word.proofs.Says.{says_lt, says_le, says_and}
 use Rattle.lists.specs.declared.Table.{Table}
 use Rattle.lists.specs.HowKept.{address_in, length_in, table_number_in, table_of}
 use Rattle.lists.specs.HowChain.{chain_from, chain}
-use Rattle.lists.specs.Obey.{table_inside, tables_apart}
+use Rattle.lists.specs.Obey.{tables_of, no_table, table_inside, tables_apart}
 use Rattle.lists.specs.HowKeep.{kept_word, has_room, words_from, words_kept}
 use Rattle.sorting.specs.Sorted.{sorted}
+use Rattle.lists.proofs.Lent.{lent_length}
 use Rattle.lists.proofs.Obey.{says_inside, first_empty, second_empty, first-before, apart-before, apart_sym}
 use Rattle.sorting.proofs.Rising.{every-sorted, two_sorted, sorted_rising, rising_sorted}
 
@@ -92,6 +93,12 @@ chain_says end last l h t =
 pub says_room : (t : Table) → Says (has_room t) ((t.at.0 < 2 ^ 24) × (t.len < 2 ^ 20))
 unfolding has_room
 says_room t = says_and (says_lt _ _) (says_lt _ _)
+
+pub lent_room : (l : List ℕ) (k : ℕ) (t : Table) → every has_room (tables_of l) ≡ true → k < length l / 2
+    → t ≡ get_or (tables_of l) k no_table → (t.at.0 < 2 ^ 24) × (t.len < 2 ^ 20)
+lent_room l k t q h e =
+    let n = lent_length l in
+    (says_room t).fact (rw e (every-place no_table has_room (tables_of l) k (omega arith) q))
 
 module _ (k : ℕ) (t : Table) (few : k < 2 ^ 20) (room : has_room t ≡ true) where
   pub word_address : address_in (kept_word k t) ≡ t.at.0

@@ -4,6 +4,7 @@ pub mod Flag
 pub mod Obey
 pub mod Sound
 pub mod Lent
+pub mod Gathered
 pub mod Exact
 pub mod Numbers
 pub mod Ranks

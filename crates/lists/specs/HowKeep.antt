@@ -1,13 +1,11 @@
 -- How the code goes, not a rule of 01: what the desk keeps of the two lists that are lent to open. `HowKept.antt` says how it is
 -- read.
-use Rattle.std.specs.Prelude.{◌≡◌, ℕ, suc, ◌+◌, ◌-◌, ◌*◌, ◌/◌, ◌%◌, ◌^◌, ◌≤◌, Bool, true, cond, ◌&&◌, List, [], ◌∷◌, map, length, ◌==◌, nat_lt, slice_index, slice_set}
+use Rattle.std.specs.Prelude.{◌≡◌, ℕ, suc, ◌+◌, ◌-◌, ◌*◌, ◌/◌, ◌%◌, ◌^◌, ◌≤◌, Bool, true, cond, ◌&&◌, List, [], ◌∷◌, map, length, ◌==◌, nat_lt, slice_index, slice_set, Option, Some, None}
 use Rattle.word.specs.Limits.{tables_most}
 use Rattle.sorting.specs.Sorted.{sorted}
 use Rattle.word.specs.Lists.{every, tab, splice}
 use Rattle.word.specs.declared.Area.{Area}
 use Rattle.lists.specs.declared.Table.{Table}
-use Rattle.lists.specs.declared.Taken.{Taken}
-use Rattle.lists.specs.declared.Taken.TheVariants.{Words, Nothing}
 use Rattle.lists.specs.HowKept.{table_number_in}
 use Rattle.lists.specs.Obey.{tables_of, lists_obey, entries_obey}
 
@@ -64,10 +62,10 @@ ranks_kept ts = ranked 0 (words_kept ts) (map away_rank ts)
 
 -- ---- how a call takes the lists: as many words are kept as it says for the tables, or refusal 8 is due. The words stand at the
 -- start of the stretch ws wherever each entry obeys by itself, and what follows in it is as it was
-unfoldable pub lists_taken : Area → List ℕ → List ℕ → Taken
-lists_taken area ios tables = cond (lists_obey area ios tables) (Words (length (words_kept (tables_of tables)))) Nothing
+unfoldable pub lists_taken : Area → List ℕ → List ℕ → Option ℕ
+lists_taken area ios tables = cond (lists_obey area ios tables) (Some (length (words_kept (tables_of tables)))) None
 
-pub record TakesLists (area : Area) (ios tables ws : List ℕ) (r : Taken) (ws' : List ℕ) : Type 0 where
+pub record TakesLists (area : Area) (ios tables ws : List ℕ) (r : Option ℕ) (ws' : List ℕ) : Type 0 where
   pub told : r ≡ lists_taken area ios tables
   pub words : ws' ≡ cond (entries_obey area ios tables) (splice ws 0 (words_kept (tables_of tables))) ws
 

@@ -12,10 +12,8 @@ pub fn keep_numbers(numbers: &[u64], n: usize, out: &mut [u64])
     requires { (4 * n ≤ length numbers.now) × (n ≤ length out.old) }
     ensures { out.new ≡ splice out.old 0 (fours_kept numbers.now n) }
 {
-    let mut i: usize = 0;
-    while i < n {
+    for i in 0..n {
         out[i] = four_numbers(numbers, i);
-        i += 1;
     }
 }
 
@@ -25,11 +23,9 @@ pub fn keep_ranks(tables: &[u64], words: &[u64], ranks: &mut [u64])
     requires { Ranking (tables_of tables.now) words.now ranks.old }
     ensures { ranks.new ≡ splice ranks.old 0 (ranks_kept (tables_of tables.now)) }
 {
-    if words.len() == tables.len() / 2 {
-        rank_words(words, ranks);
-        return;
+    if words.len() != tables.len() / 2 {
+        away_ranks(tables, ranks);
     }
-    away_ranks(tables, ranks);
     rank_words(words, ranks);
 }
 
@@ -50,11 +46,8 @@ fn away_ranks(tables: &[u64], ranks: &mut [u64])
     requires { (every has_room (tables_of tables.now) ≡ true) × (length tables.now / 2 ≤ length ranks.old) }
     ensures { ranks.new ≡ splice ranks.old 0 (map away_rank (tables_of tables.now)) }
 {
-    let mut k: usize = 0;
-    while k < tables.len() / 2 {
-        let t = tables::lent_table(tables, k);
-        ranks[k] = t.at.0 * AWAY + NO_RANK;
-        k += 1;
+    for k in 0..tables.len() / 2 {
+        ranks[k] = tables::lent_table(tables, k).at.0 * AWAY + NO_RANK;
     }
 }
 
@@ -63,9 +56,7 @@ fn rank_words(words: &[u64], ranks: &mut [u64])
     requires { every (number_below (length ranks.old)) words.now ≡ true }
     ensures { ranks.new ≡ ranked 0 words.now ranks.old }
 {
-    let mut p: usize = 0;
-    while p < words.len() {
-        ranks[(words[p] / NUMBER % NUMBERS) as usize] = p as u64;
-        p += 1;
+    for (p, w) in words.iter().enumerate() {
+        ranks[(w / NUMBER % NUMBERS) as usize] = p as u64;
     }
 }

@@ -24,7 +24,7 @@ pub fn keep_lists(area: Area, ios: &[u64], tables: &[u64], words: &[u64], lists:
 {
     let mut numbers = [0u64; IO_MOST];
     word::slices::copy_in(&mut numbers, 0, ios);
-    crate::keeping::keep_numbers(&numbers, (ios.len() + 3) / 4, lists);
+    crate::keeping::keep_numbers(&numbers, ios.len().div_ceil(4), lists);
     word::slices::copy_in(lists, WORDS, words);
     crate::keeping::keep_ranks(tables, words, &mut lists[RANKS..LISTS]);
 }
@@ -46,9 +46,10 @@ pub fn io_assigned(g: Given, lists: &[u64], k: Reference) -> u64
     ensures { result ≡ slice_index (io_numbers g lists.now) k.0 }
 {
     if k.0 < g.io {
-        return crate::io_number(&lists[..IO_WORDS], k);
+        crate::io_number(&lists[..IO_WORDS], k)
+    } else {
+        0
     }
-    0
 }
 
 // Whether the kept words of a load's tables lie in its area one after the other.

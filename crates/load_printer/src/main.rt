@@ -3,7 +3,7 @@
 #![tactic(auto)]
 
 use calls::Answer;
-use console::{Input, read_block, say, say_line, say_number};
+use console::{Input, read_block};
 use layout::DESK_WORDS;
 use std::io;
 use word::limits::MAP_WORDS;
@@ -18,12 +18,11 @@ const AREA_WORDS: u64 = 64;
 
 // The block's index and what feed answers; the other answers are of the other calls.
 fn say_answer(rt: &impl Print, index: u64, a: Answer) -> io::Result<()> {
-    say_number(rt, index)?;
     match a {
-        Answer::More => say(rt, b" more\n"),
-        Answer::Done(start) => say_line(rt, b" done ", start.0),
-        Answer::Refused(f) => say_line(rt, b" refused ", f.number),
-        _ => say(rt, b"\n"),
+        Answer::More => println!(rt; "{index} more"),
+        Answer::Done(start) => println!(rt; "{index} done {}", start.0),
+        Answer::Refused(f) => println!(rt; "{index} refused {}", f.number),
+        _ => println!(rt; "{index}"),
     }
 }
 
@@ -56,9 +55,10 @@ fn feed_all(
     core: &mut [u64],
     place: u64,
 ) -> io::Result<()> {
-    let mut index: u64 = 0;
-    while index < u64::MAX && feed_next(rt, desk, core, place, index)? {
-        index += 1;
+    for index in 0..u64::MAX {
+        if !feed_next(rt, desk, core, place, index)? {
+            break;
+        }
     }
     Ok(())
 }
@@ -77,6 +77,6 @@ fn main(rt: HostRuntime) -> io::Result<()> {
     let none = &map[..0];
     match calls::open::open_load(&mut desk, &mut core, 0, area, none, none) {
         Answer::Opened(place) => feed_all(&rt, &mut desk, &mut core, place),
-        _ => say(&rt, b"not opened\n"),
+        _ => println!(rt; "not opened"),
     }
 }

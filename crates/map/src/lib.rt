@@ -27,11 +27,8 @@ pub fn read_map(numbers: &[u64]) -> [Stretch; ROOMS]
         len: 0,
     };
     let mut m = [none; ROOMS];
-    let mut r: usize = 0;
-    while r < ROOMS {
-        let s = stretch_of(numbers, r);
-        m[r] = s;
-        r += 1;
+    for r in 0..ROOMS {
+        m[r] = stretch_of(numbers, r);
     }
     m
 }
@@ -41,10 +38,7 @@ pub fn read_map(numbers: &[u64]) -> [Stretch; ROOMS]
 pub fn map_fits(core: u64, numbers: &[u64]) -> bool
     ensures { result ≡ map_obeys core (map_of numbers.now) }
 {
-    if numbers.len() != MAP_WORDS {
-        return pairs_fit(core, numbers);
-    }
-    if in_order(core, numbers) {
+    if numbers.len() == MAP_WORDS && in_order(core, numbers) {
         return true;
     }
     pairs_fit(core, numbers)
@@ -54,10 +48,7 @@ pub fn map_fits(core: u64, numbers: &[u64]) -> bool
 pub fn map_obeys(core: u64, m: [Stretch; ROOMS]) -> bool
     ensures { result ≡ map_obeys core m }
 {
-    if all_in_core(core, m) {
-        return all_apart(m);
-    }
-    false
+    all_in_core(core, m) && all_apart(m)
 }
 
 // The same of any list, two stretches at a time.
@@ -69,17 +60,15 @@ fn pairs_fit(core: u64, numbers: &[u64]) -> bool
 
 // Whether each stretch lies inside the core and starts at or behind the end of those before it; an empty one may start anywhere.
 // What is left of the core behind them tells it: a stretch that starts past the core has a difference that wraps, and so is over
-// it. The loop goes to the list's length, which the caller knows: so it is short here, and compiled into the caller.
+// it. The loop goes to half the list's length, which the caller knows: so it is short here, and compiled into the caller.
 fn in_order(core: u64, numbers: &[u64]) -> bool
     requires { length numbers.now ≡ map_words }
     ensures { result ≡ in_order core 0 (map_of numbers.now) }
 {
     let mut left = core;
-    let mut r: usize = 0;
-    while 2 * r < numbers.len() {
+    for r in 0..numbers.len() / 2 {
         let s = stretch_at(numbers, r);
         let x = std::num::wrapping_sub_u64(core, s.start.0);
-        r += 1;
         if left < x {
             if s.len != 0 {
                 return false;
@@ -97,7 +86,7 @@ fn in_order(core: u64, numbers: &[u64]) -> bool
     true
 }
 
-// Room r's pair of a list that has it.
+// Room r's pair of a list that has it. It stays beside stretch_of, since it is hot and does not ask whether the numbers are there.
 pub fn stretch_at(numbers: &[u64], r: usize) -> Stretch
     requires { (r < room_count) × (length numbers.now ≡ map_words) }
     ensures { result ≡ stretch_of numbers.now r }
@@ -117,51 +106,34 @@ fn stretch_of(numbers: &[u64], r: usize) -> Stretch
     let len = word::word_at(numbers, 2 * r + 1);
     Stretch {
         start: Absolute(start),
-        len: len,
+        len,
     }
 }
 
 fn all_in_core(core: u64, m: [Stretch; ROOMS]) -> bool
     ensures { result ≡ every (in_core core) m }
 {
-    let mut r: usize = 0;
-    while r < ROOMS {
-        let s = m[r];
-        if !word::run_within(s.start.0, s.len, 0, core) {
-            return false;
-        }
-        r += 1;
-    }
-    true
+    m.iter()
+        .all(|s| word::run_within(s.start.0, s.len, 0, core))
 }
 
 // Whether each two share no word: each with those after it.
 fn all_apart(m: [Stretch; ROOMS]) -> bool
     ensures { result ≡ every_two stretches_apart m }
 {
-    let mut r: usize = 0;
-    while r < ROOMS {
-        if !apart_from_later(m, r) {
+    for (r, &s) in m.iter().enumerate() {
+        if !apart_from_later(s, &m[r + 1..]) {
             return false;
         }
-        r += 1;
     }
     true
 }
 
-// Whether room r's stretch shares no word with those of the rooms after it.
-fn apart_from_later(m: [Stretch; ROOMS], r: usize) -> bool
-    requires { r < room_count }
-    ensures { result ≡ every (stretches_apart (slice_index_or m r none)) (drop (r + 1) m) }
+// Whether the stretch shares no word with one of these.
+fn apart_from_later(s: Stretch, later: &[Stretch]) -> bool
+    ensures { result ≡ every (stretches_apart s) later.now }
 {
-    let s = m[r];
-    let mut q = r + 1;
-    while q < ROOMS {
-        let t = m[q];
-        if !word::runs_apart(s.start.0, s.len, t.start.0, t.len) {
-            return false;
-        }
-        q += 1;
-    }
-    true
+    later
+        .iter()
+        .all(|t| word::runs_apart(s.start.0, s.len, t.start.0, t.len))
 }

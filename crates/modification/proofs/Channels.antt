@@ -1,33 +1,28 @@
--- The loop over the first numbers of a kept list, and that these are the first of them all.
-use Prim.Native.Nat.{ℕ, ◌+◌, ◌≤◌, ◌<◌}
-use mathlib.Core.Path.{◌≡◌}
-use mathlib.Core.Bool.{Bool, true, false}
-use mathlib.Core.List.{List}
-use native.Mathlib.Omega.{arith}
-use lib.ListN.{length, take, drop}
-use borrow.Author.Tests.{le-leb, lt-leb}
-use Rattle.word.specs.Lists.{every}
-use Rattle.word.proofs.Lists.{take-tab, every_more, every_fails, every-ends}
+-- The test of the first numbers of a kept list, and that these are the first of them all.
+use Rattle.std.proofs.Common.{◌≡◌, ℕ, zero, suc, ◌≤◌, Bool, ◌&&◌, List, [], ◌∷◌, ◌++◌, map, take, refl, ap, ◌∙◌, add-one, zero-add}
+use Rattle.std.specs.List.{list_all, range_with_len}
+use Rattle.std.proofs.lemmas.List.FromFn.{map-range_with_len_more}
+use Rattle.word.specs.Lists.{every, tab}
+use Rattle.word.proofs.Lists.{take-tab}
 use Rattle.lists.specs.HowKept.{number_in, numbers_in}
-use Rattle.lists.proofs.Kept.{numbers-length, numbers-at}
-use Rattle.modification.specs.Assignments.{channel_most, is_channel}
+use Rattle.modification.specs.Assignments.{is_channel}
 
-module _ (ws : List ℕ) (m k : ℕ) (b : Bool) where
-  long : k < m → k < length (numbers_in ws m)
-  long h = omega (arith, numbers-length ws m)
+every_map : (p : ℕ → Bool) (f : ℕ → ℕ) (l : List ℕ) → list_all (λ (k : ℕ). p (f k)) l ≡ every p (map f l)
+unfolding every
+every_map p f [] = refl
+every_map p f (k ∷ l) = ap (λ (b : Bool). p (f k) && b) (every_map p f l)
 
-  pub channels_more : (r : ℕ) → k < m → r ≡ number_in ws k → r ≤ channel_most
-      → b ≡ every is_channel (drop k (numbers_in ws m)) → b ≡ every is_channel (drop (k + 1) (numbers_in ws m))
-  channels_more r h e l =
-      every_more is_channel 0 (numbers_in ws m) k b (long h) (rw (numbers-at ws m k h, ← e) (le-leb r channel_most l))
+range_tab : (f : ℕ → ℕ) (n : ℕ) → map f (range_with_len 0 n) ≡ tab f n
+unfolding tab
+range_tab f zero = refl
+range_tab f (suc n) =
+    rw add-one at (map-range_with_len_more f 0 n n (zero-add n)) ∙ ap (λ (l : List ℕ). l ++ (f n ∷ [])) (range_tab f n)
 
-  pub channels_fails : (r : ℕ) → k < m → r ≡ number_in ws k → channel_most < r
-      → b ≡ every is_channel (drop k (numbers_in ws m)) → false ≡ b
-  channels_fails r h e l =
-      every_fails is_channel 0 (numbers_in ws m) k b (long h) (rw (numbers-at ws m k h, ← e) (lt-leb r channel_most l))
-
-  pub channels_ends : m ≤ k → b ≡ every is_channel (drop k (numbers_in ws m)) → true ≡ b
-  channels_ends h = every-ends is_channel 0 (numbers_in ws m) k b (omega (arith, numbers-length ws m))
+pub channels_all : (ws : List ℕ) (m : ℕ)
+    → list_all (λ (k : ℕ). is_channel (number_in ws k)) (range_with_len 0 m) ≡ every is_channel (numbers_in ws m)
+unfolding numbers_in
+channels_all ws m =
+    every_map is_channel (number_in ws) (range_with_len 0 m) ∙ ap (every is_channel) (range_tab (number_in ws) m)
 
 pub take-numbers : (ws : List ℕ) (m n : ℕ) → m ≤ n → take m (numbers_in ws n) ≡ numbers_in ws m
 unfolding numbers_in

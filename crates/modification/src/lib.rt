@@ -34,13 +34,9 @@ pub fn assignments_fit(l: Label, g: Given, lists: &[u64]) -> bool
     requires { (Carried l) × (Readable g lists.now) }
     ensures { result ≡ assignments_fit l (io_numbers g lists.now) g.tables }
 {
-    if g.io != l.switches + l.channels + l.units {
-        return false;
-    }
-    if g.tables != l.tables {
-        return false;
-    }
-    channels_fit(&lists[..IO_WORDS], l.switches + l.channels)
+    g.io == l.switches + l.channels + l.units
+        && g.tables == l.tables
+        && channels_fit(&lists[..IO_WORDS], l.switches + l.channels)
 }
 
 // Whether each of the first m I/O numbers is one for a jump switch or a channel.
@@ -48,14 +44,7 @@ fn channels_fit(ios: &[u64], m: u64) -> bool
     requires { m ≤ 4 * length ios.now }
     ensures { result ≡ every is_channel (numbers_in ios.now m) }
 {
-    let mut k: u64 = 0;
-    while k < m {
-        if CHANNEL_MOST < lists::io_number(ios, Reference(k)) {
-            return false;
-        }
-        k += 1;
-    }
-    true
+    (0..m).all(|k| lists::io_number(ios, Reference(k)) <= CHANNEL_MOST)
 }
 
 // How many words the entries of io I/O references and as many core tables take.
@@ -71,7 +60,7 @@ pub fn entry_blocks(io: u64, tables: u64) -> u64
     requires { (io ≤ 2 ^ 16) × (tables ≤ 2 ^ 16) }
     ensures { result ≡ entry_blocks io tables }
 {
-    (entry_words(io, tables) + (ENTRY_WORDS - 1)) / ENTRY_WORDS
+    entry_words(io, tables).div_ceil(ENTRY_WORDS)
 }
 
 // Where entry word k stands, counted from 0 through all entry words.
@@ -119,8 +108,5 @@ pub fn minimum_length(w: u64) -> u64
 pub fn length_fits(exact: bool, least: u64, len: u64) -> bool
     ensures { result ≡ length_fits exact least len }
 {
-    if exact {
-        return len == least;
-    }
-    least <= len
+    if exact { len == least } else { least <= len }
 }

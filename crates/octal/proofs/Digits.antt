@@ -1,53 +1,64 @@
 -- Reading a line digit by digit: what is left of it decides, and k digits spell a number below 8^k.
 use Prim.Native.Nat.{ℕ, suc, ◌+◌, ◌-◌, ◌*◌, ◌^◌, ◌≤◌, ◌<◌}
-use mathlib.Core.Path.{◌≡◌, ◌∙◌}
-use mathlib.Core.Bool.{true, cond, ◌&&◌}
+use mathlib.Core.Path.{◌≡◌, refl, sym, ◌∙◌}
+use mathlib.Core.Bool.{Bool, true, false, cond, ◌&&◌}
 use mathlib.Core.List.{List, [], ◌∷◌}
 use native.Mathlib.Omega.{arith}
-use native.Mathlib.Nat.{pow-le-pow_right, add-sub_cancel_left}
+use native.Mathlib.Nat.{pow-le-pow_right}
+use native.Mathlib.Numerals.{add-one}
 use lib.Pow.{pow-add}
-use lib.ListN.{length, get_or}
+use lib.ListN.{length, get_or, take, drop, drop_of_length-le}
+use lib.Seq.{drop-cons}
 use lib.Dec.{eqb, leb}
 use borrow.Author.Tests.{le-leb, lt-leb, leb-true}
 use Rattle.word.specs.Lists.{every, range}
-use Rattle.word.proofs.Cases.{and_left, and_right, when}
-use Rattle.word.proofs.Lists.{range_turn, range_end, length-range_most}
+use Rattle.word.proofs.Cases.{and_left, and_right, when, by-lt}
+use Rattle.word.proofs.Lists.{length-range, range-lent, length-range_most}
 use Rattle.octal.specs.Lines.{is_octal, newline, octal, line_at, word_of}
-use Rattle.octal.specs.declared.Line.{Line}
-use Rattle.octal.specs.declared.Line.TheVariants.{Word, Bad}
+use Rattle.std.proofs.Common.{Option, Some, None}
+use Rattle.std.specs.Bool.{then_some}
 
--- the line at place a, of which the digits before place i spelt w
-unfoldable pub rest : List ℕ → ℕ → ℕ → ℕ → Line
-rest text a i w =
-    cond (every is_octal (range text i (a + 12 - i)) && eqb (get_or text (a + 12) 0) newline)
-    (Word (octal w (range text i (a + 12 - i))))
-    Bad
+-- the line at place a, of which the first k digits spelt w
+unfoldable pub rest : List ℕ → ℕ → ℕ → ℕ → Option ℕ
+rest text a k w =
+    cond (every is_octal (drop k (range text a 12)) && eqb (get_or text (a + 12) 0) newline)
+    (Some (octal w (drop k (range text a 12))))
+    None
 
-pub rest_all : (text : List ℕ) (a : ℕ) → line_at text a ≡ rest text a a 0
+pub rest_all : (text : List ℕ) (a : ℕ) → line_at text a ≡ rest text a 0 0
 unfolding rest line_at
-rest_all text a = rw (add-sub_cancel_left a 12)
+rest_all text a = refl
 
-module _ (text : List ℕ) (a i w : ℕ) (r : Line) (q : r ≡ rest text a i w) where
-  -- a digit more
-  pub rest_more : i < a + 12 → a + 12 ≤ length text → 48 ≤ get_or text i 0 → get_or text i 0 ≤ 55
-      → r ≡ rest text a (i + 1) (w * 8 + (get_or text i 0 - 48))
-  unfolding rest every octal
-  rest_more h k l m =
-      q ∙ rw (range_turn text i (a + 12) h k, le-leb 48 (get_or text i 0) l, le-leb (get_or text i 0) 55 m)
+then_some-cond : (b : Bool) (w : ℕ) → then_some b w ≡ cond b (Some w) None
+then_some-cond true w = refl
+then_some-cond false w = refl
 
-  -- no digit
-  pub rest_low : i < a + 12 → a + 12 ≤ length text → get_or text i 0 < 48 → Bad ≡ r
-  unfolding rest every octal
-  rest_low h k l = rw (q, range_turn text i (a + 12) h k, lt-leb 48 (get_or text i 0) l)
+module _ (text : List ℕ) (a k w : ℕ) (r : Option ℕ) (fits : a + 13 ≤ length text) (q : r ≡ rest text a k w) where
+  -- a digit d more, of the part that the code reads
+  module _ (d : ℕ) (e : d ≡ get_or (take (a + 12 - a) (drop a text)) k 0) (h : k < 12) where
+    turn : drop k (range text a 12) ≡ d ∷ drop (k + 1) (range text a 12)
+    turn =
+        let n = length-range text a 12 (omega arith) in
+        rw (e, range-lent text a 12, add-one k) (drop-cons (range text a 12) k 0 (omega arith))
 
-  pub rest_high : i < a + 12 → a + 12 ≤ length text → 48 ≤ get_or text i 0 → 55 < get_or text i 0 → Bad ≡ r
-  unfolding rest every octal
-  rest_high h k l m = rw (q, range_turn text i (a + 12) h k, le-leb 48 (get_or text i 0) l, lt-leb (get_or text i 0) 55 m)
+    pub rest_more : (v : ℕ) → v ≡ d - 48 → 48 ≤ d → d ≤ 55 → r ≡ rest text a (k + 1) (w * 8 + v)
+    unfolding rest every octal
+    rest_more v f l m = q ∙ rw (turn, le-leb 48 d l, le-leb d 55 m, f)
+
+    -- no digit
+    pub rest_bad : (48 ≤ d → d ≤ 55 → ⊥) → None ≡ r
+    unfolding rest every octal
+    rest_bad g =
+        by-lt d 48
+        (λ l. rw (q, turn, lt-leb 48 d l))
+        (λ l. rw (q, turn, le-leb 48 d l, lt-leb d 55 (omega arith)))
 
   -- all twelve were digits
-  pub rest_end : a + 12 ≤ i → r ≡ cond (eqb (get_or text (a + 12) 0) newline) (Word w) Bad
+  pub rest_end : 12 ≤ k → then_some (eqb (get_or text (a + 12) 0) newline) w ≡ r
   unfolding rest every octal
-  rest_end h = q ∙ rw (range_end text i (a + 12) h)
+  rest_end h =
+      let n = length-range text a 12 (omega arith) in
+      then_some-cond _ w ∙ sym (q ∙ rw (drop_of_length-le (range text a 12) {i = k} (omega arith)))
 
 -- k digits, and one more
 pub below_more : (k w d : ℕ) → w < 8 ^ k → d < 8 → w * 8 + d < 8 ^ (k + 1)
@@ -71,7 +82,7 @@ octal_below k w (d ∷ ds) q h =
 pub line_word_lem : (text : List ℕ) (a : ℕ) → word_of (line_at text a) < 2 ^ 36
 unfolding line_at
 line_word_lem text a =
-    when (λ (l : Line). word_of l < 2 ^ 36) (every is_octal (range text a 12) && eqb (get_or text (a + 12) 0) newline)
+    when (λ (l : Option ℕ). word_of l < 2 ^ 36) (every is_octal (range text a 12) && eqb (get_or text (a + 12) 0) newline)
     (λ q. below_most 12 (0 + length (range text a 12)) _ (omega (arith, length-range_most text a 12))
     (octal_below 0 0 (range text a 12) (and_left (every is_octal (range text a 12)) _ q) (omega arith)))
     (λ q. omega arith)

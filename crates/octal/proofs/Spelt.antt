@@ -15,7 +15,7 @@ use Rattle.word.proofs.Every.{every-place, every_by}
 use Rattle.word.proofs.Lists.{length-tab, get_d_tab}
 use Rattle.octal.specs.Lines.{is_octal, is_good, newline, octal, line_at, line, line_word, is_block, block_of}
 use Rattle.octal.specs.Text.{octal_digit, octal_digits, line_of, text_of}
-use Rattle.octal.specs.declared.Line.TheVariants.{Word, Bad}
+use Rattle.std.proofs.Common.{Some, None}
 use Rattle.octal.proofs.Written.{length_digits, text_append, length_before}
 
 -- ---- a word's digits are octal, and spell it
@@ -66,7 +66,7 @@ module _ (p q : List ℕ) (w : ℕ) where
       ∙ ap (λ (l : List ℕ). get_or l 12 0) (append_assoc (octal_digits w) (newline ∷ []) q)
       ∙ get_or_at (octal_digits w) newline q 0 12 (length_digits w)
 
-  pub line-spelt : w < 2 ^ 36 → line_at (p ++ (line_of w ++ q)) (length p) ≡ Word w
+  pub line-spelt : w < 2 ^ 36 → line_at (p ++ (line_of w ++ q)) (length p) ≡ Some w
   unfolding line_at
   line-spelt h = rw (twelve, behind, digits-octal w, digits_spell w h)
 
@@ -77,7 +77,7 @@ module _ (ws : List ℕ) (n : length ws ≡ words_in_block) (good : every is_wor
   unfolding text_of
   around i h = ap text_of (split_at ws i 0 (omega arith)) ∙ text_append (take i ws) (get_or ws i 0 ∷ drop (suc i) ws)
 
-  line_back : (i : ℕ) → i < 256 → line (text_of ws) i ≡ Word (get_or ws i 0)
+  line_back : (i : ℕ) → i < 256 → line (text_of ws) i ≡ Some (get_or ws i 0)
   line_back i h =
       ap (λ (t : List ℕ). line t i) (around i h)
       ∙ ap (line_at _) (sym (length_before ws i (omega arith)))
@@ -88,8 +88,8 @@ module _ (ws : List ℕ) (n : length ws ≡ words_in_block) (good : every is_wor
   unfolding is_block
   text_is_block =
       let m : length (tab (line (text_of ws)) 256) ≡ words_in_block = length-tab (line (text_of ws)) 256 in
-      every_by Bad is_good (tab (line (text_of ws)) 256)
-      (λ i h. rw (get_d_tab (line (text_of ws)) 256 i Bad (omega arith), line_back i (omega arith)))
+      every_by None is_good (tab (line (text_of ws)) 256)
+      (λ i h. rw (get_d_tab (line (text_of ws)) 256 i None (omega arith), line_back i (omega arith)))
 
   pub block_back : block_of (text_of ws) ≡ ws
   unfolding block_of
@@ -99,18 +99,18 @@ module _ (ws : List ℕ) (n : length ws ≡ words_in_block) (good : every is_wor
       (λ i h. rw (get_d_tab (line_word (text_of ws)) 256 i 0 (omega arith), line_back i (omega arith)))
 
 -- ---- no lines: with a digit 8, of eleven digits, of thirteen, with no newline
-pub digit_eight : line_at (replicate 11 48 ++ (56 ∷ newline ∷ [])) 0 ≡ Bad
+pub digit_eight : line_at (replicate 11 48 ++ (56 ∷ newline ∷ [])) 0 ≡ None
 unfolding line_at every range
 digit_eight = refl
 
-pub eleven_digits : line_at (replicate 11 48 ++ (newline ∷ newline ∷ [])) 0 ≡ Bad
+pub eleven_digits : line_at (replicate 11 48 ++ (newline ∷ newline ∷ [])) 0 ≡ None
 unfolding line_at every range
 eleven_digits = refl
 
-pub thirteen_digits : line_at (replicate 13 48 ++ (newline ∷ [])) 0 ≡ Bad
+pub thirteen_digits : line_at (replicate 13 48 ++ (newline ∷ [])) 0 ≡ None
 unfolding line_at every range
 thirteen_digits = refl
 
-pub no_newline : line_at (replicate 12 48) 0 ≡ Bad
+pub no_newline : line_at (replicate 12 48) 0 ≡ None
 unfolding line_at every range
 no_newline = refl

@@ -15,8 +15,7 @@ use Rattle.word.proofs.Cases.{and_assoc, and_true}
 use Rattle.word.proofs.Every.{every-place, every_by}
 use Rattle.word.proofs.Lists.{length-tab, get_d_tab}
 use Rattle.octal.specs.Lines.{is_good, word_of, line, line_word, is_block, block_of}
-use Rattle.octal.specs.declared.Line.{Line}
-use Rattle.octal.specs.declared.Line.TheVariants.{Word, Bad}
+use Rattle.std.proofs.Common.{Option, Some, None}
 use Rattle.octal.proofs.Digits.{line_word_lem}
 
 -- g: the lines before line i are good
@@ -32,7 +31,7 @@ module _ (text : List ℕ) (g : Bool) (i : ℕ) (b : Bool) (q : b ≡ good_from 
   unfolding good_from every
   good_more f h e =
       let n : length (tab (line text) 256) ≡ words_in_block = length-tab (line text) 256 in
-      q ∙ rw (drop-cons (tab (line text) 256) i Bad (omega arith), get_d_tab (line text) 256 i Bad h, add-one, e)
+      q ∙ rw (drop-cons (tab (line text) 256) i None (omega arith), get_d_tab (line text) 256 i None h, add-one, e)
       (sym (and_assoc g (is_good (line text i)) _))
 
   pub good_end : 256 ≤ i → g ≡ b
@@ -54,13 +53,13 @@ block_words text =
     (λ i h. rw (get_d_tab (line_word text) 256 i 0 (omega arith)) (lt-ltb (line_word text i) (2 ^ 36) (line_word_lem text (i * 13))))
 
 -- where all lines are good, word i of the block is what line i says
-pub block-line : (text : List ℕ) (i : ℕ) → is_block text ≡ true → i < 256 → line text i ≡ Word (get_or (block_of text) i 0)
+pub block-line : (text : List ℕ) (i : ℕ) → is_block text ≡ true → i < 256 → line text i ≡ Some (get_or (block_of text) i 0)
 unfolding is_block block_of
 block-line text i q h =
     let n : length (tab (line text) 256) ≡ words_in_block = length-tab (line text) 256 in
     rw (get_d_tab (line_word text) 256 i 0 h)
-    (said (line text i) (rw (get_d_tab (line text) 256 i Bad h) at (every-place Bad is_good (tab (line text) 256) i (omega arith) q)))
+    (said (line text i) (rw (get_d_tab (line text) 256 i None h) at (every-place None is_good (tab (line text) 256) i (omega arith) q)))
   where
-    said : (l : Line) → is_good l ≡ true → l ≡ Word (word_of l)
-    said (Word w) g = refl
-    said Bad g = absurd (false≢true g)
+    said : (l : Option ℕ) → is_good l ≡ true → l ≡ Some (word_of l)
+    said (Some w) g = refl
+    said None g = absurd (false≢true g)

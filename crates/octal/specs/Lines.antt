@@ -1,8 +1,6 @@
 -- The text that the programs read: "12 octal digits a line", 256 lines to a block. A line is 13 bytes: its digits and a newline.
-use Rattle.std.specs.Prelude.{ℕ, ◌+◌, ◌*◌, ◌-◌, Bool, true, false, cond, ◌&&◌, ◌||◌, List, [], ◌∷◌, get_or, set, eqb, leb}
+use Rattle.std.specs.Prelude.{ℕ, ◌+◌, ◌*◌, ◌-◌, Bool, cond, ◌&&◌, ◌||◌, List, [], ◌∷◌, get_or, set, eqb, leb, Option, Some, None, is_some, unwrap_or}
 use Rattle.word.specs.Lists.{every, tab, range}
-use Rattle.octal.specs.declared.Line.{Line}
-use Rattle.octal.specs.declared.Line.TheVariants.{Word, Bad}
 
 -- a line's digits, its bytes with the newline, the lines of a block and the bytes of its text
 abbrev pub digit_count : ℕ
@@ -29,24 +27,22 @@ unfoldable pub octal : ℕ → List ℕ → ℕ
 octal w [] = w
 octal w (d ∷ ds) = octal (w * 8 + (d - 48)) ds
 
--- the line whose first byte is at place a
-unfoldable pub line_at : List ℕ → ℕ → Line
+-- the word of the line whose first byte is at place a; none, if it is a bad line
+unfoldable pub line_at : List ℕ → ℕ → Option ℕ
 line_at text a =
     cond (every is_octal (range text a digit_count) && eqb (get_or text (a + digit_count) 0) newline)
-    (Word (octal 0 (range text a digit_count)))
-    Bad
+    (Some (octal 0 (range text a digit_count)))
+    None
 
-abbrev pub is_good : Line → Bool
-is_good (Word w) = true
-is_good Bad = false
+abbrev pub is_good : Option ℕ → Bool
+is_good l = is_some l
 
 -- a bad line has no word: 0 stands for it, and the block that it is in is not fed
-abbrev pub word_of : Line → ℕ
-word_of (Word w) = w
-word_of Bad = 0
+abbrev pub word_of : Option ℕ → ℕ
+word_of l = unwrap_or l 0
 
 -- line i of a text, and its word
-abbrev pub line : List ℕ → ℕ → Line
+abbrev pub line : List ℕ → ℕ → Option ℕ
 line text i = line_at text (i * line_bytes)
 
 abbrev pub line_word : List ℕ → ℕ → ℕ

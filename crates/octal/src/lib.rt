@@ -3,7 +3,7 @@
 
 ghost use Rattle.std.specs.Prelude.{◌≡◌, ◌+◌, ◌≤◌, ◌<◌, length};
 ghost use Rattle.word.specs.Lists.{splice};
-ghost use Rattle.octal.specs.Lines.{line_at, is_good, word_of, is_block, block_of, is_whole, ended, text_bytes, line_count};
+ghost use Rattle.octal.specs.Lines.{line_at, is_block, block_of, is_whole, ended, text_bytes, line_count};
 ghost use Rattle.octal.specs.Text.{octal_digit, line_of, text_of};
 
 // The digits of a line, its bytes with the newline, the lines of a block, and the bytes of a block's text.
@@ -17,57 +17,38 @@ pub const TEXT: usize = LINES * LINE;
 
 const TEXT_UNENDED: usize = TEXT - 1;
 
-const NEWLINE: u8 = 10;
+const NEWLINE: u8 = b'\n';
 
-const DIGIT_0: u8 = 48;
+const DIGIT_0: u8 = b'0';
 
-const DIGIT_7: u8 = 55;
+const DIGIT_7: u8 = b'7';
 
-// What a line says.
-#[derive(Clone, Copy)]
-pub enum Line {
-    Word(u64),
-    Bad,
-}
-
-// The line whose first byte is at place a.
-pub fn read_line(text: &[u8], a: usize) -> Line
+// The word of the line whose first byte is at place a, if it is one.
+pub fn read_line(text: &[u8], a: usize) -> Option<u64>
     requires { a + 13 ≤ length text.now }
     ensures { result ≡ line_at text.now a }
 {
     let last = a + DIGITS;
     let mut w: u64 = 0;
-    let mut i = a;
-    while i < last {
-        let d = text[i];
-        if d < DIGIT_0 {
-            return Line::Bad;
+    for &d in &text[a..last] {
+        if d < DIGIT_0 || DIGIT_7 < d {
+            return None;
         }
-        if DIGIT_7 < d {
-            return Line::Bad;
-        }
-        w = w * 8 + (d - DIGIT_0) as u64;
-        i += 1;
+        w = w * 8 + u64::from(d - DIGIT_0);
     }
-    if text[last] != NEWLINE {
-        return Line::Bad;
-    }
-    Line::Word(w)
+    (text[last] == NEWLINE).then_some(w)
 }
 
 // Whether the n bytes that came are a block's text. The last newline is put where it is missing.
+#[tactic(auto, unfolding(crate::specs::Lines::is_whole, crate::specs::Lines::ended))]
 pub fn end_text(text: &mut [u8], n: usize) -> bool
     requires { length text.old ≡ text_bytes }
     ensures { (result ≡ is_whole n) × (text.new ≡ ended text.old n) }
 {
-    if n == TEXT {
-        return true;
-    }
     if n == TEXT_UNENDED {
         text[TEXT_UNENDED] = NEWLINE;
-        return true;
     }
-    false
+    n == TEXT || n == TEXT_UNENDED
 }
 
 // The block that the text spells, and whether all its lines are good.
@@ -76,12 +57,10 @@ pub fn read_lines(text: &[u8], block: &mut [u64]) -> bool
     ensures { (result ≡ is_block text.now) × (block.new ≡ block_of text.now) }
 {
     let mut good = true;
-    let mut i: usize = 0;
-    while i < LINES {
-        let l = read_line(text, i * LINE);
-        block[i] = word_of(l);
-        good = good & is_good(l);
-        i += 1;
+    for i in 0..LINES {
+        let line = read_line(text, i * LINE);
+        block[i] = line.unwrap_or(0);
+        good &= line.is_some();
     }
     good
 }
@@ -91,10 +70,8 @@ pub fn write_lines(block: &[u64], text: &mut [u8])
     requires { (length block.now ≡ line_count) × (length text.old ≡ text_bytes) }
     ensures { text.new ≡ text_of block.now }
 {
-    let mut i: usize = 0;
-    while i < LINES {
+    for i in 0..LINES {
         write_line(text, i * LINE, block[i]);
-        i += 1;
     }
 }
 
@@ -103,10 +80,8 @@ fn write_line(text: &mut [u8], a: usize, w: u64)
     requires { a + 13 ≤ length text.old }
     ensures { text.new ≡ splice text.old a (line_of w) }
 {
-    let mut i: usize = 0;
-    while i < DIGITS {
+    for i in 0..DIGITS {
         text[a + i] = digit_at(w, i);
-        i += 1;
     }
     text[a + DIGITS] = NEWLINE;
 }
@@ -117,23 +92,4 @@ fn digit_at(w: u64, i: usize) -> u8
     ensures { result ≡ octal_digit w i }
 {
     DIGIT_0 + ((w >> (33 - 3 * i)) % 8) as u8
-}
-
-fn is_good(l: Line) -> bool
-    ensures { result ≡ is_good l }
-{
-    match l {
-        Line::Word(_) => true,
-        Line::Bad => false,
-    }
-}
-
-// The word of a line, 0 for a bad one.
-fn word_of(l: Line) -> u64
-    ensures { result ≡ word_of l }
-{
-    match l {
-        Line::Word(w) => w,
-        Line::Bad => 0,
-    }
 }

@@ -19,7 +19,8 @@ use Rattle.block.specs.Records.{checksum_place}
 use Rattle.block.specs.Checksum.{checksum, others}
 use Rattle.block.specs.Block.{whole_block, seal_verdict, verdict}
 use Rattle.block.specs.declared.Record.TheVariants.{Label, Program}
-use Rattle.block.specs.declared.Verdict.TheVariants.{Pass, Refused}
+use Rattle.word.specs.Fault.{pass}
+use Rattle.std.specs.Prelude.{Err}
 use Rattle.block.proofs.Records.{place_small}
 use Rattle.block.proofs.Checksum.{words_others, length-others, others-set, checksum_word}
 use Rattle.block.proofs.OnePass.{whole_long, whole_words, agreed_passed, differing_refused, passed_known}
@@ -96,7 +97,7 @@ module _ (p : ℕ) (l : List ℕ) (small : p < words_in_block) (whole : whole_bl
       ∙ set-set l p (checksum (others p l)) (checksum (others p l))
 
 -- ---- resealing
-resealed_pass : (index : ℕ) (block : List ℕ) → old_verdict index block ≡ Pass
+resealed_pass : (index : ℕ) (block : List ℕ) → old_verdict index block ≡ pass
     → resealed index block ≡ sealed_anew (seal_place index) block
 unfolding resealed
 resealed_pass index block e = rw e
@@ -105,7 +106,7 @@ pub untouched : Untouched
 unfolding resealed
 untouched index block f e = rw e
 
-passed_whole : (index : ℕ) (block : List ℕ) → old_verdict index block ≡ Pass → whole_block block ≡ true
+passed_whole : (index : ℕ) (block : List ℕ) → old_verdict index block ≡ pass → whole_block block ≡ true
 unfolding old_verdict
 passed_whole index block e = (passed_known old_checksum (seal_place index) block e).0
 
@@ -115,7 +116,7 @@ passes_anew index block e =
     (sealed_anew_lem (seal_place index) block (seal_place_small index) (passed_whole index block e))
 
 -- whatever the old rule makes of a block that is sealed anew, it is left as it is
-left_anew : (b : Bool) (p : ℕ) (l : List ℕ) → sealed_anew p l ≡ l → left_by (cond b (Refused (fault 12)) Pass) p l ≡ l
+left_anew : (b : Bool) (p : ℕ) (l : List ℕ) → sealed_anew p l ≡ l → left_by (cond b (Err (fault 12)) pass) p l ≡ l
 left_anew true p l e = refl
 left_anew false p l e = e
 
@@ -131,10 +132,10 @@ resealed_again index block e =
     )
 
 -- ---- so the ways in which the code ends
-pub refused_reseals : (index : ℕ) (block : List ℕ) (n : ℕ) → Refused (fault n) ≡ old_verdict index block
-    → Reseals index block (Refused (fault n)) block
+pub refused_reseals : (index : ℕ) (block : List ℕ) (n : ℕ) → Err (fault n) ≡ old_verdict index block
+    → Reseals index block (Err (fault n)) block
 refused_reseals index block n e = record { told = e; block-left = sym (untouched index block (fault n) (sym e)) }
 
-pub passed_reseals : (index : ℕ) (block after : List ℕ) → Pass ≡ old_verdict index block → after ≡ sealed_anew (seal_place index) block
-    → Reseals index block Pass after
+pub passed_reseals : (index : ℕ) (block after : List ℕ) → pass ≡ old_verdict index block → after ≡ sealed_anew (seal_place index) block
+    → Reseals index block pass after
 passed_reseals index block after e a = record { told = e; block-left = a ∙ sym (resealed_pass index block (sym e)) }

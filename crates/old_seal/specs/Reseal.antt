@@ -1,12 +1,11 @@
 -- Resealing (#104): "a small program reseals a file, block by block, once the old rule has passed". A block is known by its index
 -- in the file, 0 for the label; its record and what else stands in it are not looked at.
-use Rattle.std.specs.Prelude.{ℕ, ◌≡◌, cond, List, set, eqb}
+use Rattle.std.specs.Prelude.{ℕ, ◌≡◌, cond, List, set, eqb, Ok, Err}
 use Rattle.block.specs.Records.{checksum_place}
 use Rattle.block.specs.Checksum.{checksum, others}
+use Rattle.word.specs.Fault.{Verdict}
 use Rattle.block.specs.Block.{seal_verdict}
 use Rattle.block.specs.declared.Record.TheVariants.{Label, Program}
-use Rattle.block.specs.declared.Verdict.{Verdict}
-use Rattle.block.specs.declared.Verdict.TheVariants.{Pass, Refused}
 use Rattle.old_seal.specs.OldRule.{old_checksum}
 
 -- where a block has its checksum: word 254 of the label, word 255 of any other
@@ -23,8 +22,8 @@ sealed_anew p block = set block p (checksum (others p block))
 
 -- what is left of a block: refused, it is as it was
 abbrev pub left_by : Verdict → ℕ → List ℕ → List ℕ
-left_by Pass p block = sealed_anew p block
-left_by (Refused f) p block = block
+left_by (Ok done) p block = sealed_anew p block
+left_by (Err f) p block = block
 
 unfoldable pub resealed : ℕ → List ℕ → List ℕ
 resealed index block = left_by (old_verdict index block) (seal_place index) block

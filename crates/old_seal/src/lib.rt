@@ -4,9 +4,9 @@
 ghost use Rattle.std.specs.Prelude.{◌≡◌};
 ghost use Rattle.old_seal.specs.Reseal.{seal_place, Reseals};
 
-use block::{Record, Summed, Verdict};
-use word::WORD_LIMIT;
-use word::faults::{FAULT_11, FAULT_12};
+use block::Record;
+use word::faults::FAULT_12;
+use word::{Fault, WORD_LIMIT};
 
 // The word that holds the checksum of the block with this index in its file; 0 is the label.
 fn seal_place(index: u64) -> usize
@@ -20,22 +20,18 @@ fn seal_place(index: u64) -> usize
 }
 
 // Refusals 11 and 12 by the old rule; where it passes, the checksum word is written anew, and no other word.
-pub fn reseal(words: &mut [u64], index: u64) -> Verdict
+pub fn reseal(words: &mut [u64], index: u64) -> Result<(), Fault>
     ensures { Reseals index words.old result words.new }
 {
     let p = seal_place(index);
-    match block::sum_words(words) {
-        Summed::NoBlock => Verdict::Refused(FAULT_11),
-        Summed::Sum(s) => {
-            let seal = words[p];
-            let others = s - seal;
-            let old = block::fold(others % WORD_LIMIT);
-            if old != seal {
-                return Verdict::Refused(FAULT_12);
-            }
-            let new = block::seal_of(others);
-            words[p] = new;
-            Verdict::Pass
-        }
+    let s = block::sum_words(words)?;
+    let seal = words[p];
+    let others = s - seal;
+    let old = block::fold(others % WORD_LIMIT);
+    if old != seal {
+        return Err(FAULT_12);
     }
+    let new = block::seal_of(others);
+    words[p] = new;
+    Ok(())
 }

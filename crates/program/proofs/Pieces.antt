@@ -6,7 +6,7 @@ use mathlib.Core.List.{List, [], ◌∷◌}
 use mathlib.Core.Logic.{inl, inr}
 use lib.ListN.{get_or}
 use Rattle.program.specs.declared.Group.{Group}
-use Rattle.program.specs.declared.GroupRead.TheVariants.{Good}
+use Rattle.std.specs.Prelude.{Ok}
 use Rattle.program.specs.Groups.{group_of}
 use Rattle.program.specs.Pieces.{closes, Head, head_at, Piece, after, piece_then, pieces_from, OneOf}
 use Rattle.program.specs.Pieces.Head.{GroupHead}
@@ -29,7 +29,7 @@ module _ (block : List ℕ) (i : ℕ) where
     pieces_on h e = rw (more, e)
 
     -- the group that stands there is one of them
-    pub group_here : (g : Group) → group_of (get_or block i 0) ≡ Good g
+    pub group_here : (g : Group) → group_of (get_or block i 0) ≡ Ok g
         → OneOf (record { block = block; at = i; head = GroupHead g }) (pieces_from (suc n) block i)
     unfolding OneOf
     group_here g e = rw (pieces_on (GroupHead g) (head_group block i g e)) (inl refl)

@@ -1,12 +1,11 @@
 -- A group's identifier (01, "Program blocks"): "bits 35-34 are 10, bits 33-26 the words after the identifier, bits 25-18 the
 -- program words (at least 1), bit 17 set on the section's last group, bit 16 zero for the IBANK and set for the DBANK or a table
 -- section, bits 15-0 the relative address". A word that is none where a group is due is refused with 18.
-use Rattle.std.specs.Prelude.{ℕ, cond, eqb}
+use Rattle.std.specs.Prelude.{ℕ, cond, eqb, Result, Ok, Err}
 use Rattle.word.specs.Word.{bits, bit, is_set}
 use Rattle.word.specs.Fault.{fault}
+use Rattle.word.specs.declared.Fault.{Fault}
 use Rattle.program.specs.declared.Group.{Group}
-use Rattle.program.specs.declared.GroupRead.{GroupRead}
-use Rattle.program.specs.declared.GroupRead.TheVariants.{Good, Bad}
 
 abbrev pub group_in : ℕ → Group
 group_in w = record {
@@ -17,8 +16,8 @@ group_in w = record {
   at = record { 0 = bits 15 0 w };
 }
 
-unfoldable pub group_of : ℕ → GroupRead
+unfoldable pub group_of : ℕ → Result Group Fault
 group_of w =
     cond (eqb (bits 35 34 w) 2)
-    (cond (eqb (bits 25 18 w) 0) (Bad (fault 18)) (Good (group_in w)))
-    (Bad (fault 18))
+    (cond (eqb (bits 25 18 w) 0) (Err (fault 18)) (Ok (group_in w)))
+    (Err (fault 18))

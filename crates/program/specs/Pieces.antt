@@ -1,15 +1,10 @@
 -- A program block cut into its pieces, by what each head word says of itself: no load, no desk and no stage in it. What is due where
 -- a piece stands, and whether it may stand there, is the loader's to say (crate `sections`); here is only seen where each begins.
-use Rattle.std.specs.Prelude.{ℕ, zero, suc, ◌+◌, ◌≡◌, Bool, cond, ◌||◌, List, [], ◌∷◌, ◌⊎◌, get_or, eqb, leb}
+use Rattle.std.specs.Prelude.{ℕ, zero, suc, ◌+◌, ◌≡◌, Bool, cond, ◌||◌, List, [], ◌∷◌, ◌⊎◌, get_or, eqb, leb, Result, Ok, Err}
+use Rattle.word.specs.declared.Fault.{Fault}
 use Rattle.program.specs.declared.Segment.{Segment}
-use Rattle.program.specs.declared.SegmentRead.{SegmentRead}
-use Rattle.program.specs.declared.SegmentRead.TheVariants.{Good as segment-read, Bad as no-segment}
 use Rattle.program.specs.declared.TableSection.{TableSection}
-use Rattle.program.specs.declared.TableSectionRead.{TableSectionRead}
-use Rattle.program.specs.declared.TableSectionRead.TheVariants.{Good as section-read, Bad as no-section}
 use Rattle.program.specs.declared.Group.{Group}
-use Rattle.program.specs.declared.GroupRead.{GroupRead}
-use Rattle.program.specs.declared.GroupRead.TheVariants.{Good as group_read_lem, Bad as no-group}
 use Rattle.program.specs.Sections.{segment_of, table_section_of, last_word}
 use Rattle.program.specs.Groups.{group_of}
 
@@ -24,17 +19,17 @@ pub data Head : Type 0 where
   GroupHead : Group → Head
   NoHead : Head
 
-abbrev pub by_group : GroupRead → Head → Head
-by_group (group_read_lem g) else = GroupHead g
-by_group (no-group f) else = else
+abbrev pub by_group : Result Group Fault → Head → Head
+by_group (Ok g) else = GroupHead g
+by_group (Err f) else = else
 
-abbrev pub by_section : TableSectionRead → Head → Head
-by_section (section-read t) else = TableHead t
-by_section (no-section f) else = else
+abbrev pub by_section : Result TableSection Fault → Head → Head
+by_section (Ok t) else = TableHead t
+by_section (Err f) else = else
 
-abbrev pub by_segment : SegmentRead → Head
-by_segment (segment-read g) = SegmentHead g
-by_segment (no-segment f) = NoHead
+abbrev pub by_segment : Result Segment Fault → Head
+by_segment (Ok g) = SegmentHead g
+by_segment (Err f) = NoHead
 
 unfoldable pub head_at : List ℕ → ℕ → Head
 head_at block i =

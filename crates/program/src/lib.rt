@@ -21,21 +21,9 @@ pub struct Bank {
 }
 
 #[derive(Clone, Copy)]
-pub enum BankRead {
-    Good(Bank),
-    Bad(Fault),
-}
-
-#[derive(Clone, Copy)]
 pub struct Segment {
     pub ibank: Bank,
     pub dbank: Bank,
-}
-
-#[derive(Clone, Copy)]
-pub enum SegmentRead {
-    Good(Segment),
-    Bad(Fault),
 }
 
 // A table section: which core table it fills, and how many of its words it may store.
@@ -43,12 +31,6 @@ pub enum SegmentRead {
 pub struct TableSection {
     pub number: Reference,
     pub count: u64,
-}
-
-#[derive(Clone, Copy)]
-pub enum TableSectionRead {
-    Good(TableSection),
-    Bad(Fault),
 }
 
 // A group: how many words follow its identifier, how many of them are program words, whether it is its section's last, whether
@@ -62,78 +44,66 @@ pub struct Group {
     pub at: Relative,
 }
 
-#[derive(Clone, Copy)]
-pub enum GroupRead {
-    Good(Group),
-    Bad(Fault),
-}
-
 // A bank word: 17 where one of the bits 35, 34, 17 and 16 is set.
-pub fn read_bank(w: u64) -> BankRead
+pub fn read_bank(w: u64) -> Result<Bank, Fault>
     ensures { result ≡ bank_of w }
 {
     if word::bits(w, 35, 34) != 0 {
-        return BankRead::Bad(FAULT_17);
+        return Err(FAULT_17);
     }
     if word::bits(w, 17, 16) != 0 {
-        return BankRead::Bad(FAULT_17);
+        return Err(FAULT_17);
     }
-    BankRead::Good(Bank {
+    Ok(Bank {
         at: Relative(word::bits(w, 15, 0)),
         count: word::bits(w, 33, 18),
     })
 }
 
 // The two bank words of a segment section; 17 also where the IBANK has no word.
-pub fn read_segment(first: u64, second: u64) -> SegmentRead
+pub fn read_segment(first: u64, second: u64) -> Result<Segment, Fault>
     ensures { result ≡ segment_of first second }
 {
-    match read_bank(first) {
-        BankRead::Good(ibank) => {
-            if ibank.count == 0 {
-                return SegmentRead::Bad(FAULT_17);
-            }
-            match read_bank(second) {
-                BankRead::Good(dbank) => SegmentRead::Good(Segment { ibank, dbank }),
-                BankRead::Bad(f) => SegmentRead::Bad(f),
-            }
-        }
-        BankRead::Bad(f) => SegmentRead::Bad(f),
+    let ibank = read_bank(first)?;
+    if ibank.count == 0 {
+        return Err(FAULT_17);
     }
+    let dbank = read_bank(second)?;
+    Ok(Segment { ibank, dbank })
 }
 
 // A table section's word: 17 where bits 35-34 are not 01, bits 17-8 not zero, or the count is 0.
-pub fn read_table_section(w: u64) -> TableSectionRead
+pub fn read_table_section(w: u64) -> Result<TableSection, Fault>
     ensures { result ≡ table_section_of w }
 {
     if word::bits(w, 35, 34) != 1 {
-        return TableSectionRead::Bad(FAULT_17);
+        return Err(FAULT_17);
     }
     if word::bits(w, 17, 8) != 0 {
-        return TableSectionRead::Bad(FAULT_17);
+        return Err(FAULT_17);
     }
     let count = word::bits(w, 33, 18);
     if count == 0 {
-        return TableSectionRead::Bad(FAULT_17);
+        return Err(FAULT_17);
     }
-    TableSectionRead::Good(TableSection {
+    Ok(TableSection {
         number: Reference(word::bits(w, 7, 0)),
         count,
     })
 }
 
 // A group's identifier: 18 where bits 35-34 are not 10, or there is no program word.
-pub fn read_group(w: u64) -> GroupRead
+pub fn read_group(w: u64) -> Result<Group, Fault>
     ensures { result ≡ group_of w }
 {
     if word::bits(w, 35, 34) != 2 {
-        return GroupRead::Bad(FAULT_18);
+        return Err(FAULT_18);
     }
     let program = word::bits(w, 25, 18);
     if program == 0 {
-        return GroupRead::Bad(FAULT_18);
+        return Err(FAULT_18);
     }
-    GroupRead::Good(Group {
+    Ok(Group {
         words: word::bits(w, 33, 26),
         program,
         last: word::is_set(w, 17),

@@ -15,8 +15,7 @@ use Rattle.word.specs.declared.Fault.{Fault}
 use Rattle.word.specs.declared.Relative.{Relative}
 use Rattle.word.proofs.Cases.{when, both, and_both, and_left, and_right}
 use Rattle.label.specs.declared.Label.{Label}
-use Rattle.label.specs.declared.LabelRead.{LabelRead}
-use Rattle.label.specs.declared.LabelRead.TheVariants.{Good, Bad}
+use Rattle.std.specs.Prelude.{Result, Ok, Err}
 use Rattle.label.specs.Label.{label_of, channel_count, io_count, Carried}
 use Rattle.label.proofs.Carried.{label-carried}
 use Rattle.label.proofs.Faults.{OfWhole, whole-at, whole_wider, label_faults}
@@ -32,29 +31,29 @@ use Rattle.stage.specs.Ranges.{label_counts_fit, due_fits, stage_fits}
 use Rattle.records.specs.Label.{label_counts_of, after_label, with_label, label_step}
 use Rattle.records.specs.Entries.{entries_fit, after_entries, entry_step}
 use Rattle.records.specs.Termination.{termination_step}
-use Rattle.stage.specs.declared.Step.{Step}
-use Rattle.stage.specs.declared.Step.TheVariants.{More, Done, Refused}
+use Rattle.stage.specs.Step.{StepResult, step_more, step_done}
+use Rattle.stage.specs.declared.Step.TheVariants.{More, Done}
 
 -- a step that goes on to a stage of which P holds, or is refused
-abbrev StepLeads : (Stage → Type 0) → Step → Type 0
-StepLeads P (More s) = P s
-StepLeads P (Done a) = ⊥
-StepLeads P (Refused f) = OfWhole 14 16 f
+abbrev StepLeads : (Stage → Type 0) → StepResult → Type 0
+StepLeads P (Ok (More s)) = P s
+StepLeads P (Ok (Done a)) = ⊥
+StepLeads P (Err f) = OfWhole 14 16 f
 
 is_16 : (k : ℕ) → k ≤ 255 → OfWhole 14 16 (further k (fault 16))
 is_16 k h = whole-at 14 16 16 k (omega arith) (omega arith) h
 
 -- ---- the label
 module _ (P : Stage → Type 0) (ios : List ℕ) (tables : ℕ) (block : List ℕ) where
-  with_leads : (r : LabelRead) → label_of block ≡ r
-      → ((l : Label) → label_of block ≡ Good l → assignments_fit l ios tables ≡ true → P (after_label (length ios) tables l))
+  with_leads : (r : Result Label Fault) → label_of block ≡ r
+      → ((l : Label) → label_of block ≡ Ok l → assignments_fit l ios tables ≡ true → P (after_label (length ios) tables l))
       → StepLeads P (with_label ios tables r)
   unfolding with_label
-  with_leads (Good l) e h = when (StepLeads P) (assignments_fit l ios tables) (h l e)
+  with_leads (Ok l) e h = when (StepLeads P) (assignments_fit l ios tables) (h l e)
       (λ _. is_16 3 (omega arith))
-  with_leads (Bad f) e h = whole_wider 14 16 (omega arith) (omega arith) (label_faults block f e)
+  with_leads (Err f) e h = whole_wider 14 16 (omega arith) (omega arith) (label_faults block f e)
 
-  label_leads : ((l : Label) → label_of block ≡ Good l → assignments_fit l ios tables ≡ true → P (after_label (length ios) tables l))
+  label_leads : ((l : Label) → label_of block ≡ Ok l → assignments_fit l ios tables ≡ true → P (after_label (length ios) tables l))
       → StepLeads P (label_step ios tables block)
   unfolding label_step
   label_leads h = with_leads (label_of block) refl h
@@ -78,7 +77,7 @@ after-label-fits area ts io l q =
     (λ e. let h = eqb-false (entry_blocks io (length ts)) 0 e in and_both _ _ q
     (lt-ltb 0 (entry_blocks io (length ts)) (omega arith)))
 
-pub label-fits : (area : Area) (ts : List CoreTable) (ios block : List ℕ) (s : Stage) → label_step ios (length ts) block ≡ More s
+pub label-fits : (area : Area) (ts : List CoreTable) (ios block : List ℕ) (s : Stage) → label_step ios (length ts) block ≡ step_more s
     → stage_fits area ts (length ios) s ≡ true
 label-fits area ts ios block s e =
     rw e at
@@ -86,10 +85,10 @@ label-fits area ts ios block s e =
     (λ l g q. after-label-fits area ts (length ios) l (label-counts_fit l ios (length ts) (label-carried block l g) q)))
 
 module _ (ios : List ℕ) (tables : ℕ) (block : List ℕ) where
-  pub label-not_done : (a : Absolute) → label_step ios tables block ≡ Done a → ⊥
+  pub label-not_done : (a : Absolute) → label_step ios tables block ≡ step_done a → ⊥
   label-not_done a e = rw e at (label_leads (λ _. Unit {0}) ios tables block (λ l g q. tt))
 
-  pub label-fault : (f : Fault) → label_step ios tables block ≡ Refused f → OfWhole 14 16 f
+  pub label-fault : (f : Fault) → label_step ios tables block ≡ Err f → OfWhole 14 16 f
   label-fault f e = rw e at (label_leads (λ _. Unit {0}) ios tables block (λ l g q. tt))
 
 -- ---- a modification block
@@ -99,10 +98,10 @@ module _ (io : ℕ) (ts : List CoreTable) (c : LabelCounts) (exact : Bool) (b : 
   entry_leads P h =
       both (StepLeads P) (entries_fit io ts exact b block) h (is_16 _ (omega arith))
 
-  pub entry_not_done : (a : Absolute) → entry_step io ts c exact b block ≡ Done a → ⊥
+  pub entry_not_done : (a : Absolute) → entry_step io ts c exact b block ≡ step_done a → ⊥
   entry_not_done a e = rw e at (entry_leads (λ _. Unit {0}) tt)
 
-  pub entry_fault_lem : (f : Fault) → entry_step io ts c exact b block ≡ Refused f → OfWhole 14 16 f
+  pub entry_fault_lem : (f : Fault) → entry_step io ts c exact b block ≡ Err f → OfWhole 14 16 f
   entry_fault_lem f e = rw e at (entry_leads (λ _. Unit {0}) tt)
 
 after-entries_fit : (area : Area) (ts : List CoreTable) (io : ℕ) (c : LabelCounts) (exact : Bool) (b : ℕ)
@@ -115,7 +114,7 @@ after-entries_fit area ts io c exact b q =
     (λ _. and_both _ _ q refl)
 
 pub entry_fits_lem : (area : Area) (ts : List CoreTable) (io : ℕ) (c : LabelCounts) (exact : Bool) (b : ℕ) (block : List ℕ) (s : Stage)
-    → stage_fits area ts io (Entry c exact b) ≡ true → entry_step io ts c exact b block ≡ More s → stage_fits area ts io s ≡ true
+    → stage_fits area ts io (Entry c exact b) ≡ true → entry_step io ts c exact b block ≡ step_more s → stage_fits area ts io s ≡ true
 unfolding stage_fits
 entry_fits_lem area ts io c exact b block s q e =
     rw e at
@@ -134,10 +133,10 @@ in_bank_lem b r q =
     (ltb-false r.0 b.at.0 p.0, ltb-true r.0 (b.at.0 + b.count) p.1)
 
 module _ (area : Area) (ibank : Bank) where
-  abbrev Ends : Step → Type 0
-  Ends (More s) = ⊥
-  Ends (Done a) = (area.at.0 + ibank.at.0 ≤ a.0) × (a.0 < area.at.0 + (ibank.at.0 + ibank.count))
-  Ends (Refused f) = OfWhole 22 22 f
+  abbrev Ends : StepResult → Type 0
+  Ends (Ok (More s)) = ⊥
+  Ends (Ok (Done a)) = (area.at.0 + ibank.at.0 ≤ a.0) × (a.0 < area.at.0 + (ibank.at.0 + ibank.count))
+  Ends (Err f) = OfWhole 22 22 f
 
   module _ (block : List ℕ) where
     termination-ends : Ends (termination_step area ibank block)
@@ -147,12 +146,12 @@ module _ (area : Area) (ibank : Bank) where
         (λ q. let h = in_bank_lem ibank (start_of block) q in (omega arith, omega arith))
         (λ _. whole-at 22 22 22 1 (omega arith) (omega arith) (omega arith))
 
-    pub termination-not_more : (s : Stage) → termination_step area ibank block ≡ More s → ⊥
+    pub termination-not_more : (s : Stage) → termination_step area ibank block ≡ step_more s → ⊥
     termination-not_more s e = rw e at termination-ends
 
-    pub termination-fault : (f : Fault) → termination_step area ibank block ≡ Refused f → OfWhole 22 22 f
+    pub termination-fault : (f : Fault) → termination_step area ibank block ≡ Err f → OfWhole 22 22 f
     termination-fault f e = rw e at termination-ends
 
-    pub termination_start : (a : Absolute) → termination_step area ibank block ≡ Done a
+    pub termination_start : (a : Absolute) → termination_step area ibank block ≡ step_done a
         → (area.at.0 + ibank.at.0 ≤ a.0) × (a.0 < area.at.0 + (ibank.at.0 + ibank.count))
     termination_start a e = rw e at termination-ends

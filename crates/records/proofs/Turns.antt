@@ -19,8 +19,8 @@ use Rattle.modification.specs.Entries.{length_spot, minimum, length_fits}
 use Rattle.modification.specs.declared.Spot.{Spot}
 use Rattle.records.specs.Entries.{entry_fits, first_entry, entries_fit, entry_fault}
 use Rattle.records.specs.HowEntries.{entry_read, entries_read}
-use Rattle.records.specs.declared.EntriesRead.{EntriesRead}
-use Rattle.records.specs.declared.EntriesRead.TheVariants.{Good, Bad}
+use Rattle.word.specs.Fault.{Verdict, pass}
+use Rattle.std.specs.Prelude.{Err}
 
 -- ---- table t's entry, whose third word stands at the spot s
 module _ (g : Given) (l : List ℕ) (exact : Bool) (b : ℕ) (block : List ℕ) (t : ℕ) (s : Spot)
@@ -53,51 +53,51 @@ module _ (io : ℕ) (ts : List CoreTable) (exact : Bool) (b : ℕ) (block : List
   passed_none = below_none (entry_fits io ts exact b block)
 
   module _ (t : ℕ) (p : PassedTo t) where
-    entry_good : entry_read io ts exact b block t ≡ Good → entry_fits io ts exact b block t ≡ true
+    entry_good : entry_read io ts exact b block t ≡ pass → entry_fits io ts exact b block t ≡ true
     unfolding entry_read
     entry_good =
-        when (λ (r : EntriesRead). r ≡ Good → entry_fits io ts exact b block t ≡ true) (entry_fits io ts exact b block t) (λ q e. q)
+        when (λ (r : Verdict). r ≡ pass → entry_fits io ts exact b block t ≡ true) (entry_fits io ts exact b block t) (λ q e. q)
         (λ q e. let z : ◌≡◌ {A = ℕ} 0 1 = cc in absurd (omega arith))
 
-    entry_bad : (f : Fault) → entry_read io ts exact b block t ≡ Bad f
+    entry_bad : (f : Fault) → entry_read io ts exact b block t ≡ Err f
         → (entry_fits io ts exact b block t ≡ false) × (f ≡ entry_fault io t)
     unfolding entry_read
     entry_bad f =
-        when (λ (r : EntriesRead). r ≡ Bad f → (entry_fits io ts exact b block t ≡ false) × (f ≡ entry_fault io t))
+        when (λ (r : Verdict). r ≡ Err f → (entry_fits io ts exact b block t ≡ false) × (f ≡ entry_fault io t))
         (entry_fits io ts exact b block t)
         (λ q e. let z : ◌≡◌ {A = ℕ} 0 1 = cc in absurd (omega arith))
         (λ q e. (q, cc))
 
-    pub passed_more : entry_read io ts exact b block t ≡ Good → PassedTo (t + 1)
+    pub passed_more : entry_read io ts exact b block t ≡ pass → PassedTo (t + 1)
     unfolding PassedTo
     passed_more e = rw (add-one t) (below_more (entry_fits io ts exact b block) t p (entry_good e))
 
-    pub passed_fails : (f : Fault) → t < length ts → entry_read io ts exact b block t ≡ Bad f
-        → Bad f ≡ entries_read io ts exact b block
+    pub passed_fails : (f : Fault) → t < length ts → entry_read io ts exact b block t ≡ Err f
+        → Err f ≡ entries_read io ts exact b block
     unfolding PassedTo entries_read entries_fit first_entry
     passed_fails f h e =
         let g = entry_bad f e in
         let k = first-at (entry_fits io ts exact b block) (length ts) t h p g.0 in
         rw (k, ne_eqb t (length ts) (λ z. omega arith), g.1)
 
-    pub passed_all : t ≡ length ts → Good ≡ entries_read io ts exact b block
+    pub passed_all : t ≡ length ts → pass ≡ entries_read io ts exact b block
     unfolding PassedTo entries_read entries_fit first_entry
     passed_all e =
         let k = first-all (entry_fits io ts exact b block) (length ts) (rw e at p) in
         rw (k, eq-eqb (length ts) (length ts) refl)
 
   -- ---- what the block is answered with
-  pub entries_good : entries_read io ts exact b block ≡ Good → entries_fit io ts exact b block ≡ true
+  pub entries_good : entries_read io ts exact b block ≡ pass → entries_fit io ts exact b block ≡ true
   unfolding entries_read
   entries_good =
-      when (λ (r : EntriesRead). r ≡ Good → entries_fit io ts exact b block ≡ true) (entries_fit io ts exact b block) (λ q e. q)
+      when (λ (r : Verdict). r ≡ pass → entries_fit io ts exact b block ≡ true) (entries_fit io ts exact b block) (λ q e. q)
       (λ q e. let z : ◌≡◌ {A = ℕ} 0 1 = cc in absurd (omega arith))
 
-  pub entries_bad : (f : Fault) → entries_read io ts exact b block ≡ Bad f
+  pub entries_bad : (f : Fault) → entries_read io ts exact b block ≡ Err f
       → (entries_fit io ts exact b block ≡ false) × (f ≡ entry_fault io (first_entry io ts exact b block))
   unfolding entries_read
   entries_bad f =
-      when (λ (r : EntriesRead). r ≡ Bad f
+      when (λ (r : Verdict). r ≡ Err f
       → (entries_fit io ts exact b block ≡ false) × (f ≡ entry_fault io (first_entry io ts exact b block)))
       (entries_fit io ts exact b block)
       (λ q e. let z : ◌≡◌ {A = ℕ} 0 1 = cc in absurd (omega arith))

@@ -1,7 +1,7 @@
 -- A modification block: "The assigned length must be at least this, and equal to it when the label's bit 35 is set (16). Words
 -- after the last entry are disregarded." Nothing of an entry matters but the minimum length of a core table, wherever the blocks
 -- part it; so 16 is given at the third word of an entry, in the block where that stands.
-use Rattle.std.specs.Prelude.{ℕ, ◌+◌, ◌<◌, ◌≡◌, Bool, cond, ◌||◌, not, List, length, get_or, eqb, ltb}
+use Rattle.std.specs.Prelude.{ℕ, ◌+◌, ◌<◌, ◌≡◌, Bool, cond, ◌||◌, not, List, length, get_or, eqb, ltb, Err}
 use Rattle.word.specs.Fault.{fault, further}
 use Rattle.word.specs.Lists.{first_not}
 use Rattle.word.specs.Limits.{words_in_block}
@@ -15,8 +15,7 @@ use Rattle.stage.specs.declared.LabelCounts.{LabelCounts}
 use Rattle.stage.specs.declared.Due.TheVariants.{Segment}
 use Rattle.stage.specs.declared.Stage.{Stage}
 use Rattle.stage.specs.declared.Stage.TheVariants.{Entry, Program}
-use Rattle.stage.specs.declared.Step.{Step}
-use Rattle.stage.specs.declared.Step.TheVariants.{More, Refused}
+use Rattle.stage.specs.Step.{StepResult, step_more}
 
 -- the length of table t, of the tables ts
 abbrev pub length_of : List CoreTable → ℕ → ℕ
@@ -44,10 +43,10 @@ entry_fault io t = further (length_spot io (record { 0 = t })).word (fault 16)
 unfoldable pub after_entries : ℕ → ℕ → LabelCounts → Bool → ℕ → Stage
 after_entries io tables c exact b = cond (ltb (b + 1) (entry_blocks io tables)) (Entry c exact (b + 1)) (Program c Segment)
 
-unfoldable pub entry_step : ℕ → List CoreTable → LabelCounts → Bool → ℕ → List ℕ → Step
+unfoldable pub entry_step : ℕ → List CoreTable → LabelCounts → Bool → ℕ → List ℕ → StepResult
 entry_step io ts c exact b block =
-    cond (entries_fit io ts exact b block) (More (after_entries io (length ts) c exact b))
-    (Refused (entry_fault io (first_entry io ts exact b block)))
+    cond (entries_fit io ts exact b block) (step_more (after_entries io (length ts) c exact b))
+    (Err (entry_fault io (first_entry io ts exact b block)))
 
 -- ---- what has been seen to before a block is looked at, and before table t's entry is
 pub record EntryReady (g : Given) (l : List ℕ) (b : ℕ) (block : List ℕ) : Type 0 where

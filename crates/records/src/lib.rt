@@ -2,9 +2,8 @@
 // the start, or to the first fault in reading order.
 #![tactic(auto)]
 
-ghost use Rattle.std.specs.Prelude.{◌≡◌, ◌≤◌, length};
+ghost use Rattle.std.specs.Prelude.{◌≡◌, ◌≤◌, length, Ok};
 ghost use Rattle.word.specs.Limits.{core_most, words_in_block};
-ghost use Rattle.label.specs.declared.LabelRead.TheVariants.{Good};
 ghost use Rattle.label.specs.Label.{Carried};
 ghost use Rattle.lists.specs.Load.{io_numbers, core_tables, Readable};
 ghost use Rattle.records.specs.Label.{with_label, label_step};
@@ -12,7 +11,7 @@ ghost use Rattle.records.specs.Entries.{entry_step, EntryReady, SpotReady};
 ghost use Rattle.records.specs.HowEntries.{entry_read, entries_read};
 ghost use Rattle.records.specs.Termination.{termination_step};
 
-use label::{Label, LabelRead};
+use label::Label;
 use lists::Given;
 use program::Bank;
 use stage::{Due, LabelCounts, Stage, Step};
@@ -24,40 +23,31 @@ const COUNTS_WORD: u64 = 3;
 
 const START_WORD: u64 = 1;
 
-// Whether the entries of a modification block fit the tables: where one does not, the fault at its third word.
-#[derive(Clone, Copy)]
-pub enum EntriesRead {
-    Good,
-    Bad(Fault),
-}
-
 // The label, compared with the lists that the load was given.
-pub fn label_step(g: Given, lists: &[u64], block: &[u64]) -> Step
+pub fn label_step(g: Given, lists: &[u64], block: &[u64]) -> Result<Step, Fault>
     requires { (Readable g lists.now) × (length block.now ≡ words_in_block) }
     ensures { result ≡ label_step (io_numbers g lists.now) g.tables block.now }
 {
-    match label::read_label(block) {
-        LabelRead::Good(l) => take_label(g, lists, l),
-        LabelRead::Bad(f) => Step::Refused(f),
-    }
+    let l = label::read_label(block)?;
+    take_label(g, lists, l)
 }
 
 // A label that is one: the assignments must fit it, and entries are due if there are any.
-fn take_label(g: Given, lists: &[u64], l: Label) -> Step
+fn take_label(g: Given, lists: &[u64], l: Label) -> Result<Step, Fault>
     requires { (Readable g lists.now) × (Carried l) }
-    ensures { result ≡ with_label (io_numbers g lists.now) g.tables (Good l) }
+    ensures { result ≡ with_label (io_numbers g lists.now) g.tables (Ok l) }
 {
     if !modification::assignments_fit(l, g, lists) {
-        return Step::Refused(word::further(COUNTS_WORD, FAULT_16));
+        return Err(word::further(COUNTS_WORD, FAULT_16));
     }
     let c = LabelCounts {
         channels: l.switches + l.channels,
         sections: l.sections,
     };
     if modification::entry_blocks(g.io, g.tables) == 0 {
-        return Step::More(Stage::Program(c, Due::Segment));
+        return Ok(Step::More(Stage::Program(c, Due::Segment)));
     }
-    Step::More(Stage::Entry(c, l.exact, 0))
+    Ok(Step::More(Stage::Entry(c, l.exact, 0)))
 }
 
 // Modification block b, counted from 0.
@@ -68,65 +58,61 @@ pub fn entry_step(
     exact: bool,
     b: u64,
     block: &[u64],
-) -> Step
+) -> Result<Step, Fault>
     requires { EntryReady g lists.now b block.now }
     ensures { result ≡ entry_step g.io (core_tables g lists.now) c exact b block.now }
 {
-    match read_entries(g, lists, exact, b, block) {
-        EntriesRead::Good => {
-            let next = b + 1;
-            if next < modification::entry_blocks(g.io, g.tables) {
-                return Step::More(Stage::Entry(c, exact, next));
-            }
-            Step::More(Stage::Program(c, Due::Segment))
-        }
-        EntriesRead::Bad(f) => Step::Refused(f),
+    read_entries(g, lists, exact, b, block)?;
+    let next = b + 1;
+    if next < modification::entry_blocks(g.io, g.tables) {
+        return Ok(Step::More(Stage::Entry(c, exact, next)));
     }
+    Ok(Step::More(Stage::Program(c, Due::Segment)))
 }
 
 // Each table's entry, as far as its third word stands in block b: the first that does not fit ends it.
-fn read_entries(g: Given, lists: &[u64], exact: bool, b: u64, block: &[u64]) -> EntriesRead
+fn read_entries(g: Given, lists: &[u64], exact: bool, b: u64, block: &[u64]) -> Result<(), Fault>
     requires { (Readable g lists.now) × (length block.now ≡ words_in_block) }
     ensures { result ≡ entries_read g.io (core_tables g lists.now) exact b block.now }
 {
-    let tables = g.tables;
-    let mut t: u64 = 0;
-    while t < tables {
-        match read_entry(g, lists, exact, b, block, t) {
-            EntriesRead::Good => {
-                t += 1;
-            }
-            EntriesRead::Bad(f) => return EntriesRead::Bad(f),
-        }
+    for t in 0..g.tables {
+        read_entry(g, lists, exact, b, block, t)?;
     }
-    EntriesRead::Good
+    Ok(())
 }
 
 // The entry of table t: nothing is asked of one whose third word stands in another block.
-fn read_entry(g: Given, lists: &[u64], exact: bool, b: u64, block: &[u64], t: u64) -> EntriesRead
+fn read_entry(
+    g: Given,
+    lists: &[u64],
+    exact: bool,
+    b: u64,
+    block: &[u64],
+    t: u64,
+) -> Result<(), Fault>
     requires { SpotReady g lists.now t block.now }
     ensures { result ≡ entry_read g.io (core_tables g lists.now) exact b block.now t }
 {
     let s = modification::length_spot(g.io, Reference(t));
     if s.block != b {
-        return EntriesRead::Good;
+        return Ok(());
     }
     let least = modification::minimum_length(block[s.word as usize]);
     let len = lists::load::core_table(g, lists, Reference(t)).len;
     if modification::length_fits(exact, least, len) {
-        return EntriesRead::Good;
+        return Ok(());
     }
-    EntriesRead::Bad(word::further(s.word, FAULT_16))
+    Err(word::further(s.word, FAULT_16))
 }
 
 // The termination block: the start must lie in the IBANK.
-pub fn termination_step(area: Area, ibank: Bank, block: &[u64]) -> Step
+pub fn termination_step(area: Area, ibank: Bank, block: &[u64]) -> Result<Step, Fault>
     requires { area.at.0 ≤ core_most }
     ensures { result ≡ termination_step area ibank block.now }
 {
     let start = program::read_start(block);
     if !program::in_bank(ibank, start) {
-        return Step::Refused(word::further(START_WORD, FAULT_22));
+        return Err(word::further(START_WORD, FAULT_22));
     }
-    Step::Done(word::placed(area, start))
+    Ok(Step::Done(word::placed(area, start)))
 }

@@ -5,7 +5,6 @@
 ghost use Rattle.std.specs.Prelude.{◌≡◌, length};
 ghost use Rattle.word.specs.Limits.{words_in_block};
 
-use block::Verdict;
 use console::Input;
 use std::io;
 
@@ -15,13 +14,12 @@ fn reseal_block(rt: &impl Print, words: &mut [u64], index: u64) -> io::Result<bo
     requires { length words.old ≡ words_in_block }
 {
     match old_seal::reseal(words, index) {
-        Verdict::Pass => {
+        Ok(()) => {
             console::say_block(rt, words)?;
             Ok(true)
         }
-        Verdict::Refused(f) => {
-            console::say_number(rt, index)?;
-            console::say_line(rt, b" refused ", f.number)?;
+        Err(f) => {
+            println!(rt; "{index} refused {}", f.number)?;
             Ok(false)
         }
     }
@@ -42,9 +40,10 @@ fn reseal_next(rt: &(impl io::Input + Print), index: u64) -> io::Result<bool> {
 
 // A proved loop has to end, and nothing says that the input does: it ends where the indices do.
 fn main(rt: HostRuntime) -> io::Result<()> {
-    let mut index: u64 = 0;
-    while index < u64::MAX && reseal_next(&rt, index)? {
-        index += 1;
+    for index in 0..u64::MAX {
+        if !reseal_next(&rt, index)? {
+            break;
+        }
     }
     Ok(())
 }

@@ -4,10 +4,15 @@ use mathlib.Core.Path.{◌≡◌, refl, sym, ◌∙◌}
 use mathlib.Core.List.{List, [], ◌∷◌}
 use native.Mathlib.Omega.{arith}
 use native.Mathlib.Numerals.{add-one}
-use lib.ListN.{length, get_or, set, length-set, take, drop, drop_of_length-le}
-use lib.Seq.{ext_get_or, get_or-set_same, get_or-set_other, drop-cons}
-use borrow.Author.Tests.{eq-eqb, ne_eqb}
-use Rattle.word.proofs.Cases.{by-eq}
+use lib.ListN.{length, get_or, set, length-set, take}
+use lib.Seq.{ext_get_or, get_or-set_same, get_or-set_other}
+use borrow.Author.Tests.{eq-eqb, ne_eqb, lt-ltb, le-ltb}
+use Rattle.std.proofs.Common.{ap, cond, not, eqb, count_by}
+use Rattle.std.specs.List.{position, position_or_len}
+use Rattle.std.specs.Option.{unwrap_or}
+use Rattle.std.proofs.lemmas.List.Sums.{prefix_len-le-length}
+use Rattle.std.proofs.lemmas.List.Recursion.{is_sum_by, is_position_or_len}
+use Rattle.word.proofs.Cases.{by-eq, by-lt}
 use Rattle.word.specs.Lists.{tab}
 use Rattle.word.proofs.Lists.{length-tab, get_d_tab}
 use Rattle.word.specs.Limits.{room_count}
@@ -75,15 +80,10 @@ count-take_below x l zero = omega arith
 count-take_below x [] (suc i) = omega arith
 count-take_below x (a ∷ l) (suc i) = omega (arith, count-take_below x l i)
 
--- the loop that counts: n so far, and the rest of the list
-module _ (x : ℕ) (l : List ℕ) (i n b : ℕ) where
-  pub count_more : i < length l → n + count x (drop i l) ≡ b → n + hit (get_or l i 0) x + count x (drop (i + 1) l) ≡ b
-  unfolding count
-  count_more h q = let e = rw (drop-cons l i 0 h) at q in rw add-one (omega arith)
-
-  pub count_end : length l ≤ i → n + count x (drop i l) ≡ b → n ≡ b
-  unfolding count
-  count_end h q = let e = rw (drop_of_length-le l h) at q in omega arith
+-- std's count is this one
+pub count_is : (x : ℕ) (l : List ℕ) → count_by (λ a. eqb a x) l ≡ count x l
+unfolding count hit
+count_is x l = sym (is_sum_by (count x) (λ a. hit a x) refl (λ _ _. refl) l)
 
 -- ---- counts of many numbers in one list
 -- two lists of the same kind that differ at place r alone
@@ -134,16 +134,12 @@ below_lowest (a ∷ l) (suc p) h z = by-eq a 0
     (λ q. let g = rw (eq-eqb a 0 q) at h in omega arith)
     (λ q. let g = rw (ne_eqb a 0 q) at h in below_lowest l p (omega arith) z)
 
--- the loop that looks for it
-module _ (l : List ℕ) (p b : ℕ) where
-  pub lowest_more : p < length l → (get_or l p 0 ≡ 0 → ⊥) → b ≡ p + lowest_free (drop p l) → b ≡ p + 1 + lowest_free (drop (p + 1) l)
-  unfolding lowest_free
-  lowest_more h z q = let e = rw (drop-cons l p 0 h, ne_eqb (get_or l p 0) 0 z) at q in rw add-one (omega arith)
+-- it is the first place at which a zero stands, by std's search
+lowest_place : (l : List ℕ) → position_or_len (λ a. eqb a 0) l ≡ lowest_free l
+unfolding lowest_free
+lowest_place l = sym (is_position_or_len lowest_free (λ a. eqb a 0) refl (λ a m. ap (λ n. cond (eqb a 0) 0 n) (omega arith)) l)
 
-  pub lowest_found : p < length l → get_or l p 0 ≡ 0 → b ≡ p + lowest_free (drop p l) → p ≡ b
-  unfolding lowest_free
-  lowest_found h z q = let e = rw (drop-cons l p 0 h, eq-eqb (get_or l p 0) 0 z) at q in omega arith
-
-  pub lowest_end : length l ≤ p → b ≡ p + lowest_free (drop p l) → p ≡ b
-  unfolding lowest_free
-  lowest_end h q = let e = rw (drop_of_length-le l h) at q in omega arith
+pub lowest_is : (l : List ℕ) → unwrap_or (position (λ a. eqb a 0) l) (length l) ≡ lowest_free l
+lowest_is l = by-lt (position_or_len (λ a. eqb a 0) l) (length l)
+    (λ h. rw (lt-ltb _ _ h) (lowest_place l))
+    (λ h. rw (le-ltb _ _ h) (omega (arith, lowest_place l, prefix_len-le-length (λ a. not (eqb a 0)) l)))

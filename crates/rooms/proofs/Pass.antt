@@ -6,7 +6,6 @@ use native.Mathlib.Omega.{arith}
 use native.Mathlib.Numerals.{add-one}
 use lib.ListN.{length, get_or, set, replicate, take, drop, length-map, get_or-map}
 use lib.Seq.{ext_get_or, get_or-take, get_or-drop, take_all}
-use borrow.Author.Tests.{le-leb, lt-leb}
 use Rattle.word.specs.Lists.{tab}
 use Rattle.word.proofs.Cases.{by-lt}
 use Rattle.word.proofs.Lists.{get_d_tab}
@@ -17,14 +16,15 @@ use Rattle.rooms.proofs.Count.{hit_yes, hit_no, count-take, count-take_most, tab
 -- ---- the slot of a holder
 slot_room : (h : ℕ) → h < 9 → slot_of h ≡ h
 unfolding slot_of
-slot_room h k = rw (le-leb h 8 (omega arith))
+slot_room h k = omega arith
 
 slot_stranger : (h : ℕ) → 9 ≤ h → slot_of h ≡ 9
 unfolding slot_of
-slot_stranger h k = rw (lt-leb h 8 k)
+slot_stranger h k = omega arith
 
 pub slot_below : (h : ℕ) → slot_of h < 10
-slot_below h = by-lt h 9 (λ k. omega (arith, slot_room h k)) (λ k. omega (arith, slot_stranger h k))
+unfolding slot_of
+slot_below h = omega arith
 
 -- ---- the loop: the counts of the first i holders
 unfoldable pub tallied_to : List ℕ → ℕ → List ℕ

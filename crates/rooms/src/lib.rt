@@ -3,11 +3,13 @@
 #![tactic(auto)]
 
 ghost use Rattle.std.specs.Prelude.{◌≡◌, ◌≤◌, ◌<◌, length};
+ghost use Rattle.word.specs.Fault.{numbered};
 ghost use Rattle.word.specs.Lists.{splice};
 ghost use Rattle.word.specs.Limits.{room_count};
-ghost use Rattle.rooms.specs.HowTally.{slot_of, tallied};
-ghost use Rattle.rooms.specs.Rooms.{hit, count, free, held, idle, fair, held_places, lowest_free, place_refusal};
+ghost use Rattle.rooms.specs.HowTally.{tallied};
+ghost use Rattle.rooms.specs.Rooms.{count, free, held, idle, fair, held_places, lowest_free, place_refusal};
 
+use word::Fault;
 use word::limits::ROOMS;
 
 // "no room holds over two"
@@ -19,6 +21,7 @@ const STRANGER: usize = ROOMS + 1;
 const SLOTS: usize = ROOMS + 2;
 
 // F: how many places are free.
+#[tactic(auto, unfolding(crate::specs::Rooms::free))]
 pub fn free_places(holders: &[u64]) -> u64
     ensures { result ≡ free holders.now }
 {
@@ -26,6 +29,7 @@ pub fn free_places(holders: &[u64]) -> u64
 }
 
 // How many places the room holds.
+#[tactic(auto, unfolding(crate::specs::Rooms::held))]
 pub fn held_by(holders: &[u64], room: u64) -> u64
     requires { room < room_count }
     ensures { result ≡ held room holders.now }
@@ -48,6 +52,7 @@ pub fn fair(holders: &[u64]) -> bool
 {
     let mut n = [0u64; ROOMS];
     let mut seconds: u64 = 0;
+    // Stays a while loop: tried as a for, this one and the other, the test of a desk took 337 instructions, and takes 266.
     let mut i: usize = 0;
     while i < holders.len() {
         let h = holders[i];
@@ -75,6 +80,7 @@ pub fn held_places(holders: &[u64], out: &mut [usize]) -> usize
         × (out.new ≡ splice out.old 0 (held_places 0 holders.now)) }
 {
     let mut n: usize = 0;
+    // Stays a while loop: tried as a for, this one and the other, the test of a desk took 337 instructions, and takes 266.
     let mut i: usize = 0;
     while i < holders.len() {
         let h = holders[i];
@@ -91,74 +97,42 @@ pub fn held_places(holders: &[u64], out: &mut [usize]) -> usize
 pub fn lowest_free(holders: &[u64]) -> usize
     ensures { result ≡ lowest_free holders.now }
 {
-    let mut p: usize = 0;
-    while p < holders.len() {
-        if holders[p] == 0 {
-            return p;
-        }
-        p += 1;
-    }
-    p
+    holders
+        .iter()
+        .position(|&h| h == 0)
+        .unwrap_or(holders.len())
 }
 
-// Why the room is denied one more place, 5 or 6, or 0 where it is given one.
-pub fn place_refusal(holders: &[u64], room: u64) -> u64
+// Whether the room is given one more place, or which of refusals 5 and 6 denies it.
+pub fn place_refusal(holders: &[u64], room: u64) -> Result<(), Fault>
     requires { room < room_count }
-    ensures { result ≡ place_refusal room holders.now }
+    ensures { result ≡ numbered (place_refusal room holders.now) }
 {
     let n = held_by(holders, room);
     if MOST_HELD <= n {
-        return 5;
+        return Err(word::fault_of(5));
     }
-    if n == 1 {
-        if free_places(holders) <= idle_rooms(holders) {
-            return 6;
-        }
-        return 0;
+    if n == 1 && free_places(holders) <= idle_rooms(holders) {
+        return Err(word::fault_of(6));
     }
-    0
+    Ok(())
 }
 
-// One pass over the holders: how many places are free, how many each room holds, and how many holders are no room's.
+// One pass over the holders: how many places are free, how many each room holds, and in the last slot how many holders are no room's.
 fn tally(holders: &[u64]) -> [u64; SLOTS]
     ensures { result ≡ tallied holders.now }
 {
     let mut n = [0u64; SLOTS];
-    let mut i: usize = 0;
-    while i < holders.len() {
-        let k = slot(holders[i]);
-        n[k] = n[k] + 1;
-        i += 1;
+    for &h in holders {
+        n[h.min(STRANGER as u64) as usize] += 1;
     }
     n
-}
-
-// Where a holder is counted: what is no room's in the last slot.
-fn slot(h: u64) -> usize
-    ensures { result ≡ slot_of h }
-{
-    if h <= ROOMS as u64 {
-        h as usize
-    } else {
-        STRANGER
-    }
 }
 
 // How often x stands among the numbers.
+#[tactic(auto, using(crate::proofs::Count::count_is))]
 fn how_many(numbers: &[u64], x: u64) -> u64
     ensures { result ≡ count x numbers.now }
 {
-    let mut n: u64 = 0;
-    let mut i: usize = 0;
-    while i < numbers.len() {
-        n += one_if_same(numbers[i], x);
-        i += 1;
-    }
-    n
-}
-
-fn one_if_same(a: u64, b: u64) -> u64
-    ensures { result ≡ hit a b }
-{
-    if a == b { 1 } else { 0 }
+    numbers.iter().filter(|&&n| n == x).count() as u64
 }

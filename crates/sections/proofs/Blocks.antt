@@ -23,8 +23,9 @@ use Rattle.stage.specs.declared.LabelCounts.{LabelCounts}
 use Rattle.stage.specs.declared.Due.{Due}
 use Rattle.stage.specs.declared.Stage.{Stage}
 use Rattle.stage.specs.declared.Stage.TheVariants.{Program}
-use Rattle.stage.specs.declared.Step.{Step}
-use Rattle.stage.specs.declared.Step.TheVariants.{More, Done, Refused}
+use Rattle.std.specs.Prelude.{Ok, Err}
+use Rattle.stage.specs.Step.{StepResult, step_more, step_done}
+use Rattle.stage.specs.declared.Step.TheVariants.{More, Done}
 use Rattle.sections.specs.declared.Item.{Item}
 use Rattle.sections.specs.declared.Item.TheVariants.{Go, Last, Refused as Item-refused}
 use Rattle.lists.specs.Load.{Load}
@@ -36,17 +37,17 @@ use Rattle.sections.proofs.Leads.{OfProgram, StepTold, GoesOn, ItemLeads, item_l
 use Rattle.sections.proofs.Turns.{item_cases, item_length, InPlace, item_in_place, open_place}
 
 -- two outcomes that meet the contract are equal
-pub one_outcome : (o : StepOutcome) (r r' : Step) (core core' : List ℕ) → StepMeets o r core → StepMeets o r' core' → (r ≡ r')
+pub one_outcome : (o : StepOutcome) (r r' : StepResult) (core core' : List ℕ) → StepMeets o r core → StepMeets o r' core' → (r ≡ r')
     × (core ≡ core')
 one_outcome o r r' core core' p q = (p.told ∙ sym q.told, p.left ∙ sym q.left)
 
 -- ---- the answer
 module _ (x : Load) (block : List ℕ) where
   -- an answer for the next stage is one for this stage
-  told-through : (s t : Stage) (r : Step) → (StageFits x s → StageFits x t) → StepTold x block t r → StepTold x block s r
-  told-through s t (More u) h k = λ f. k (h f)
-  told-through s t (Done a) h k = k
-  told-through s t (Refused f) h k = k
+  told-through : (s t : Stage) (r : StepResult) → (StageFits x s → StageFits x t) → StepTold x block t r → StepTold x block s r
+  told-through s t (Ok (More u)) h k = λ f. k (h f)
+  told-through s t (Ok (Done a)) h k = k
+  told-through s t (Err f) h k = k
 
   follow_told : (s : Stage) (i : ℕ) (it : Item) (core : List ℕ) (next : LabelCounts → Due → ℕ → List ℕ → StepOutcome)
       → ItemLeads x block s i it → Stands block i
@@ -75,13 +76,13 @@ module _ (x : Load) (block : List ℕ) where
     unfolding program_step
     program-told = from_told last_word c due 1 core (λ q o. o)
 
-    pub program-fits : (t : Stage) → StageFits x (Program c due) → (program_step x c due block core).step ≡ More t → StageFits x t
+    pub program-fits : (t : Stage) → StageFits x (Program c due) → (program_step x c due block core).step ≡ step_more t → StageFits x t
     program-fits t f e = (rw e at program-told) f
 
-    pub program-not_done : (a : Absolute) → (program_step x c due block core).step ≡ Done a → ⊥
+    pub program-not_done : (a : Absolute) → (program_step x c due block core).step ≡ step_done a → ⊥
     program-not_done a e = rw e at program-told
 
-    pub program_faults : (f : Fault) → (program_step x c due block core).step ≡ Refused f → OfProgram block f
+    pub program_faults : (f : Fault) → (program_step x c due block core).step ≡ Err f → OfProgram block f
     program_faults f e = rw e at program-told
 
 -- ---- the core

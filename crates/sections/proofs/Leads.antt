@@ -1,6 +1,7 @@
 -- Where an item leads: to the next piece of the block and to a stage whose numbers are in their ranges, or to a refusal from 17 to
 -- 21 at its place.
 use Prim.Native.Nat.{ℕ, ◌+◌, ◌-◌, ◌≤◌, ◌<◌}
+use Rattle.std.specs.Prelude.{Result, Ok, Err}
 use mathlib.Core.Path.{◌≡◌, refl}
 use mathlib.Core.Bool.{Bool, true, false}
 use mathlib.Core.List.{List}
@@ -15,23 +16,18 @@ use Rattle.word.specs.Word.{part}
 use Rattle.word.proofs.Cases.{both, when, and_left, and_right}
 use Rattle.word.proofs.Says.{says_and, says_le}
 use Rattle.program.specs.declared.Bank.{Bank}
-use Rattle.program.specs.declared.BankRead.{BankRead}
-use Rattle.program.specs.declared.BankRead.TheVariants.{Good as bank-read, Bad as no-bank}
+use Rattle.std.specs.Prelude.{Result, Ok, Err}
+use Rattle.program.specs.declared.TableSection.{TableSection}
 use Rattle.program.specs.declared.Segment.{Segment}
-use Rattle.program.specs.declared.SegmentRead.{SegmentRead}
-use Rattle.program.specs.declared.SegmentRead.TheVariants.{Good as segment-read, Bad as no-segment}
-use Rattle.program.specs.declared.TableSectionRead.{TableSectionRead}
-use Rattle.program.specs.declared.TableSectionRead.TheVariants.{Good as section-read, Bad as no-section}
 use Rattle.program.specs.Sections.{last_word, bank_of, with_dbank, with_ibank, segment_of, table_section_of}
 use Rattle.program.specs.Pieces.{closes}
 use Rattle.program.specs.Pieces.Head.{SegmentHead, TableHead, GroupHead}
 use Rattle.program.proofs.Heads.{head_segment, head_table, head_group}
 use Rattle.program.proofs.Pieces.{pieces_on, Onward}
-use Rattle.group.specs.declared.GroupStep.{GroupStep}
-use Rattle.group.specs.declared.GroupStep.TheVariants.{Done as group_done, Refused as group_refused}
+use Rattle.group.specs.declared.GroupEnd.{GroupEnd}
 use Rattle.group.specs.declared.Section.{Section}
 use Rattle.group.specs.declared.Section.TheVariants.{Segment as in-segment}
-use Rattle.group.specs.Group.{group_step}
+use Rattle.group.specs.Group.{ended, group_step}
 use Rattle.group.specs.Places.{Placed}
 use Rattle.group.proofs.FieldFaults.{Among}
 use Rattle.group.proofs.Faults.{OfItem, of_first, IsOfGroup, group_faults}
@@ -42,8 +38,8 @@ use Rattle.stage.specs.declared.Due.TheVariants.{Segment as segment-due, Segment
 use Rattle.stage.specs.declared.Stage.{Stage}
 use Rattle.stage.specs.declared.Stage.TheVariants.{Program, Termination}
 use Rattle.stage.specs.Ranges.{label_counts_fit, bank_fits, section_fits, stage_fits}
-use Rattle.stage.specs.declared.Step.{Step}
-use Rattle.stage.specs.declared.Step.TheVariants.{More, Done, Refused as step-refused}
+use Rattle.stage.specs.Step.{StepResult}
+use Rattle.stage.specs.declared.Step.TheVariants.{More, Done}
 use Rattle.sections.specs.declared.Item.{Item}
 use Rattle.sections.specs.declared.Item.TheVariants.{Go, Last, Refused}
 use Rattle.lists.specs.Load.{Load}
@@ -57,10 +53,10 @@ abbrev pub OfProgram : List ℕ → Fault → Type 0
 OfProgram block f = (Among 17 21 f) × (Placed block f)
 
 -- an answer for a load that waited for s
-abbrev pub StepTold : Load → List ℕ → Stage → Step → Type 0
-StepTold x block s (More t) = StageFits x s → StageFits x t
-StepTold x block s (Done a) = ⊥
-StepTold x block s (step-refused f) = OfProgram block f
+abbrev pub StepTold : Load → List ℕ → Stage → StepResult → Type 0
+StepTold x block s (Ok (More t)) = StageFits x s → StageFits x t
+StepTold x block s (Ok (Done a)) = ⊥
+StepTold x block s (Err f) = OfProgram block f
 
 -- the pieces go on at place p behind the one at place i, however many are read
 abbrev pub GoesOn : List ℕ → ℕ → ℕ → Type 0
@@ -80,29 +76,29 @@ module _ (block : List ℕ) (i : ℕ) (top : i ≤ last_word) where
   is_17 : OfHead (fault 17)
   is_17 = of_first 17 17 block i top (omega arith) (omega arith)
 
-  abbrev IsOfBank : BankRead → Type 0
-  IsOfBank (bank-read b) = Unit {0}
-  IsOfBank (no-bank f) = OfHead f
+  abbrev IsOfBank : Result Bank Fault → Type 0
+  IsOfBank (Ok b) = Unit {0}
+  IsOfBank (Err f) = OfHead f
 
-  abbrev IsOfSegment : SegmentRead → Type 0
-  IsOfSegment (segment-read g) = Unit {0}
-  IsOfSegment (no-segment f) = OfHead f
+  abbrev IsOfSegment : Result Segment Fault → Type 0
+  IsOfSegment (Ok g) = Unit {0}
+  IsOfSegment (Err f) = OfHead f
 
-  abbrev IsOfSection : TableSectionRead → Type 0
-  IsOfSection (section-read t) = Unit {0}
-  IsOfSection (no-section f) = OfHead f
+  abbrev IsOfSection : Result TableSection Fault → Type 0
+  IsOfSection (Ok t) = Unit {0}
+  IsOfSection (Err f) = OfHead f
 
   bank_fault : (w : ℕ) → IsOfBank (bank_of w)
   unfolding bank_of
   bank_fault w = both IsOfBank (eqb (part 34 2 w) 0) (both IsOfBank (eqb (part 16 2 w) 0) tt is_17) is_17
 
-  dbank_fault : (b : Bank) (d : BankRead) → IsOfBank d → IsOfSegment (with_dbank b d)
-  dbank_fault b (bank-read d) h = tt
-  dbank_fault b (no-bank f) h = h
+  dbank_fault : (b : Bank) (d : Result Bank Fault) → IsOfBank d → IsOfSegment (with_dbank b d)
+  dbank_fault b (Ok d) h = tt
+  dbank_fault b (Err f) h = h
 
-  ibank_fault : (b d : BankRead) → IsOfBank b → IsOfBank d → IsOfSegment (with_ibank b d)
-  ibank_fault (bank-read b) d h k = both IsOfSegment (eqb b.count 0) is_17 (dbank_fault b d k)
-  ibank_fault (no-bank f) d h k = h
+  ibank_fault : (b d : Result Bank Fault) → IsOfBank b → IsOfBank d → IsOfSegment (with_ibank b d)
+  ibank_fault (Ok b) d h k = both IsOfSegment (eqb b.count 0) is_17 (dbank_fault b d k)
+  ibank_fault (Err f) d h k = h
 
   segment-fault : (v w : ℕ) → IsOfSegment (segment_of v w)
   unfolding segment_of
@@ -122,11 +118,11 @@ module _ (x : Load) (block : List ℕ) where
       let d = bank_fits x.area g.dbank in
       (and_left i _ q, and_left d _ (and_right i _ q))
 
-  with_segment_lem : (c : LabelCounts) (i : ℕ) (top : i ≤ last_word) → i + 3 ≤ last_word → (r : SegmentRead) → IsOfSegment block i top r
+  with_segment_lem : (c : LabelCounts) (i : ℕ) (top : i ≤ last_word) → i + 3 ≤ last_word → (r : Result Segment Fault) → IsOfSegment block i top r
       → segment_of (get_or block i 0) (get_or block (i + 1) 0) ≡ r
       → ItemLeads x block (Program c segment-due) i (with_segment x.area x.tables c (i + 4) r)
   unfolding with_segment
-  with_segment_lem c i top h (segment-read g) k e =
+  with_segment_lem c i top h (Ok g) k e =
       when (ItemLeads x block (Program c segment-due) i) (banks_fit x.area x.tables g)
       (λ q. (
         omega arith,
@@ -135,7 +131,7 @@ module _ (x : Load) (block : List ℕ) where
         λ n o. record { first = _; same = pieces_on block i n o (SegmentHead g) (head_segment block i g e) },
       ))
       (λ q. is_17 block i top)
-  with_segment_lem c i top h (no-segment f) k e = k
+  with_segment_lem c i top h (Err f) k e = k
 
   segment_leads : (c : LabelCounts) (i : ℕ) → i ≤ last_word
       → ItemLeads x block (Program c segment-due) i (segment_step x.area x.tables c block i)
@@ -154,11 +150,11 @@ module _ (x : Load) (block : List ℕ) where
       let s = (says_and (says_le c.channels io) (says_le c.sections tables)).fact q in
       (says_and (says_le c.channels io) (says_le (c.sections - 1) tables)).test (s.0, omega arith)
 
-  with_section_lem : (c : LabelCounts) (least : Reference) (ibank : Bank) (i : ℕ) (top : i ≤ last_word) → (r : TableSectionRead)
+  with_section_lem : (c : LabelCounts) (least : Reference) (ibank : Bank) (i : ℕ) (top : i ≤ last_word) → (r : Result TableSection Fault)
       → IsOfSection block i top r → table_section_of (get_or block i 0) ≡ r
       → ItemLeads x block (Program c (section-due least ibank)) i (with_section x.tables c least.0 ibank (i + 1) r)
   unfolding with_section
-  with_section_lem c least ibank i top (section-read t) k e =
+  with_section_lem c least ibank i top (Ok t) k e =
       both (ItemLeads x block (Program c (section-due least ibank)) i) (leb least.0 t.number.0)
       (when (ItemLeads x block (Program c (section-due least ibank)) i) (section_fits x.tables t)
       (λ q. (
@@ -170,7 +166,7 @@ module _ (x : Load) (block : List ℕ) where
       ))
       (λ q. is_17 block i top))
       (is_17 block i top)
-  with_section_lem c least ibank i top (no-section f) k e = k
+  with_section_lem c least ibank i top (Err f) k e = k
 
   section_leads : (c : LabelCounts) (least : Reference) (ibank : Bank) (i : ℕ) → i ≤ last_word
       → ItemLeads x block (Program c (section-due least ibank)) i (section_step x.tables c least.0 ibank block i)
@@ -187,14 +183,14 @@ module _ (x : Load) (block : List ℕ) where
         both (ItemLeads x block (Program c same) i) (eqb c.sections 0) (λ f. (fits f).1)
         (h, k, λ f. (says_section x c (record { 0 = least }) ibank).test (fits f), o)
 
-    answer_leads : (r : GroupStep) → IsOfGroup block i r
-        → ((p : ℕ) (last : Bool) → r ≡ group_done p last → (i < p) × (p ≤ 255) × GoesOn block i p)
+    answer_leads : (r : Result GroupEnd Fault) → IsOfGroup block i r
+        → ((p : ℕ) (last : Bool) → r ≡ ended p last → (i < p) × (p ≤ 255) × GoesOn block i p)
         → ItemLeads x block (Program c same) i (after_group c same least ibank r)
     unfolding after_group
-    answer_leads (group_done p last) h k =
-        let l = k p last refl in
-        both (ItemLeads x block (Program c same) i) last (last_leads p l.0 l.1 l.2) (l.0, l.1, λ f. f, l.2)
-    answer_leads (group_refused f) h k =
+    answer_leads (Ok e) h k =
+        let l = k e.past e.last refl in
+        both (ItemLeads x block (Program c same) i) e.last (last_leads e.past l.0 l.1 l.2) (l.0, l.1, λ f. f, l.2)
+    answer_leads (Err f) h k =
         record { number = (omega (arith, h.number.0), h.number.1); inside = h.inside; place = h.place }
 
     -- behind a group that is read stands the next piece

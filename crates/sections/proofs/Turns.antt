@@ -1,6 +1,7 @@
 -- How the code goes through a program block: a group's answer, the core that an item leaves, and at every turn the items from place
 -- i on decide.
 use Prim.Native.Nat.{ℕ, zero, suc, ◌+◌, ◌-◌, ◌≤◌, ◌<◌}
+use Rattle.std.specs.Prelude.{Result, Ok, Err}
 use mathlib.Core.Path.{◌≡◌, refl, sym, ap, ◌∙◌}
 use mathlib.Core.Bool.{Bool, true, false, ◌||◌}
 use mathlib.Core.List.{List}
@@ -22,8 +23,7 @@ use Rattle.lists.specs.declared.Given.{Given}
 use Rattle.lists.specs.Obey.{no_table, table_inside}
 use Rattle.lists.proofs.Reading.{core-length, core_at_lem}
 use Rattle.field.specs.Field.{assigned_by}
-use Rattle.group.specs.declared.GroupStep.{GroupStep}
-use Rattle.group.specs.declared.GroupStep.TheVariants.{Done as group_done, Refused as group_refused}
+use Rattle.group.specs.declared.GroupEnd.{GroupEnd}
 use Rattle.group.specs.declared.Section.{Section}
 use Rattle.group.specs.declared.Section.TheVariants.{Segment as in-segment}
 use Rattle.group.specs.Group.{GroupOutcome, GroupMeets, InArea, group_step}
@@ -33,7 +33,8 @@ use Rattle.stage.specs.declared.Due.{Due}
 use Rattle.stage.specs.declared.Due.TheVariants.{Segment as segment-due, SegmentGroup, Section as section-due, SectionGroup}
 use Rattle.stage.specs.declared.Stage.{Stage}
 use Rattle.stage.specs.declared.Stage.TheVariants.{Program, Termination}
-use Rattle.stage.specs.declared.Step.TheVariants.{More, Refused}
+use Rattle.std.specs.Prelude.{Err}
+use Rattle.stage.specs.Step.{step_more}
 use Rattle.sections.specs.declared.Item.{Item}
 use Rattle.sections.specs.declared.Item.TheVariants.{Go, Last, Refused as Item-refused}
 use Rattle.lists.specs.Load.{Load, load_of, core_table, core_tables, Readable}
@@ -57,18 +58,20 @@ turn_back c due (Go d t p) = refl
 turn_back c due (Last ibank) = refl
 turn_back c due (Item-refused f) = refl
 
-turn_after_lem : (c : LabelCounts) (same : Due) (least : ℕ) (ibank : Bank) (r : GroupStep)
+turn_after_lem : (c : LabelCounts) (same : Due) (least : ℕ) (ibank : Bank) (r : Result GroupEnd Fault)
     → item_of c same (turn_after c least ibank r) ≡ after_group c same least ibank r
 unfolding after_group
-turn_after_lem c same least ibank (group_done p true) = turn_back c same (after_last c least ibank p)
-turn_after_lem c same least ibank (group_done p false) = refl
-turn_after_lem c same least ibank (group_refused f) = refl
+turn_after_lem c same least ibank (Ok e) =
+    by-test e.last
+    (λ q. rw q (turn_back c same (after_last c least ibank e.past)))
+    (λ q. rw q refl)
+turn_after_lem c same least ibank (Err f) = refl
 
 pub head_met : (c : LabelCounts) (due : Due) (it it' : Item) (r : Turn) (core : List ℕ) → it ≡ it' → r ≡ turn_of it
     → ItemMeets (headed it' core) (item_of c due r) core
 head_met c due it it' r core e q = record { told = ap (item_of c due) q ∙ turn_back c due it ∙ e; left = refl }
 
-pub group_met : (c : LabelCounts) (same : Due) (least : ℕ) (ibank : Bank) (o : GroupOutcome) (r : GroupStep) (core : List ℕ)
+pub group_met : (c : LabelCounts) (same : Due) (least : ℕ) (ibank : Bank) (o : GroupOutcome) (r : Result GroupEnd Fault) (core : List ℕ)
     (t : Turn)
     → GroupMeets o r core → t ≡ turn_after c least ibank r → ItemMeets (grouped c same least ibank o) (item_of c same t) core
 group_met c same least ibank o r core t m e = record {
@@ -158,7 +161,7 @@ module _ (x : Load) (block : List ℕ) where
       neither false b h = refl
 
   pub from_closed : (n : ℕ) (c : LabelCounts) (due : Due) (i : ℕ) (core : List ℕ) → closes block i ≡ true
-      → program_from n x c due block i core ≡ record { step = More (Program c due); core = core }
+      → program_from n x c due block i core ≡ record { step = step_more (Program c due); core = core }
   unfolding program_from
   from_closed zero c due i core q = refl
   from_closed (suc n) c due i core q = rw q
@@ -193,13 +196,13 @@ module _ (x : Load) (block : List ℕ) where
   -- ---- the code's loop, where `due` is due at place i: the items from there on decide the outcome o
   module _ (c : LabelCounts) (due : Due) (i : ℕ) (core : List ℕ) (o : StepOutcome) where
     pub turn_zero : i < 255 → get_or block i 0 ≡ 0 → o ≡ program_from (255 - i) x c due block i core
-        → StepMeets o (More (Program c due)) core
+        → StepMeets o (step_more (Program c due)) core
     unfolding closes
     turn_zero h z q =
         rw (q ∙ from_closed (255 - i) c due i core (rw (lt-leb 255 i h, eq-eqb (get_or block i 0) 0 z)))
         (record { told = refl; left = refl })
 
-    pub turn_end : 255 ≤ i → o ≡ program_from (255 - i) x c due block i core → StepMeets o (More (Program c due)) core
+    pub turn_end : 255 ≤ i → o ≡ program_from (255 - i) x c due block i core → StepMeets o (step_more (Program c due)) core
     turn_end h q = rw (q ∙ from_closed (255 - i) c due i core (past i h)) (record { told = refl; left = refl })
 
     module _ (h : i < 255) (z : get_or block i 0 ≡ 0 → ⊥) (q : o ≡ program_from (255 - i) x c due block i core) (it : Item)
@@ -220,10 +223,10 @@ module _ (x : Load) (block : List ℕ) where
           let l = item_onward x block c due i core d t p (sym m.told ∙ e) (omega arith) in
           (l.0, l.1, rw e at decides ∙ fuel_enough (last_word - i) (255 - p) d t p after (omega arith) (omega arith))
 
-      pub turn_last : (ibank : Bank) → it ≡ Last ibank → StepMeets o (More (Termination ibank)) after
+      pub turn_last : (ibank : Bank) → it ≡ Last ibank → StepMeets o (step_more (Termination ibank)) after
       turn_last ibank e = rw (rw e at decides) (record { told = refl; left = refl })
 
-      pub turn_refused : (f : Fault) → it ≡ Item-refused f → StepMeets o (Refused (further i f)) after
+      pub turn_refused : (f : Fault) → it ≡ Item-refused f → StepMeets o (Err (further i f)) after
       turn_refused f e = rw (rw e at decides) (record { told = refl; left = refl })
 
       -- the word of the fault is in the block

@@ -1,10 +1,10 @@
 -- how the code goes, not a rule of 01
 -- An item as the loop over a block takes it: where what was due is due again, that is all that is said. That this is what
 -- `after_group` says is `turn_after_lem` in proofs/Turns.antt.
-use Rattle.std.specs.Prelude.{ℕ, cond}
+use Rattle.std.specs.Prelude.{ℕ, cond, Result, Ok, Err}
+use Rattle.word.specs.declared.Fault.{Fault}
 use Rattle.program.specs.declared.Bank.{Bank}
-use Rattle.group.specs.declared.GroupStep.{GroupStep}
-use Rattle.group.specs.declared.GroupStep.TheVariants.{Done as group_done, Refused as group_refused}
+use Rattle.group.specs.declared.GroupEnd.{GroupEnd}
 use Rattle.stage.specs.declared.LabelCounts.{LabelCounts}
 use Rattle.stage.specs.declared.Due.{Due}
 use Rattle.sections.specs.declared.Item.{Item}
@@ -26,6 +26,6 @@ turn_of (Last ibank) = turn_last ibank
 turn_of (Refused f) = turn_refused f
 
 -- after a group
-abbrev pub turn_after : LabelCounts → ℕ → Bank → GroupStep → Turn
-turn_after c least ibank (group_done p last) = cond last (turn_of (after_last c least ibank p)) (Same p)
-turn_after c least ibank (group_refused f) = turn_refused f
+abbrev pub turn_after : LabelCounts → ℕ → Bank → Result GroupEnd Fault → Turn
+turn_after c least ibank (Ok e) = cond e.last (turn_of (after_last c least ibank e.past)) (Same e.past)
+turn_after c least ibank (Err f) = turn_refused f

@@ -1,6 +1,7 @@
 -- A program block, from place 1 on: "where an identifier's first word is due, a zero word or the end at word 254 closes the block.
 -- A section runs on through as many blocks as it needs."
-use Rattle.std.specs.Prelude.{ℕ, zero, suc, ◌+◌, ◌≡◌, cond, List, get_or, eqb}
+use Rattle.std.specs.Prelude.{ℕ, zero, suc, ◌+◌, ◌≡◌, cond, List, get_or, eqb, Result, Ok, Err}
+use Rattle.word.specs.declared.Fault.{Fault}
 use Rattle.word.specs.Fault.{further}
 use Rattle.program.specs.Sections.{last_word}
 use Rattle.program.specs.Pieces.{closes}
@@ -9,15 +10,13 @@ use Rattle.program.specs.declared.TableSection.{TableSection}
 use Rattle.lists.specs.Obey.{no_table}
 use Rattle.group.specs.declared.Section.{Section as GroupSection}
 use Rattle.group.specs.declared.Section.TheVariants.{Segment as in-segment, Table as in_table}
-use Rattle.group.specs.declared.GroupStep.{GroupStep}
-use Rattle.group.specs.declared.GroupStep.TheVariants.{Done as group_done, Refused as group_refused}
+use Rattle.group.specs.declared.GroupEnd.{GroupEnd}
 use Rattle.group.specs.Group.{GroupOutcome, group_step}
 use Rattle.stage.specs.declared.LabelCounts.{LabelCounts}
 use Rattle.stage.specs.declared.Due.{Due}
 use Rattle.stage.specs.declared.Due.TheVariants.{Segment, SegmentGroup, Section, SectionGroup}
 use Rattle.stage.specs.declared.Stage.TheVariants.{Program, Termination}
-use Rattle.stage.specs.declared.Step.{Step}
-use Rattle.stage.specs.declared.Step.TheVariants.{More, Refused}
+use Rattle.stage.specs.Step.{StepResult, step_more}
 use Rattle.sections.specs.declared.Item.{Item}
 use Rattle.sections.specs.declared.Item.TheVariants.{Go, Last, Refused as Item-refused}
 use Rattle.lists.specs.Load.{Load}
@@ -42,9 +41,9 @@ after_last c least ibank p =
     cond (eqb c.sections 0) (Last ibank) (Go c (Section (record { 0 = least }) ibank) p)
 
 -- of any other: the identifier of a group of the same section is due
-unfoldable pub after_group : LabelCounts → Due → ℕ → Bank → GroupStep → Item
-after_group c same least ibank (group_done p last) = cond last (after_last c least ibank p) (Go c same p)
-after_group c same least ibank (group_refused f) = Item-refused f
+unfoldable pub after_group : LabelCounts → Due → ℕ → Bank → Result GroupEnd Fault → Item
+after_group c same least ibank (Ok e) = cond e.last (after_last c least ibank e.past) (Go c same e.past)
+after_group c same least ibank (Err f) = Item-refused f
 
 -- ---- what stands at place i
 
@@ -74,10 +73,10 @@ item_step x c (SectionGroup t ibank) block i core =
 
 -- ---- item after item
 pub record StepOutcome : Type 0 where
-  pub step : Step
+  pub step : StepResult
   pub core : List ℕ
 
-pub record StepMeets (o : StepOutcome) (step : Step) (core : List ℕ) : Type 0 where
+pub record StepMeets (o : StepOutcome) (step : StepResult) (core : List ℕ) : Type 0 where
   pub told : step ≡ o.step
   pub left : core ≡ o.core
 
@@ -85,15 +84,15 @@ pub record StepMeets (o : StepOutcome) (step : Step) (core : List ℕ) : Type 0 
 -- was told from there is a fault of the block, i words on
 abbrev pub followed : ℕ → Item → List ℕ → (LabelCounts → Due → ℕ → List ℕ → StepOutcome) → StepOutcome
 followed i (Go c due p) core next = next c due p core
-followed i (Last ibank) core next = record { step = More (Termination ibank); core = core }
-followed i (Item-refused f) core next = record { step = Refused (further i f); core = core }
+followed i (Last ibank) core next = record { step = step_more (Termination ibank); core = core }
+followed i (Item-refused f) core next = record { step = Err (further i f); core = core }
 
 -- n items at most, from place i on, `due` being due there
 unfoldable pub program_from : ℕ → Load → LabelCounts → Due → List ℕ → ℕ → List ℕ → StepOutcome
-program_from zero x c due block i core = record { step = More (Program c due); core = core }
+program_from zero x c due block i core = record { step = step_more (Program c due); core = core }
 program_from (suc n) x c due block i core =
     cond (closes block i)
-    (record { step = More (Program c due); core = core })
+    (record { step = step_more (Program c due); core = core })
     (followed i (item_step x c due block i core).item (item_step x c due block i core).core
     (λ d next p after. program_from n x d next block p after))
 

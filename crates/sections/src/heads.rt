@@ -7,12 +7,13 @@ ghost use Rattle.sections.specs.Heads.{beside_table, banks_fit, segment_step, se
 
 use crate::{Item, Onward};
 use lists::Given;
-use program::{Bank, LAST_WORD, Segment, SegmentRead, TableSectionRead};
+use program::{Bank, LAST_WORD, Segment};
 use stage::{Due, LabelCounts};
 use word::Reference;
 use word::faults::FAULT_17;
 
 // The segment section's four words at place i: 17 where they do not stay in the block, are none, or the banks do not fit.
+#[tactic(auto, using(word::proofs::Tests::tests), unfolding(crate::specs::Heads::segment_step, crate::specs::Heads::with_segment))]
 pub fn segment_head(g: Given, lists: &[u64], c: LabelCounts, block: &[u64], i: usize) -> Item
     requires { HeadReady g lists.now block.now i }
     ensures { result ≡ segment_step g.area (core_tables g lists.now) c block.now i }
@@ -21,18 +22,19 @@ pub fn segment_head(g: Given, lists: &[u64], c: LabelCounts, block: &[u64], i: u
         return Item::Refused(FAULT_17);
     }
     match program::read_segment(block[i], block[i + 1]) {
-        SegmentRead::Good(segment) => {
+        Ok(segment) => {
             if banks_fit(g, lists, segment) {
                 let past = i + 4;
                 return Item::Go(c, Due::SegmentGroup(segment), past);
             }
             Item::Refused(FAULT_17)
         }
-        SegmentRead::Bad(f) => Item::Refused(f),
+        Err(f) => Item::Refused(f),
     }
 }
 
 // A table section's word at place i: 17 where it is none, its number does not rise, or there is no such table or one too short.
+#[tactic(auto, using(word::proofs::Tests::tests), unfolding(crate::specs::Heads::section_step, crate::specs::Heads::with_section))]
 pub fn section_head(
     g: Given,
     lists: &[u64],
@@ -45,7 +47,7 @@ pub fn section_head(
     ensures { result ≡ section_step (core_tables g lists.now) c o.least.0 o.ibank block.now i }
 {
     match program::read_table_section(block[i]) {
-        TableSectionRead::Good(t) => {
+        Ok(t) => {
             if t.number.0 < o.least.0 {
                 return Item::Refused(FAULT_17);
             }
@@ -56,7 +58,7 @@ pub fn section_head(
             }
             Item::Refused(FAULT_17)
         }
-        TableSectionRead::Bad(f) => Item::Refused(f),
+        Err(f) => Item::Refused(f),
     }
 }
 
@@ -64,36 +66,25 @@ pub fn section_head(
 fn one_fewer(c: LabelCounts) -> LabelCounts
     ensures { result ≡ record { channels = c.channels; sections = c.sections - 1 } }
 {
-    if c.sections == 0 {
-        return c;
-    }
     LabelCounts {
         channels: c.channels,
-        sections: c.sections - 1,
+        sections: c.sections.saturating_sub(1),
     }
 }
 
 // Whether the banks lie in the area and share no word with each other or a table.
+#[tactic(auto, using(word::proofs::Tests::tests, crate::proofs::Ranges::bank_inside), unfolding(crate::specs::Heads::banks_fit))]
 fn banks_fit(g: Given, lists: &[u64], segment: Segment) -> bool
     requires { Readable g lists.now }
     ensures { result ≡ banks_fit g.area (core_tables g lists.now) segment }
 {
-    let area = g.area;
     let i = segment.ibank;
     let d = segment.dbank;
-    if !stage::bank_fits(area, i) {
-        return false;
-    }
-    if !stage::bank_fits(area, d) {
-        return false;
-    }
-    if !word::runs_apart(i.at.0, i.count, d.at.0, d.count) {
-        return false;
-    }
-    if !bank_beside_tables(g, lists, i) {
-        return false;
-    }
-    bank_beside_tables(g, lists, d)
+    stage::bank_fits(g.area, i)
+        && stage::bank_fits(g.area, d)
+        && word::runs_apart(i.at.0, i.count, d.at.0, d.count)
+        && bank_beside_tables(g, lists, i)
+        && bank_beside_tables(g, lists, d)
 }
 
 // Whether a bank in the area shares no word with a table.
@@ -101,16 +92,9 @@ fn bank_beside_tables(g: Given, lists: &[u64], bank: Bank) -> bool
     requires { (Readable g lists.now) × (bank.at.0 ≤ g.area.size) }
     ensures { result ≡ every (beside_table g.area bank) (core_tables g lists.now) }
 {
-    let area = g.area;
-    let tables = g.tables;
-    let at = word::placed(area, bank.at);
-    let mut k: u64 = 0;
-    while k < tables {
+    let at = word::placed(g.area, bank.at);
+    (0..g.tables).all(|k| {
         let t = lists::load::core_table(g, lists, Reference(k));
-        if !word::runs_apart(at.0, bank.count, t.at.0, t.len) {
-            return false;
-        }
-        k += 1;
-    }
-    true
+        word::runs_apart(at.0, bank.count, t.at.0, t.len)
+    })
 }

@@ -8,11 +8,11 @@ ghost use Rattle.sections.specs.HowTurns.{item_of, turn_of, turn_after};
 
 use crate::{Awaited, Item, Onward, Turn, heads};
 use field::Assigned;
-use group::{GroupStep, Section};
+use group::{GroupEnd, Section};
 use lists::Given;
 use program::LAST_WORD;
 use stage::{Due, LabelCounts, Stage, Step};
-use word::Reference;
+use word::{Fault, Reference};
 
 // Where no identifier can stand any more.
 const PAST_ITEMS: usize = LAST_WORD + 1;
@@ -25,7 +25,7 @@ pub fn program_step(
     due: Due,
     block: &[u64],
     core: &mut [u64],
-) -> Step
+) -> Result<Step, Fault>
     requires { KeptWaits g lists.now (Stage.Program c due) block.now core.old }
     ensures { StepMeets (program_step (load_of g lists.now) c due block.now core.old)
         result core.new }
@@ -33,9 +33,10 @@ pub fn program_step(
     let mut counts = c;
     let mut next = due;
     let mut i: usize = 1;
+    // Stays a while loop: an item is as long as what it says, so what was read says where the next one stands.
     while i < PAST_ITEMS {
         if block[i] == 0 {
-            return Step::More(Stage::Program(counts, next));
+            return Ok(Step::More(Stage::Program(counts, next)));
         }
         let w = Awaited { counts, due: next };
         match item_step(g, lists, w, block, i, core) {
@@ -48,14 +49,14 @@ pub fn program_step(
                 i = p;
             }
             Turn::Last(ibank) => {
-                return Step::More(Stage::Termination(ibank));
+                return Ok(Step::More(Stage::Termination(ibank)));
             }
             Turn::Refused(f) => {
-                return Step::Refused(word::further(i as u64, f));
+                return Err(word::further(i as u64, f));
             }
         }
     }
-    Step::More(Stage::Program(counts, next))
+    Ok(Step::More(Stage::Program(counts, next)))
 }
 
 // What stands at place i, where w is awaited: a section's head, or a group of the segment section or of a table section. Each of
@@ -106,21 +107,22 @@ fn turn_of(it: Item) -> Turn
 }
 
 // What is due after a group: a group of the same section, or what follows the section's last one.
-fn after_group(c: LabelCounts, o: Onward, r: GroupStep) -> Turn
+fn after_group(c: LabelCounts, o: Onward, r: Result<GroupEnd, Fault>) -> Turn
     ensures { result ≡ turn_after c o.least.0 o.ibank r }
 {
     match r {
-        GroupStep::Done(p, last) => {
-            if last {
-                return after_last(c, o, p);
+        Ok(e) => {
+            if e.last {
+                return after_last(c, o, e.past);
             }
-            Turn::Same(p)
+            Turn::Same(e.past)
         }
-        GroupStep::Refused(f) => Turn::Refused(f),
+        Err(f) => Turn::Refused(f),
     }
 }
 
 // What is due after a section: a table section, or after the last one the termination block.
+#[tactic(auto, using(word::proofs::Tests::tests), unfolding(crate::specs::Program::after_last))]
 fn after_last(c: LabelCounts, o: Onward, p: usize) -> Turn
     ensures { result ≡ turn_of (after_last c o.least.0 o.ibank p) }
 {

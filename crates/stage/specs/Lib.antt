@@ -1,3 +1,4 @@
 pub mod Stage
 pub mod Ranges
 pub mod Record
+pub mod Step

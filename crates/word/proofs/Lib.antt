@@ -10,4 +10,3 @@ pub mod Word
 pub mod Stretch
 pub mod Each
 pub mod Fill
-pub mod Runs

@@ -48,22 +48,16 @@ pub struct Area {
     pub size: u64,
 }
 
-// What of its word a fault lies in: the word as a whole, or one of its halves.
-#[derive(Clone, Copy)]
-pub enum Side {
-    Whole,
-    In(Half),
-}
-
-// Why a call is refused: the number that 01 gives it; and where: the word, the half of it where a field is at fault, and how many of
-// the group's indicator bits stand before that half's own. Outside a block all of these are 0. They stand in the order in which a load
-// without fault costs least (docs/DECISIONS.md).
+// Why a call is refused: the number that 01 gives it; and where: the word, the half of it where a field is at fault (else none), and how
+// many of the group's indicator bits stand before that half's own. Outside a block these are 0 and none. They stand in the order in
+// which a load without fault costs least (docs/DECISIONS.md). Stays a number: 01 and 02 name a refusal by its number alone, and C is
+// answered with it (docs/ANSWERS.md); the theorems compare it.
 #[derive(Clone, Copy)]
 pub struct Fault {
     pub bit: u64,
     pub number: u64,
     pub word: u64,
-    pub half: Side,
+    pub half: Option<Half>,
 }
 
 // A fault of the first word that its reader was given: a reader says no more of its place.
@@ -73,7 +67,7 @@ pub fn fault_of(number: u64) -> Fault
     Fault {
         number,
         word: 0,
-        half: Side::Whole,
+        half: None,
         bit: 0,
     }
 }
@@ -83,10 +77,9 @@ pub fn in_half(f: Fault, h: Half, bit: u64) -> Fault
     ensures { result ≡ in_half h bit f }
 {
     Fault {
-        number: f.number,
-        word: f.word,
-        half: Side::In(h),
+        half: Some(h),
         bit,
+        ..f
     }
 }
 
@@ -96,12 +89,9 @@ pub fn further(k: u64, f: Fault) -> Fault
     requires { k + f.word < 2 ^ 64 }
     ensures { result ≡ further k f }
 {
-    let half = f.half;
     Fault {
-        number: f.number,
         word: k + f.word,
-        half,
-        bit: f.bit,
+        ..f
     }
 }
 
@@ -113,7 +103,7 @@ pub fn placed(area: Area, r: Relative) -> Absolute
     Absolute(area.at.0 + r.0)
 }
 
-// An address that counts from a table's first word, as those of a table section's groups do.
+// An address that counts from a table's first word, as those of a table section's groups do. Stays beside `placed`: a table is no area.
 pub fn from_table(at: Absolute, r: Relative) -> Absolute
     requires { at.0 + r.0 < 2 ^ 64 }
     ensures { result ≡ from_table at r }
@@ -133,32 +123,26 @@ pub fn move_right(area: Area, w: u64) -> u64
 pub fn word_at(words: &[u64], i: usize) -> u64
     ensures { result ≡ get_or words.now i 0 }
 {
-    if i < words.len() { words[i] } else { 0 }
+    words.get(i).copied().unwrap_or(0)
 }
 
 // Whether n words from a lie inside m words from b. The four may be any numbers: a sum could wrap, these differences cannot.
+#[tactic(auto, unfolding(crate::specs::Runs::within))]
 pub fn run_within(a: u64, n: u64, b: u64, m: u64) -> bool
     ensures { result ≡ within a n b m }
 {
-    if a < b {
-        return false;
-    }
-    if m < a - b {
-        return false;
-    }
-    n <= m - (a - b)
+    b <= a && n <= m && a - b <= m - n
 }
 
 // Whether n words from a and m words from b share none; an empty run shares none. Differences for the same reason.
+#[tactic(auto, unfolding(crate::specs::Runs::apart))]
 pub fn runs_apart(a: u64, n: u64, b: u64, m: u64) -> bool
     ensures { result ≡ apart a n b m }
 {
-    if n == 0 {
+    if n == 0 || m == 0 {
         return true;
     }
-    if m == 0 {
-        return true;
-    }
+    // Stays a return: one expression reckons both differences each time, four instructions more for each two areas of a desk.
     if a <= b {
         return n <= b - a;
     }
@@ -210,7 +194,7 @@ pub fn a_field(w: u64) -> u64
     bits(w, 25, 22)
 }
 
-// The word with v for bits 25-22.
+// The word with v for bits 25-22. Stays beside `store_field`: for any bits the proof would be one of powers, and the code no shorter.
 pub fn store_a(w: u64, v: u64) -> u64
     requires { (w < 2 ^ 36) × (v < 2 ^ 4) }
     ensures { result ≡ a_stored w v }

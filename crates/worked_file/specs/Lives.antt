@@ -1,12 +1,12 @@
 -- Lives of loads on a desk, from make on: room 0 has all of a core of 4,096 words, which are all 5, opens a load and feeds it a
 -- file.
-use Rattle.std.specs.Prelude.{ℕ, List, [], ◌∷◌, map}
+use Rattle.std.specs.Prelude.{ℕ, List, [], ◌∷◌, map, Ok, Err}
 use Rattle.word.specs.declared.Area.{Area}
 use Rattle.lists.specs.Load.{Load}
 use Rattle.stage.specs.declared.Stage.{Stage}
 use Rattle.stage.specs.declared.Stage.TheVariants.{Complete, Broken}
-use Rattle.stage.specs.declared.Step.{Step}
-use Rattle.stage.specs.declared.Step.TheVariants.{More as StepMore, Done as StepDone, Refused as StepRefused}
+use Rattle.stage.specs.Step.{StepResult}
+use Rattle.stage.specs.declared.Step.TheVariants.{More, Done}
 use Rattle.feed.specs.Block.{block_step}
 use Rattle.calls.specs.declared.Answer.{Answer}
 use Rattle.demands.specs.Orders.{run}
@@ -36,10 +36,10 @@ pub record Waiting : Type 0 where
   pub stage : Stage
   pub core : List ℕ
 
-abbrev pub stage_after : Step → Stage
-stage_after (StepMore s) = s
-stage_after (StepDone a) = Complete
-stage_after (StepRefused f) = Broken
+abbrev pub stage_after : StepResult → Stage
+stage_after (Ok (More s)) = s
+stage_after (Ok (Done a)) = Complete
+stage_after (Err f) = Broken
 
 abbrev pub takes : Load → Waiting → List ℕ → Waiting
 takes x w block = record {

@@ -1,17 +1,14 @@
 -- Files that are refused: the worked file with one word changed, now and then two, and with it the checksum of that block, and where
 -- the fault is. For each refusal from 13 to 22 there is one; more show which of two faults is given, 11 and 12, and the edges of
 -- rules.
-use Rattle.std.specs.Prelude.{ℕ, ◌+◌, List, [], ◌∷◌, get_or}
+use Rattle.std.specs.Prelude.{ℕ, ◌+◌, List, [], ◌∷◌, get_or, Ok, Err}
 use Rattle.word.specs.declared.Fault.{Fault}
 use Rattle.word.specs.declared.Half.{Half}
 use Rattle.word.specs.declared.Half.TheVariants.{Left, Right}
-use Rattle.word.specs.Fault.{fault, in_half, further}
-use Rattle.block.specs.declared.Verdict.{Verdict}
-use Rattle.block.specs.declared.Verdict.TheVariants.{Pass, Refused as BlockRefused}
+use Rattle.word.specs.Fault.{fault, in_half, further, Verdict}
 use Rattle.block.specs.Block.{verdict}
 use Rattle.stage.specs.declared.Stage.TheVariants.{Broken}
-use Rattle.stage.specs.declared.Step.{Step}
-use Rattle.stage.specs.declared.Step.TheVariants.{Refused as StepRefused}
+use Rattle.stage.specs.Step.{StepResult}
 use Rattle.stage.specs.Record.{record_due}
 use Rattle.feed.specs.Block.{block_step}
 use Rattle.calls.specs.declared.Answer.{Answer}
@@ -50,14 +47,14 @@ abbrev pub core_in : List State → Faulty → List ℕ
 core_in ss f = (call (Feed 0 0 (faulty_block f)) (before ss f)).core
 
 -- ---- or to a load by itself. ws are what it waits for, block after block; 11 and 12 come first.
-abbrev pub unless_bad : Verdict → Step → Step
-unless_bad Pass s = s
-unless_bad (BlockRefused g) s = StepRefused g
+abbrev pub unless_bad : Verdict → StepResult → StepResult
+unless_bad (Ok t) s = s
+unless_bad (Err g) s = Err g
 
-abbrev pub step_of : Waiting → List ℕ → Step
+abbrev pub step_of : Waiting → List ℕ → StepResult
 step_of w block = unless_bad (verdict (record_due w.stage) block) (block_step worked_given w.stage block w.core).step
 
-abbrev pub step_in : List Waiting → Faulty → Step
+abbrev pub step_in : List Waiting → Faulty → StepResult
 step_in ws f = step_of (get_or ws f.block (record { stage = Broken; core = [] })) (faulty_block f)
 
 -- one for each number

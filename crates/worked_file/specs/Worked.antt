@@ -1,18 +1,16 @@
 -- What holds of the worked file, of the faulty ones and of the split one. Each statement is proved under the same name in small
 -- letters in proofs/, by computing from the definitions alone: `WorkedImage` by `worked_image_lem`.
-use Rattle.std.specs.Prelude.{ℕ, ◌+◌, ◌*◌, ◌^◌, ◌≡◌, List, [], ◌∷◌, ◌++◌, map, length, replicate, take}
-use Rattle.word.specs.Fault.{fault, further}
+use Rattle.std.specs.Prelude.{ℕ, ◌+◌, ◌*◌, ◌^◌, ◌≡◌, List, [], ◌∷◌, ◌++◌, map, length, replicate, take, Result, Ok, Err}
+use Rattle.word.specs.Fault.{fault, further, pass}
 use Rattle.word.specs.Lists.{splice, cleared}
 use Rattle.stage.specs.declared.Stage.TheVariants.{Label, Complete}
-use Rattle.stage.specs.declared.Step.TheVariants.{Refused as RefusedStep}
 use Rattle.calls.specs.declared.Answer.TheVariants.{Made, Opened, More, Done, Refused}
 use Rattle.demands.specs.Image.{image_of, file_start}
 use Rattle.demands.specs.Taking.{Takes}
 use Rattle.demands.specs.History.{State, Event}
 use Rattle.demands.specs.Examples.{old_core, old}
-use Rattle.block.specs.declared.Verdict.TheVariants.{Pass, Refused as BlockRefused}
-use Rattle.label.specs.declared.LabelRead.{LabelRead}
-use Rattle.label.specs.declared.LabelRead.TheVariants.{Good, Bad}
+use Rattle.word.specs.declared.Fault.{Fault}
+use Rattle.label.specs.declared.Label.{Label as LabelWords}
 use Rattle.front.specs.Front.{label_block, needs_value}
 use Rattle.book.specs.Assign.{refused_with, assign_of}
 use Rattle.worked_file.specs.Blocks.{worked_ios, worked_tables, worked_given, worked_label, worked_file}
@@ -65,7 +63,7 @@ abbrev pub worked_waits : List Waiting
 worked_waits = waits_from worked_given (record { stage = Label; core = replicate 0o2200 0 }) worked_file
 
 abbrev pub EdgeSteps : Type 0
-EdgeSteps = map (step_in worked_waits) edge_files ≡ map (λ f. RefusedStep f.fault) edge_files
+EdgeSteps = map (step_in worked_waits) edge_files ≡ map (λ f. Err f.fault) edge_files
 
 -- ---- the file whose last entry is split across two blocks
 
@@ -87,12 +85,12 @@ SplitAnswers =
 -- the worked file's book gives the lists that it is loaded with
 abbrev pub WorkedAssigned : Type 0
 WorkedAssigned =
-    assign_of worked_book worked_front lent_ios lent_tables ≡ record { answer = Pass; io = worked_ios; tables = worked_tables }
+    assign_of worked_book worked_front lent_ios lent_tables ≡ record { answer = pass; io = worked_ios; tables = worked_tables }
 
 -- one length tag serves two tables
 abbrev pub SharedAssigned : Type 0
 SharedAssigned =
-    assign_of (take 126 worked_book) shared_front lent_ios lent_tables ≡ record { answer = Pass; io = worked_ios; tables = shared_tables }
+    assign_of (take 126 worked_book) shared_front lent_ios lent_tables ≡ record { answer = pass; io = worked_ios; tables = shared_tables }
 
 -- each wrong book is refused with its number, each wrong front with its fault, and the lists are left
 abbrev pub WrongBooks : Type 0
@@ -101,16 +99,16 @@ WrongBooks = map (λ b. assign_of b.book worked_front lent_ios lent_tables) wron
 
 abbrev pub WrongFronts : Type 0
 WrongFronts = map (λ f. assign_of worked_book f.blocks lent_ios lent_tables) wrong_fronts
-    ≡ map (λ f. record { answer = BlockRefused f.fault; io = lent_ios; tables = lent_tables }) wrong_fronts
+    ≡ map (λ f. record { answer = Err f.fault; io = lent_ios; tables = lent_tables }) wrong_fronts
 
 -- lists that are too short or too long are refused with 24
 abbrev pub WrongLists : Type 0
 WrongLists = (assign_of worked_book worked_front (replicate 3 0) lent_tables ≡ refused_with 24 (replicate 3 0) lent_tables)
     × (assign_of worked_book worked_front lent_ios (replicate 7 0) ≡ refused_with 24 lent_ios (replicate 7 0))
 
-abbrev needs_in : LabelRead → ℕ
-needs_in (Good l) = needs_value l
-needs_in (Bad f) = 0
+abbrev needs_in : Result LabelWords Fault → ℕ
+needs_in (Ok l) = needs_value l
+needs_in (Err f) = 0
 
 -- its label needs 4 I/O numbers, 3 tables and 1 modification block
 abbrev pub WorkedNeeds : Type 0

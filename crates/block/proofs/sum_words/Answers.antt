@@ -16,13 +16,12 @@ returns-then-block-ne-BLOCK_WORDS c = search tests
 pub loop-i-init : goal.loop-i-init
 loop-i-init c =
     let e = left-all c.args.block.now (omega arith) in
-    (omega arith, omega arith, rw e (omega arith), rw e)
+    (omega arith, rw e (omega arith), rw e)
 
 pub loop-i-preserved : goal.loop-i-preserved
 loop-i-preserved c =
     let l = c.loop-i in
     let b = c.args.block.now in (
-      omega arith,
       omega (arith, c.wrapping_add_u64-sum-in-loop-i-3.type_inv),
       rw (
         c.wrapping_add_u64-sum-in-loop-i-3.ensures.value,
@@ -30,8 +29,8 @@ loop-i-preserved c =
         c.wrapping_add_u64-sum-in-loop-i.ensures.value,
         c.wrapping_add_u64-sum.ensures.value,
       )
-          (sums_more b l.i (omega arith) l.sum (total b) (omega arith) l.invariant.2),
-      words_more b l.i (omega arith) l.any (every is_word b) (omega arith) l.invariant.3,
+          (sums_more b l.i (omega arith) l.sum (total b) (omega arith) l.invariant.1),
+      words_more b l.i (omega arith) l.any (every is_word b) (omega arith) l.invariant.2,
     )
 
 pub returns-then-any-ge-WORD_LIMIT : goal.returns-then-any-ge-WORD_LIMIT
@@ -39,13 +38,13 @@ returns-then-any-ge-WORD_LIMIT c =
     let l = c.loop-i in
     let b = c.args.block.now in
     summed-none b (omega arith)
-    (words_end b l.i (omega arith) l.any (every is_word b) (omega arith) l.invariant.3 ∙ le-ltb l.any word_limit c.if-any-ge-WORD_LIMIT.true)
+    (words_end b l.i (omega arith) l.any (every is_word b) (omega arith) l.invariant.2 ∙ le-ltb l.any word_limit c.if-any-ge-WORD_LIMIT.true)
 
 pub returns-else-any-ge-WORD_LIMIT : goal.returns-else-any-ge-WORD_LIMIT
 returns-else-any-ge-WORD_LIMIT c =
     let l = c.loop-i in
     let b = c.args.block.now in
     summed-sum b l.sum (omega arith)
-    (words_end b l.i (omega arith) l.any (every is_word b) (omega arith) l.invariant.3 ∙ lt-ltb l.any word_limit c.if-any-ge-WORD_LIMIT.false)
-    l.invariant.1
-    (sums_end b l.i (omega arith) l.sum (total b) (omega arith) l.invariant.2)
+    (words_end b l.i (omega arith) l.any (every is_word b) (omega arith) l.invariant.2 ∙ lt-ltb l.any word_limit c.if-any-ge-WORD_LIMIT.false)
+    l.invariant.0
+    (sums_end b l.i (omega arith) l.sum (total b) (omega arith) l.invariant.1)

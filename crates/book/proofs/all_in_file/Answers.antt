@@ -1,31 +1,20 @@
--- `book::all_in_file` meets its contract: the rest of the records decides.
-use mathlib.Core.Path.{refl}
-use Rattle.book.proofs.Looking.{looked_more, looked_fails, looked_ends}
+-- `book::all_in_file` meets its contract: by the library's test of every number, and what record i says.
+use mathlib.Core.Path.{refl, ◌∙◌}
 use native.Mathlib.Omega.{arith}
+use Rattle.std.proofs.Common.{rules, tests}
+use Rattle.std.proofs.lemmas.Iterator.{YieldsList-from_range}
+use Rattle.std.proofs.lemmas.Iterator.Search.{all_from_yields_List}
+use Rattle.book.specs.Book.{record_at, assignment_of, record_count, assignments_of}
+use Rattle.book.specs.Assign.{in_file, no_assignment}
+use Rattle.book.specs.HowKept.{kept_tags}
+use Rattle.book.proofs.Chains.{every-range}
 use Rattle.book.proofs.all_in_file.Goals as goal
 
-pub loop-i-init : goal.loop-i-init
-loop-i-init c = (omega arith, refl)
-
-pub read_record-requires : goal.read_record-requires
-read_record-requires c = (c.requires.right, omega arith)
-
-pub in_file-requires : goal.in_file-requires
-in_file-requires c = let p = c.requires in (p.carried, p.long)
-
-pub returns-then-not-in_file : goal.returns-then-not-in_file
-returns-then-not-in_file c =
-    let l = c.loop-i in
-    looked_fails _ _ l.i _ _ _ (omega arith) c.read_record.ensures c.in_file.ensures
-    (c.if-not-in_file.true) l.invariant.1
-
-pub loop-i-preserved : goal.loop-i-preserved
-loop-i-preserved c =
-    let l = c.loop-i in (
-      omega arith,
-      looked_more _ _ l.i _ _ _ (omega arith) c.read_record.ensures c.in_file.ensures
-          (c.if-not-in_file.false) l.invariant.1,
-    )
-
 pub returns : goal.returns
-returns c = let l = c.loop-i in looked_ends _ _ l.i _ (omega arith) l.invariant.1
+unfolding assignments_of
+returns c =
+    let b = c.args.book.now in
+    let ts = kept_tags c.args.tags.now c.args.l in
+    all_from_yields_List (λ i. in_file ts (assignment_of (record_at b i))) _ _ _ c.all.ensures.ran
+    (YieldsList-from_range 0 _ (record_count b) refl (omega (arith, c.count.ensures))) (λ x r q k. search (rules, tests))
+    ∙ every-range (in_file ts) (λ i. assignment_of (record_at b i)) (record_count b) no_assignment

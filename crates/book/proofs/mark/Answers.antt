@@ -1,43 +1,23 @@
--- `book::mark` meets its contract: at every turn the places before this one of the tag are marked.
-use Prim.Native.Nat.{◌+◌}
-use mathlib.Core.Path.{ap, ◌∙◌}
-use lib.ListN.{length-set}
-use Rattle.book.specs.Assign.{place_of}
-use Rattle.book.proofs.Marking.{rest-lent, marks_begin, marks_next, marks_end}
+-- `book::mark` meets its contract: at every turn the places passed are marked that have the tag.
+use mathlib.Core.Path.{◌∙◌}
 use native.Mathlib.Omega.{arith}
+use Rattle.book.proofs.Finding.{place_most}
+use Rattle.book.proofs.Marking.{marks_begin, marked-here, marked_pass, marks_end}
 use Rattle.book.proofs.mark.Goals as goal
+use Rattle.book.proofs.mark.Goals.{then-tags-j, else-tags-j}
 
 pub loop-j-init : goal.loop-j-init
-loop-j-init c =
-    let b = marks_begin c.args.tags.now c.args.tag c.args.value c.args.marks.now c.requires.0 c.args.first
-    c.requires.1 in
-    (omega (arith, b.most), omega arith, b)
-
-pub overflow_add-j-in-loop-j : goal.overflow_add-j-in-loop-j
-overflow_add-j-in-loop-j c =
-    let l = c.loop-j in
-    let a = c.args in
-    let k = marks_next _ _ _ _ c.requires.0 l.j _ _ (omega arith) l.invariant.2
-    (c.find-j.ensures ∙ ap (place_of a.tag) (rest-lent a.tags.now (l.j + 1))) in
-    omega (arith, k.most)
-
-pub loop-j-smaller : goal.loop-j-smaller
-loop-j-smaller c =
-    let l = c.loop-j in
-    let a = c.args in
-    let k = marks_next _ _ _ _ c.requires.0 l.j _ _ (omega arith) l.invariant.2
-    (c.find-j.ensures ∙ ap (place_of a.tag) (rest-lent a.tags.now (l.j + 1))) in
-    omega (arith, k.most)
+loop-j-init c = marks_begin _ _ _ _ c.args.first c.requires.1 c.requires.0
 
 pub loop-j-preserved : goal.loop-j-preserved
 loop-j-preserved c =
     let l = c.loop-j in
-    let a = c.args in
-    let k = marks_next _ _ _ _ c.requires.0 l.j _ _ (omega arith) l.invariant.2
-    (c.find-j.ensures ∙ ap (place_of a.tag) (rest-lent a.tags.now (l.j + 1))) in
-    (omega (arith, k.most), simp length-set (omega arith), k)
+    elim c.if-tags-j.branch [
+      | then-tags-j w ↦ rw w.marks-is (marked-here _ _ _ _ l.j _ (omega arith) w.if-tags-j.true l.invariant)
+      | else-tags-j w ↦ rw w.marks-is (l.invariant ∙ marked_pass _ _ _ _ l.j (omega arith) w.if-tags-j.false)
+    ]
 
 pub returns : goal.returns
 returns c =
     let l = c.loop-j in
-    marks_end _ _ _ _ c.requires.0 l.j _ (omega arith) l.invariant.2
+    marks_end _ _ _ _ l.j _ (omega (arith, place_most c.args.tag c.args.tags.now)) l.invariant

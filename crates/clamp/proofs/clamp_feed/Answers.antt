@@ -1,7 +1,6 @@
 -- `clamp::clamp_feed` meets its contract: what the call leaves, packed.
 use Rattle.feed.proofs.Fed.{feed_small}
 use Rattle.clamp.proofs.Returned.{packed_returned}
-use borrow.Author.Rules.{rules}
 use Rattle.clamp.proofs.clamp_feed.Goals as goal
 
 pub pack-requires : goal.pack-requires

@@ -1,7 +1,6 @@
 -- `clamp::clamp_release` meets its contract: what the call leaves, packed.
 use Rattle.calls.proofs.Freed.{release_small}
 use Rattle.clamp.proofs.Returned.{packed_returned}
-use borrow.Author.Rules.{rules}
 use Rattle.clamp.proofs.clamp_release.Goals as goal
 
 pub pack-requires : goal.pack-requires

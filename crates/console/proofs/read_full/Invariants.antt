@@ -1,9 +1,9 @@
 -- `console::read_full` is safe and ends: the room that is left grows less.
-use Rattle.std.proofs.Common.{length, ◌-◌, ◌≡◌, ◌≤◌}
+use Rattle.std.proofs.Common.{length, ◌-◌, ◌≤◌}
 use Rattle.console.proofs.read_full.Given as goal
 
 abbrev pub invariant-loop-n : goal.invariant-loop-n
-invariant-loop-n g l = (length l.bytes ≡ length l.initial.bytes) × (l.n ≤ length l.bytes)
+invariant-loop-n g l = l.n ≤ length l.bytes
 
 abbrev pub decreases-loop-n : goal.decreases-loop-n
 decreases-loop-n g l = length l.initial.bytes - l.n

@@ -8,6 +8,6 @@ pub returns-then-other-eq0 : goal.returns-then-other-eq0
 unfolding areas_apart own_of
 returns-then-other-eq0 c = rw (ne_eqb _ _ c.requires.held, eq-eqb _ _ c.if-other-eq0.true)
 
-pub returns : goal.returns
+pub returns-else-other-eq0 : goal.returns-else-other-eq0
 unfolding areas_apart own_of
-returns c = rw (ne_eqb _ _ c.requires.held, ne_eqb _ _ c.if-other-eq0.false) c.runs_apart.ensures
+returns-else-other-eq0 c = rw (ne_eqb _ _ c.requires.held, ne_eqb _ _ c.if-other-eq0.false) c.runs_apart.ensures

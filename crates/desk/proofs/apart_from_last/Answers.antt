@@ -1,12 +1,8 @@
 -- `desk::apart_from_last` meets its contract: each return by the test that led to it.
 use Prim.Native.Nat.{◌-◌, ◌<◌}
 use native.Mathlib.Omega.{arith}
-use borrow.Author.Tests.{eq-eqb, ne_eqb}
 use Rattle.layout.proofs.Places.{place-length}
 use Rattle.desk.proofs.apart_from_last.Goals as goal
-
-pub returns-then-q-eq0 : goal.returns-then-q-eq0
-returns-then-q-eq0 c = rw (eq-eqb _ 0 c.if-q-eq0.true)
 
 pub apart_from_held-requires : goal.apart_from_held-requires
 apart_from_held-requires c =
@@ -17,6 +13,3 @@ apart_from_held-requires c =
       second = c.requires.long;
       held = rw c.place_at.ensures (c.requires.held h);
     }
-
-pub returns : goal.returns
-returns c = rw (ne_eqb _ 0 c.if-q-eq0.false, ← c.place_at.ensures) c.apart_from_held.ensures

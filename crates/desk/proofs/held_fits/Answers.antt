@@ -2,32 +2,32 @@
 use Rattle.desk.proofs.Tested.{lists_readable, area_small}
 use mathlib.Core.Path.{sym, ◌∙◌}
 use Rattle.desk.specs.Sound.{held_fits}
+use Rattle.desk.proofs.held_fits.Goals.{then-area_in, else-area_in}
 use Rattle.desk.proofs.held_fits.Goals as goal
 
-pub returns-then-not-area_in : goal.returns-then-not-area_in
-unfolding held_fits
-returns-then-not-area_in c = rw (← c.own_of-o.ensures, sym c.area_in.ensures ∙ c.if-not-area_in.true)
-
-pub returns-then-not-counts_fit : goal.returns-then-not-counts_fit
-unfolding held_fits
-returns-then-not-counts_fit c =
-    rw (
-      ← c.own_of-o.ensures,
-      sym c.area_in.ensures ∙ c.if-not-area_in.false,
-      sym c.counts_fit.ensures ∙ c.if-not-counts_fit.true,
-    )
-
 pub load_fits-requires : goal.load_fits-requires
-load_fits-requires c =
-    let q = sym c.counts_fit.ensures ∙ c.if-not-counts_fit.false in
-    let w = sym c.area_in.ensures ∙ c.if-not-area_in.false in
-    (c.requires.0, lists_readable _ _ c.requires.0 q (area_small _ _ c.requires.1 w))
+load_fits-requires c = elim c.if-area_in.branch [
+  | then-area_in w ↦
+      let q = sym w.counts_fit.ensures ∙ sym w.value-is ∙ c.if-counts_fit.true in
+      let a = sym c.area_in.ensures ∙ w.if-area_in.true in
+      (c.requires.0, lists_readable _ _ c.requires.0 q (area_small _ _ c.requires.1 a))
+  | else-area_in w ↦ cc
+]
 
-pub returns : goal.returns
+pub returns-then-counts_fit : goal.returns-then-counts_fit
 unfolding held_fits
-returns c =
-    rw (
-      ← c.own_of-o.ensures,
-      sym c.area_in.ensures ∙ c.if-not-area_in.false,
-      sym c.counts_fit.ensures ∙ c.if-not-counts_fit.false,
-    ) c.load_fits.ensures
+returns-then-counts_fit c = elim c.if-area_in.branch [
+  | then-area_in w ↦
+      let q = sym w.counts_fit.ensures ∙ sym w.value-is ∙ c.if-counts_fit.true in
+      rw (← c.own_of-o.ensures, sym c.area_in.ensures ∙ w.if-area_in.true, q) c.load_fits.ensures
+  | else-area_in w ↦ cc
+]
+
+pub returns-else-counts_fit : goal.returns-else-counts_fit
+unfolding held_fits
+returns-else-counts_fit c = elim c.if-area_in.branch [
+  | then-area_in w ↦
+      let q = sym w.counts_fit.ensures ∙ sym w.value-is ∙ c.if-counts_fit.false in
+      rw (c.if-counts_fit.false, ← c.own_of-o.ensures, sym c.area_in.ensures ∙ w.if-area_in.true, q)
+  | else-area_in w ↦ rw (c.if-counts_fit.false, ← c.own_of-o.ensures, sym c.area_in.ensures ∙ w.if-area_in.false)
+]

@@ -4,6 +4,7 @@ use mathlib.Core.List.{List}
 use mathlib.Core.Path.{◌≡◌, sym, ap, ◌∙◌}
 use native.Mathlib.Omega.{arith}
 use lib.ListN.{length, take}
+use borrow.Author.Tests.{eq-eqb}
 use Rattle.word.specs.Lists.{splice}
 use Rattle.rooms.specs.Rooms.{held_places}
 use Rattle.layout.specs.Layout.{holders}
@@ -30,7 +31,7 @@ returns-then-n-eq0 c =
     let r = c.read_holders-h.ensures in
     let f = sym (rw r at c.fair.ensures)
     ∙ c.if-not-fair.false in
-    sym (rw (f, sym (nothing_held _ f (rw r at (sym c.held_places-n.ensures.0 ∙ c.if-n-eq0.true)))))
+    rw (eq-eqb _ 0 c.if-n-eq0.true) (sym (rw (f, sym (nothing_held _ f (rw r at (sym c.held_places-n.ensures.0 ∙ c.if-n-eq0.true))))))
 
 pub slice_bounds-held-end : goal.slice_bounds-held-end
 slice_bounds-held-end c =
@@ -58,8 +59,8 @@ places_fit-requires c =
       named = held-lent_on c.read_holders-h.result _ _ _ c.held_places-n.ensures.0 c.held_places-n.ensures.1 (omega (arith, holders-long _ _ c.read_holders-h.ensures)) ∙ ap (held_places 0) r;
     }
 
-pub returns : goal.returns
-returns c =
+pub returns-else-n-eq0 : goal.returns-else-n-eq0
+returns-else-n-eq0 c =
     let r = c.read_holders-h.ensures in
     rw (sym (rw r at c.fair.ensures)
     ∙ c.if-not-fair.false) c.places_fit.ensures

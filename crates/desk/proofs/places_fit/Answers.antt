@@ -47,24 +47,24 @@ its-stretch d n m r s e k q = q ∙ rw (e, k)
 its_test : (a s : Stretch) (m k : List ℕ) (b : Bool) → a ≡ s → m ≡ k → b ≡ held_fits a m → b ≡ held_fits s k
 its_test a s m k b e f q = q ∙ rw (e, f)
 
-pub loop-i-init : goal.loop-i-init
-loop-i-init c = (omega arith, refl, looked_none _ _ c.requires.named)
+pub loop-p-init : goal.loop-p-init
+loop-p-init c = record { rooms = refl; looked = record { past = 0; so = looked_none _ _ c.requires.named } }
 
 pub place_at-place-requires : goal.place_at-place-requires
 place_at-place-requires c =
-    let l = c.loop-i in
-    (c.requires.map.long, next_inside _ _ _ l.i l.past c.requires.rooms l.invariant.2 (omega arith))
+    let l = c.loop-p in
+    (c.requires.map.long, next_inside _ _ _ l.p-index l.invariant.looked.past c.requires.rooms l.invariant.looked.so (omega arith))
 
 pub bounds-place-0 : goal.bounds-place-0
 bounds-place-0 c =
-    let l = c.loop-i in
-    let k = next_place _ _ _ _ l.i _ c.requires l.invariant.2 (omega arith) c.place_at-place.ensures in
+    let l = c.loop-p in
+    let k = next_place _ _ _ _ l.p-index _ c.requires l.invariant.looked.so (omega arith) c.place_at-place.ensures in
     omega (arith, k.length)
 
 pub overflow_sub-r : goal.overflow_sub-r
 overflow_sub-r c =
-    let l = c.loop-i in
-    let k = next_place _ _ _ _ l.i _ c.requires l.invariant.2 (omega arith) c.place_at-place.ensures in
+    let l = c.loop-p in
+    let k = next_place _ _ _ _ l.p-index _ c.requires l.invariant.looked.so (omega arith) c.place_at-place.ensures in
     omega (arith, k.holder, ap (λ (m : List ℕ). get_or m 0 0) c.place_at-place.ensures)
 
 pub map_numbers-requires : goal.map_numbers-requires
@@ -72,8 +72,8 @@ map_numbers-requires c = c.requires.map.long
 
 pub stretch_at-requires : goal.stretch_at-requires
 stretch_at-requires c =
-    let l = c.loop-i in
-    let k = next_place _ _ _ _ l.i _ c.requires l.invariant.2 (omega arith) c.place_at-place.ensures in (
+    let l = c.loop-p in
+    let k = next_place _ _ _ _ l.p-index _ c.requires l.invariant.looked.so (omega arith) c.place_at-place.ensures in (
       omega (arith, k.room, k.read),
       rw c.map_numbers.ensures
           (map-numbers-length _ c.requires.map.long),
@@ -81,8 +81,8 @@ stretch_at-requires c =
 
 pub held_fits-requires : goal.held_fits-requires
 held_fits-requires c =
-    let l = c.loop-i in
-    let k = next_place _ _ _ _ l.i _ c.requires l.invariant.2 (omega arith) c.place_at-place.ensures in
+    let l = c.loop-p in
+    let k = next_place _ _ _ _ l.p-index _ c.requires l.invariant.looked.so (omega arith) c.place_at-place.ensures in
     let s = its-stretch _ _ c.place_at-place.result.now _ _ c.map_numbers.ensures k.read c.stretch_at.ensures in (
       k.length,
       rw s
@@ -91,85 +91,87 @@ held_fits-requires c =
 
 pub returns-then-not-held_fits : goal.returns-then-not-held_fits
 returns-then-not-held_fits c =
-    let l = c.loop-i in
-    let k = next_place _ _ _ _ l.i _ c.requires l.invariant.2 (omega arith) c.place_at-place.ensures in
+    let l = c.loop-p in
+    let k = next_place _ _ _ _ l.p-index _ c.requires l.invariant.looked.so (omega arith) c.place_at-place.ensures in
     let s = its-stretch _ _ c.place_at-place.result.now _ _ c.map_numbers.ensures k.read c.stretch_at.ensures in
-    looked_unfit _ _ _ l.i l.past
-    c.requires.rooms l.invariant.2
-    (omega arith) (room_at c.args.desk.now c.args.held.now l.i) k.room k.holder
+    looked_unfit _ _ _ l.p-index l.invariant.looked.past
+    c.requires.rooms l.invariant.looked.so
+    (omega arith) (room_at c.args.desk.now c.args.held.now l.p-index) k.room k.holder
     (sym (its_test _ _ _ _ _ s c.place_at-place.ensures c.held_fits.ensures) ∙ c.if-not-held_fits.true)
 
 pub offset_bounds-last-r : goal.offset_bounds-last-r
 offset_bounds-last-r c =
-    let l = c.loop-i in
-    let k = next_place _ _ _ _ l.i _ c.requires l.invariant.2 (omega arith) c.place_at-place.ensures in
+    let l = c.loop-p in
+    let k = next_place _ _ _ _ l.p-index _ c.requires l.invariant.looked.so (omega arith) c.place_at-place.ensures in
     omega (arith, k.room, k.read)
 
 pub bounds-last-r : goal.bounds-last-r
 bounds-last-r c =
-    let l = c.loop-i in
-    let k = next_place _ _ _ _ l.i _ c.requires l.invariant.2 (omega arith) c.place_at-place.ensures in
+    let l = c.loop-p in
+    let k = next_place _ _ _ _ l.p-index _ c.requires l.invariant.looked.so (omega arith) c.place_at-place.ensures in
     omega (arith, k.room, k.read)
 
 pub apart_from_last-requires : goal.apart_from_last-requires
 apart_from_last-requires c =
-    let l = c.loop-i in
-    let k = next_place _ _ _ _ l.i _ c.requires l.invariant.2 (omega arith) c.place_at-place.ensures in
+    let l = c.loop-p in
+    let k = next_place _ _ _ _ l.p-index _ c.requires l.invariant.looked.so (omega arith) c.place_at-place.ensures in
     record {
       desk = c.requires.map.long;
       most = rw k.read
-          (last-inside _ _ _ l.i l.past c.requires.rooms l.invariant.2 (omega arith) (room_at c.args.desk.now c.args.held.now l.i) k.room k.holder);
+          (last-inside _ _ _ l.p-index l.invariant.looked.past c.requires.rooms l.invariant.looked.so (omega arith) (room_at c.args.desk.now c.args.held.now l.p-index) k.room k.holder);
       long = k.length;
       held = rw k.read
-          (last-held _ _ _ l.i l.past c.requires.rooms l.invariant.2 (omega arith) (room_at c.args.desk.now c.args.held.now l.i) k.room k.holder);
+          (last-held _ _ _ l.p-index l.invariant.looked.past c.requires.rooms l.invariant.looked.so (omega arith) (room_at c.args.desk.now c.args.held.now l.p-index) k.room k.holder);
     }
 
 pub returns-then-not-apart_from_last : goal.returns-then-not-apart_from_last
 returns-then-not-apart_from_last c =
-    let l = c.loop-i in
-    let k = next_place _ _ _ _ l.i _ c.requires l.invariant.2 (omega arith) c.place_at-place.ensures in
-    looked_shared _ _ _ l.i l.past
+    let l = c.loop-p in
+    let k = next_place _ _ _ _ l.p-index _ c.requires l.invariant.looked.so (omega arith) c.place_at-place.ensures in
+    looked_shared _ _ _ l.p-index l.invariant.looked.past
     c.requires.rooms
-    l.invariant.2 (omega arith) (room_at c.args.desk.now c.args.held.now l.i) k.room k.holder
+    l.invariant.looked.so (omega arith) (room_at c.args.desk.now c.args.held.now l.p-index) k.room k.holder
     (sym (rw c.place_at-place.ensures at c.apart_from_last.ensures) ∙ c.if-not-apart_from_last.true)
 
-pub overflow_add-past : goal.overflow_add-past
-overflow_add-past c =
-    let l = c.loop-i in
+pub overflow_add-last : goal.overflow_add-last
+overflow_add-last c =
+    let l = c.loop-p in
     omega (
       arith,
-      next_inside _ _ _ l.i l.past
+      next_inside _ _ _ l.p-index l.invariant.looked.past
           c.requires.rooms
-          l.invariant.2 (omega arith),
+          l.invariant.looked.so (omega arith),
     )
 
-pub offset_bounds-last-r-in-loop-i : goal.offset_bounds-last-r-in-loop-i
-offset_bounds-last-r-in-loop-i c =
-    let l = c.loop-i in
-    let k = next_place _ _ _ _ l.i _ c.requires l.invariant.2 (omega arith) c.place_at-place.ensures in
+pub offset_bounds-last-r-in-loop-p : goal.offset_bounds-last-r-in-loop-p
+offset_bounds-last-r-in-loop-p c =
+    let l = c.loop-p in
+    let k = next_place _ _ _ _ l.p-index _ c.requires l.invariant.looked.so (omega arith) c.place_at-place.ensures in
     omega (arith, k.room, k.read)
 
-pub bounds-last-r-in-loop-i : goal.bounds-last-r-in-loop-i
-bounds-last-r-in-loop-i c =
-    let l = c.loop-i in
-    let k = next_place _ _ _ _ l.i _ c.requires l.invariant.2 (omega arith) c.place_at-place.ensures in
+pub bounds-last-r-in-loop-p : goal.bounds-last-r-in-loop-p
+bounds-last-r-in-loop-p c =
+    let l = c.loop-p in
+    let k = next_place _ _ _ _ l.p-index _ c.requires l.invariant.looked.so (omega arith) c.place_at-place.ensures in
     omega (arith, k.room, k.read)
 
-pub loop-i-preserved : goal.loop-i-preserved
-loop-i-preserved c =
-    let l = c.loop-i in
-    let k = next_place _ _ _ _ l.i _ c.requires l.invariant.2 (omega arith) c.place_at-place.ensures in
-    let s = its-stretch _ _ c.place_at-place.result.now _ _ c.map_numbers.ensures k.read c.stretch_at.ensures in (
-      omega arith,
-      simp length-set (omega arith),
-      rw k.read (looked_more _ _ _ l.i l.past c.requires.rooms l.invariant.2 (omega arith) (room_at c.args.desk.now c.args.held.now l.i) k.room
-          k.holder c.requires.map.obeys
-          (sym (its_test _ _ _ _ _ s c.place_at-place.ensures c.held_fits.ensures) ∙ c.if-not-held_fits.false)
-          (sym (rw c.place_at-place.ensures at c.apart_from_last.ensures) ∙ c.if-not-apart_from_last.false)
-          l.invariant.1),
-    )
+pub loop-p-preserved : goal.loop-p-preserved
+loop-p-preserved c =
+    let l = c.loop-p in
+    let k = next_place _ _ _ _ l.p-index _ c.requires l.invariant.looked.so (omega arith) c.place_at-place.ensures in
+    let s = its-stretch _ _ c.place_at-place.result.now _ _ c.map_numbers.ensures k.read c.stretch_at.ensures in record {
+      rooms = simp length-set (omega arith);
+      looked = record {
+        past = get_or c.args.held.now l.p-index 0 + 1;
+        so = rw k.read (looked_more _ _ _ l.p-index l.invariant.looked.past c.requires.rooms l.invariant.looked.so (omega arith) (room_at c.args.desk.now c.args.held.now l.p-index) k.room
+            k.holder c.requires.map.obeys
+            (sym (its_test _ _ _ _ _ s c.place_at-place.ensures c.held_fits.ensures) ∙ c.if-not-held_fits.false)
+            (sym (rw c.place_at-place.ensures at c.apart_from_last.ensures) ∙ c.if-not-apart_from_last.false)
+            l.invariant.rooms);
+      };
+    }
 
 pub returns : goal.returns
 returns c =
-    let l = c.loop-i in looked_end _ _ _ l.i l.past c.requires.rooms
-    l.invariant.2 (omega arith)
+    let l = c.loop-p in looked_end _ _ _ l.p-index l.invariant.looked.past c.requires.rooms
+    l.invariant.looked.so (omega arith)

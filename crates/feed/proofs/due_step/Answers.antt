@@ -1,6 +1,7 @@
 -- `feed::due_step`: by what is due.
 use Rattle.feed.proofs.Waiting.{entry_block_small, label_met, entry_met}
 use mathlib.Core.Path.{refl}
+use mathlib.Core.Logic.{inl, inr}
 use Rattle.feed.specs.Block.{due_step}
 use Rattle.feed.proofs.due_step.Goals as goal
 
@@ -42,8 +43,8 @@ returns-in-Termination c = rw c.in-Termination.is (record { told = c.termination
 
 pub returns-in-Complete : goal.returns-in-Complete
 unfolding due_step
-returns-in-Complete c = rw c.in-Complete.is (record { told = refl; left = refl })
-
-pub returns-in-Broken : goal.returns-in-Broken
-unfolding due_step
-returns-in-Broken c = rw c.in-Broken.is (record { told = refl; left = refl })
+returns-in-Complete c =
+    elim c.in-Complete.is [
+      | inl e ↦ rw e (record { told = refl; left = refl })
+      | inr e ↦ rw e (record { told = refl; left = refl })
+    ]

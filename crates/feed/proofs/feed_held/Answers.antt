@@ -28,23 +28,23 @@ take_block-requires c =
     let e = rw c.place_at.ensures at
     c.stage_of-s.ensures in
     let v = verdict_pass _ _
-    (sym c.check_block.ensures ∙ c.in-Pass.is) in
+    (sym c.check_block.ensures ∙ c.in-Ok.is) in
     record {
       long = sound-long _ q.desk;
       place = q.place;
       load = rw e (held-kept_waits _ q.desk _ q.place (λ z. omega (arith, q.held)) _ _ q.long v.0 v.1);
     }
 
-pub returns-in-Pass : goal.returns-in-Pass
+pub returns-in-Ok : goal.returns-in-Ok
 unfolding held_of checked_of
-returns-in-Pass c =
+returns-in-Ok c =
     let e = rw
     c.place_at.ensures at c.stage_of-s.ensures in
-    rw (← e, sym c.is_over.ensures ∙ c.if-is_over.false, ← c.record_due.ensures, sym c.check_block.ensures ∙ c.in-Pass.is) c.take_block.ensures
+    rw (← e, sym c.is_over.ensures ∙ c.if-is_over.false, ← c.record_due.ensures, sym c.check_block.ensures ∙ c.in-Ok.is) c.take_block.ensures
 
-pub returns-in-Refused : goal.returns-in-Refused
+pub returns-in-Err : goal.returns-in-Err
 unfolding held_of checked_of
-returns-in-Refused c =
+returns-in-Err c =
     let e = rw c.place_at.ensures at
     c.stage_of-s.ensures in
     rw (
@@ -53,6 +53,6 @@ returns-in-Refused c =
           ∙ c.if-is_over.false,
       ← c.record_due.ensures,
       sym
-          c.check_block.ensures ∙ c.in-Refused.is,
+          c.check_block.ensures ∙ c.in-Err.is,
     )
     (record { told = refl; desk_left = refl; core-left = refl })

@@ -1,22 +1,19 @@
 -- `feed::settle` meets its contract: each return by the tests that led to it.
 use Rattle.feed.specs.Feed.{settled_of}
+use Rattle.std.proofs.Common.{rules}
 use mathlib.Core.Path.{refl}
 use Rattle.feed.proofs.settle.Goals as goal
 
-pub returns-in-More : goal.returns-in-More
+pub returns-in-Ok-More : goal.returns-in-Ok-More
 unfolding settled_of
-returns-in-More c =
-    rw c.in-More.is
-    (record { told = refl; desk_left = c.write_stage.ensures; core-left = refl })
+returns-in-Ok-More c = record { told = search rules; desk_left = search rules; core-left = search rules }
 
-pub returns-in-Done : goal.returns-in-Done
+pub returns-in-Ok-Done : goal.returns-in-Ok-Done
 unfolding settled_of
-returns-in-Done c =
-    rw c.in-Done.is
-    (record { told = refl; desk_left = c.write_stage-in-Done.ensures; core-left = refl })
+returns-in-Ok-Done c = record { told = search rules; desk_left = search rules; core-left = search rules }
 
-pub returns-in-Refused : goal.returns-in-Refused
+pub returns-in-Err : goal.returns-in-Err
 unfolding settled_of
-returns-in-Refused c =
-    rw c.in-Refused.is
-    (record { told = refl; desk_left = c.write_stage-in-Refused.ensures; core-left = c.clear.ensures })
+returns-in-Err c =
+    rw c.in-Err.is
+    (record { told = refl; desk_left = c.write_stage-in-Err.ensures; core-left = c.clear.ensures })

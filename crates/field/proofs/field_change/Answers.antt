@@ -2,34 +2,15 @@
 use Rattle.std.proofs.Common.{arith}
 use mathlib.Core.Path.{sym, ◌∙◌}
 use Rattle.field.specs.Field.{assigned_by}
-use Rattle.field.proofs.Field.{moved_fits, pair_fits, long-fits, short-fits, switch_fits, unit-fits, moved_arm, pair_arm}
+use Rattle.field.proofs.Field.{moved_arm, pair_arm}
 use Rattle.field.proofs.Field.{long_arm, short_arm, unit_arm, switch_arm, switch_right, others}
-use borrow.Author.Rules.{rules}
 use Rattle.field.proofs.field_change.Goals as goal
-
-pub put_back-requires : goal.put_back-requires
-put_back-requires c = (search rules, rw c.moved_field.ensures (moved_fits _ _))
-
-pub put_back-requires-in-1 : goal.put_back-requires-in-1
-put_back-requires-in-1 c = (search rules, rw c.pair_of.ensures (pair_fits _ _))
-
-pub put_back-requires-then-is_set : goal.put_back-requires-then-is_set
-put_back-requires-then-is_set c = (search rules, rw c.long_of.ensures (long-fits _ _ _))
 
 pub returns-then-is_set : goal.returns-then-is_set
 unfolding assigned_by
 returns-then-is_set c =
     c.put_back-then-is_set.ensures ∙ long_arm _ _ _ _ c.field-f.ensures c.in-2.is
     (sym c.is_set.ensures ∙ c.if-is_set.true) c.long_of.ensures
-
-pub put_back-requires-in-2 : goal.put_back-requires-in-2
-put_back-requires-in-2 c = (search rules, rw c.short_of.ensures (short-fits _ _))
-
-pub put_a-requires : goal.put_a-requires
-put_a-requires c = (search rules, rw c.switch_of.ensures (switch_fits _ _ _ _))
-
-pub put_back-requires-in-7 : goal.put_back-requires-in-7
-put_back-requires-in-7 c = (search rules, rw c.unit_of.ensures (unit-fits _ _ _))
 
 pub returns-in-0 : goal.returns-in-0
 unfolding assigned_by

@@ -12,31 +12,31 @@ pub just_enough-requires : goal.just_enough-requires
 just_enough-requires c =
     let p = c.requires in
     let m = bits_most _ _ _ _ _ _ p.0 p.1 _ _ _ c.change_group.ensures _
-    c.in-Bits.is in
+    c.in-Some.is in
     (omega (arith, m, p.0.sized.program), omega (arith, p.0.sized.words))
 
 pub returns-then-just_enough : goal.returns-then-just_enough
 returns-then-just_enough c =
     let p = c.requires in
     counted_done _ _ _ _ _ _ p.0 p.1 _ _ _ c.change_group.ensures _
-    c.in-Bits.is _ c.just_enough.ensures c.if-just_enough.true
+    c.in-Some.is _ c.just_enough.ensures c.if-just_enough.true
 
 pub group_fault-requires : goal.group_fault-requires
 group_fault-requires c =
     fault_ready _ _ _ _ _ _ c.requires.0
     c.requires.1
 
-pub returns-else-just_enough : goal.returns-else-just_enough
-returns-else-just_enough c =
+pub returns : goal.returns
+returns c =
     let p = c.requires in
     counted_wrong _ _ _ _ _ _ p.0 p.1 _ _ _ c.change_group.ensures _
-    c.in-Bits.is _ c.just_enough.ensures
+    c.in-Some.is _ c.just_enough.ensures
     c.if-just_enough.false _ _
-    c.refuse.ensures
+    c.refuse-2.ensures
 
-pub returns-in-Stop : goal.returns-in-Stop
-returns-in-Stop c =
+pub returns-in_default : goal.returns-in_default
+returns-in_default c =
     let p = c.requires in
     counted_stop _ _ _ _ _ _ p.0 p.1 _ _ _ c.change_group.ensures
-    c.in-Stop.is _
-    c.group_fault.ensures _ _ c.refuse-in-Stop.ensures
+    c.in_default.is _
+    c.group_fault.ensures _ _ c.refuse.ensures

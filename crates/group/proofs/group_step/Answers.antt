@@ -14,6 +14,7 @@ use Rattle.group.specs.Group.{InArea, words_lie, address_of, read_outcome, group
 use Rattle.group.proofs.Places.{words_lie_lem, group_sized}
 use Rattle.group.proofs.Steps.{outcome_filled, outcome_outside}
 use borrow.Author.Rules.{rules}
+use Rattle.std.specs.Prelude.{Err}
 use Rattle.group.proofs.group_step.Goals as goal
 
 -- the words of a group that lies where it must end inside the core
@@ -31,20 +32,20 @@ address_of-to-requires c =
       room = p.room;
       sized = group_sized _ _
           (sym c.read_group.ensures
-          ∙ c.in-Good.is);
+          ∙ c.in_ok-g.was);
     }
 
 pub overflow_add-past : goal.overflow_add-past
-overflow_add-past c = omega (arith, its_end c.args.s.given.area c.args.section c.in-Good.g c.args.core.now _ c.requires.room (sym c.words_lie.ensures ∙ c.if-words_lie.true) c.address_of-to.ensures c.requires.inside, c.requires.most)
+overflow_add-past c = omega (arith, its_end c.args.s.given.area c.args.section c.in_ok-g.g c.args.core.now _ c.requires.room (sym c.words_lie.ensures ∙ c.if-not-words_lie.false) c.address_of-to.ensures c.requires.inside, c.requires.most)
 
 pub offset_bounds-core-first : goal.offset_bounds-core-first
 offset_bounds-core-first c =
     omega
-    (arith, its_end c.args.s.given.area c.args.section c.in-Good.g c.args.core.now _ c.requires.room (sym c.words_lie.ensures ∙ c.if-words_lie.true) c.address_of-to.ensures c.requires.inside, c.requires.most)
+    (arith, its_end c.args.s.given.area c.args.section c.in_ok-g.g c.args.core.now _ c.requires.room (sym c.words_lie.ensures ∙ c.if-not-words_lie.false) c.address_of-to.ensures c.requires.inside, c.requires.most)
 
 pub slice_bounds-fill_group-end : goal.slice_bounds-fill_group-end
 slice_bounds-fill_group-end c =
-    its_end c.args.s.given.area c.args.section c.in-Good.g c.args.core.now _ c.requires.room (sym c.words_lie.ensures ∙ c.if-words_lie.true) c.address_of-to.ensures c.requires.inside
+    its_end c.args.s.given.area c.args.section c.in_ok-g.g c.args.core.now _ c.requires.room (sym c.words_lie.ensures ∙ c.if-not-words_lie.false) c.address_of-to.ensures c.requires.inside
 
 pub fill_group-requires : goal.fill_group-requires
 fill_group-requires c =
@@ -54,26 +55,27 @@ fill_group-requires c =
       long = p.long;
       words = p.words;
       place = p.place;
-      sized = group_sized _ _ (sym c.read_group.ensures ∙ c.in-Good.is);
+      sized = group_sized _ _ (sym c.read_group.ensures ∙ c.in_ok-g.was);
       room = search rules;
     }
 
-pub returns-then-words_lie : goal.returns-then-words_lie
+pub returns : goal.returns
 unfolding group_step read_outcome assigned_by
-returns-then-words_lie c =
+returns c =
     rw (sym c.read_group.ensures
-    ∙ c.in-Good.is)
-    (outcome_filled _ _ _ _ _ _ c.requires.long (omega (arith, its_end c.args.s.given.area c.args.section c.in-Good.g c.args.core.now _ c.requires.room (sym c.words_lie.ensures ∙ c.if-words_lie.true) c.address_of-to.ensures c.requires.inside, ap (λ (x : Absolute). x.0) c.address_of-to.ensures))
-    (sym c.words_lie.ensures ∙ c.if-words_lie.true) _ (ap (λ (x : Absolute). x.0) c.address_of-to.ensures) _ _ c.fill_group.ensures)
+    ∙ c.in_ok-g.was)
+    (outcome_filled _ _ _ _ _ _ c.requires.long (omega (arith, its_end c.args.s.given.area c.args.section c.in_ok-g.g c.args.core.now _ c.requires.room (sym c.words_lie.ensures ∙ c.if-not-words_lie.false) c.address_of-to.ensures c.requires.inside, ap (λ (x : Absolute). x.0) c.address_of-to.ensures))
+    (sym c.words_lie.ensures ∙ c.if-not-words_lie.false) _ (ap (λ (x : Absolute). x.0) c.address_of-to.ensures) _ _ c.fill_group.ensures)
 
-pub returns-else-words_lie : goal.returns-else-words_lie
+pub returns-then-not-words_lie : goal.returns-then-not-words_lie
 unfolding group_step read_outcome assigned_by
-returns-else-words_lie c =
-    rw (sym c.read_group.ensures ∙ c.in-Good.is)
-    (outcome_outside _ _ _ _ _ _ (sym c.words_lie.ensures ∙ c.if-words_lie.false))
+returns-then-not-words_lie c =
+    rw (sym c.read_group.ensures ∙ c.in_ok-g.was)
+    (outcome_outside _ _ _ _ _ _ (sym c.words_lie.ensures ∙ c.if-not-words_lie.true))
 
-pub returns-in-Bad : goal.returns-in-Bad
+pub returns-in_err-g : goal.returns-in_err-g
 unfolding group_step read_outcome
-returns-in-Bad c =
-    rw (sym c.read_group.ensures ∙ c.in-Bad.is)
+returns-in_err-g c =
+    let e : c.from_residual.result ≡ Err c.in_err-g.field-0.0 = search rules in
+    rw (e, sym c.read_group.ensures ∙ c.in_err-g.was)
     (record { told = refl; left = refl })

@@ -15,28 +15,28 @@ unfolding label_of
 returns-then-bits-ne1 c =
     rw (
       c.further.ensures,
-      name_good _ (sym c.read_name.ensures ∙ c.in-Good.is),
+      name_good _ (sym c.read_name.ensures ∙ c.in_ok-read_name.was),
       ← c.bits.ensures,
       ne_eqb _ _ c.if-bits-ne1.true,
     )
 
 pub finish-requires : goal.finish-requires
 finish-requires c =
-    let g = tables_good _ _ (sym c.read_tables.ensures ∙ c.in-Good-read_tables.is) in
+    let g = tables_good _ _ (sym c.read_tables.ensures ∙ c.in-Ok.is) in
     (search rules, rw g.1 (few _ (stand_within _ g.0)))
 
-pub further-requires-in-Bad-read_tables : goal.further-requires-in-Bad-read_tables
-further-requires-in-Bad-read_tables c =
-    let g = tables_bad _ _ (sym c.read_tables.ensures ∙ c.in-Bad-read_tables.is) in
+pub further-requires-in-Err : goal.further-requires-in-Err
+further-requires-in-Err c =
+    let g = tables_bad _ _ (sym c.read_tables.ensures ∙ c.in-Err.is) in
     let b = c.args.block.now in
     rw g.1 (omega (arith, table_few (table_words b)))
 
-pub returns-in-Good-read_tables : goal.returns-in-Good-read_tables
+pub returns-in-Ok : goal.returns-in-Ok
 unfolding label_of
-returns-in-Good-read_tables c =
-    let g = tables_good _ _ (sym c.read_tables.ensures ∙ c.in-Good-read_tables.is) in
+returns-in-Ok c =
+    let g = tables_good _ _ (sym c.read_tables.ensures ∙ c.in-Ok.is) in
     rw (
-      name_good _ (sym c.read_name.ensures ∙ c.in-Good.is),
+      name_good _ (sym c.read_name.ensures ∙ c.in_ok-read_name.was),
       ← c.bits.ensures,
       eq-eqb _ _ c.if-bits-ne1.false,
       g.0,
@@ -44,21 +44,21 @@ returns-in-Good-read_tables c =
     )
     c.finish.ensures
 
-pub returns-in-Bad-read_tables : goal.returns-in-Bad-read_tables
+pub returns-in-Err : goal.returns-in-Err
 unfolding label_of
-returns-in-Bad-read_tables c =
-    let g = tables_bad _ _ (sym c.read_tables.ensures ∙ c.in-Bad-read_tables.is) in
+returns-in-Err c =
+    let g = tables_bad _ _ (sym c.read_tables.ensures ∙ c.in-Err.is) in
     rw (
-      c.further-in-Bad-read_tables.ensures,
-      name_good _ (sym c.read_name.ensures ∙ c.in-Good.is),
+      c.further-in-Err.ensures,
+      name_good _ (sym c.read_name.ensures ∙ c.in_ok-read_name.was),
       ← c.bits.ensures,
       eq-eqb _ _ c.if-bits-ne1.false,
       g.0,
       g.1,
     )
 
-pub returns-in-Bad : goal.returns-in-Bad
+pub returns-in_err-read_name : goal.returns-in_err-read_name
 unfolding label_of
-returns-in-Bad c =
-    let g = name_bad _ _ (sym c.read_name.ensures ∙ c.in-Bad.is) in
-    rw (g.0, g.1)
+returns-in_err-read_name c =
+    let g = name_bad _ _ (sym c.read_name.ensures ∙ c.in_err-read_name.was) in
+    search (rules, g.0, g.1)

@@ -27,20 +27,20 @@ pub loop-i-preserved : goal.loop-i-preserved
 loop-i-preserved c =
     let l = c.loop-i in
     let r = word_more _ l.i l.least l.c l.invariant.1 _ (omega arith)
-    (sym c.read_table.ensures ∙ c.in-Good.is) in
+    (sym c.read_table.ensures ∙ c.in-Ok.is) in
     (omega arith, rw c.bits-least.ensures r)
 
 pub further-requires : goal.further-requires
 further-requires c =
-    let e = of_bad _ _ _ _ (sym c.read_table.ensures ∙ c.in-Bad.is) in
+    let e = of_bad _ _ _ _ (sym c.read_table.ensures ∙ c.in-Err.is) in
     rw e.1 (omega arith)
 
-pub returns-in-Bad : goal.returns-in-Bad
-returns-in-Bad c =
+pub returns-in-Err : goal.returns-in-Err
+returns-in-Err c =
     let l = c.loop-i in
     rw c.further.ensures
     (word_bad _ l.i l.least l.c l.invariant.1 _ (omega arith)
-    (sym c.read_table.ensures ∙ c.in-Bad.is))
+    (sym c.read_table.ensures ∙ c.in-Err.is))
 
 pub returns : goal.returns
 returns c =

@@ -7,6 +7,6 @@ pub returns-then-place : goal.returns-then-place
 unfolding holds
 returns-then-place c = search tests
 
-pub returns : goal.returns
+pub returns-else-place : goal.returns-else-place
 unfolding holds
-returns c = search tests
+returns-else-place c = search tests

@@ -8,11 +8,13 @@ use Rattle.layout.specs.Layout.{holders}
 use Rattle.layout.proofs.read_holders.Goals as goal
 
 pub loop-p-init : goal.loop-p-init
-loop-p-init c = (omega arith, refl, filled_none _ _)
+loop-p-init c = record { places = refl; read = filled_none _ _ }
 
 pub loop-p-preserved : goal.loop-p-preserved
-loop-p-preserved c = (omega arith, simp length-set (omega arith), filled_more _ _ _ _ _ (omega arith) refl c.loop-p.invariant.2)
+loop-p-preserved c =
+    let i = c.loop-p.invariant in
+    record { places = simp length-set i.places; read = filled_more _ _ _ _ _ (omega arith) refl i.read }
 
 pub returns : goal.returns
 unfolding holders
-returns c = filled-all _ _ place_count _ _ (omega arith) refl c.loop-p.invariant.2
+returns c = filled-all _ _ place_count _ _ (omega arith) refl c.loop-p.invariant.read

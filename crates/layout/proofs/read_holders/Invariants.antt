@@ -1,5 +1,4 @@
 -- `layout::read_holders` meets its contract: after p turns the first p holders are those of the desk.
-use Prim.Native.Nat.{◌≤◌, ◌-◌}
 use mathlib.Core.Path.{◌≡◌}
 use lib.ListN.{length}
 use Rattle.word.specs.Limits.{place_count}
@@ -8,7 +7,4 @@ use Rattle.layout.specs.Layout.{holder_in}
 use Rattle.layout.proofs.read_holders.Given as goal
 
 abbrev pub invariant-loop-p : goal.invariant-loop-p
-invariant-loop-p l = (l.p ≤ place_count) × (length l.h ≡ place_count) × (l.h ≡ filled (holder_in l.desk) l.initial.h l.p)
-
-abbrev pub decreases-loop-p : goal.decreases-loop-p
-decreases-loop-p l = place_count - l.p
+invariant-loop-p l = record { places : length l.h ≡ place_count; read : l.h ≡ filled (holder_in l.desk) l.initial.h l.p }

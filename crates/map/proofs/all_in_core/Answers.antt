@@ -1,27 +1,13 @@
--- `map::all_in_core` meets its contract: the stretches not yet looked at decide.
-use Rattle.std.proofs.Common.{refl, arith}
-use Rattle.word.proofs.Lists.{every_more, every_fails, every-ends}
-use Rattle.map.specs.Map.{in_core, none}
+-- `map::all_in_core` meets its contract: std's `all` is `every`, and the closure is `in_core`.
+use Rattle.std.proofs.Common.{rules, tests, ◌∙◌}
+use Rattle.std.proofs.lemmas.Iterator.{YieldsList-from_slice}
+use Rattle.std.proofs.lemmas.Iterator.Search.{all_from_yields_List}
+use Rattle.map.specs.Map.{in_core}
+use Rattle.map.proofs.All.{every_is}
 use Rattle.map.proofs.all_in_core.Goals as goal
 
-pub loop-r-init : goal.loop-r-init
-loop-r-init c = (omega arith, refl)
-
-pub returns-then-not-run_within : goal.returns-then-not-run_within
-unfolding in_core
-returns-then-not-run_within c =
-    let l = c.loop-r in
-    every_fails _ none _ l.r _ (omega arith) (rw (← c.run_within.ensures) c.if-not-run_within.true) l.invariant.1
-
-pub loop-r-preserved : goal.loop-r-preserved
-unfolding in_core
-loop-r-preserved c =
-    let l = c.loop-r in
-    let m = c.args.m in (
-      omega arith,
-      every_more _ none m l.r _ (omega arith) (rw (← c.run_within.ensures) c.if-not-run_within.false)
-          l.invariant.1,
-    )
-
 pub returns : goal.returns
-returns c = every-ends _ none _ c.loop-r.r _ (omega arith) c.loop-r.invariant.1
+unfolding in_core
+returns c =
+    all_from_yields_List (in_core c.args.core) _ _ _ c.all.ensures.ran (YieldsList-from_slice c.args.m cc) (λ x b q k. search (rules, tests))
+    ∙ every_is (in_core c.args.core) c.args.m

@@ -2,10 +2,11 @@
 use Rattle.std.proofs.Common.{arith}
 use Rattle.map.proofs.Order.{order_past, order_away, order_skip, order_long, order_next, order_starts, order_fails}
 use Rattle.map.proofs.Order.{order_more, order_ends}
+use Rattle.map.proofs.in_order.Goals.{then-left-x+else-s-ne0+else-core-x, else-left-x+else-x-s}
 use Rattle.map.proofs.in_order.Goals as goal
 
 pub loop-r-init : goal.loop-r-init
-loop-r-init c = (omega arith, omega arith, order_starts _ _)
+loop-r-init c = record { most = omega arith; rest = order_starts _ _ }
 
 pub stretch_at-s-requires : goal.stretch_at-s-requires
 stretch_at-s-requires c = (omega arith, omega arith)
@@ -15,8 +16,8 @@ returns-then-s-ne0 c =
     let w = c.wrapping_sub_u64-x in
     let a = c.stretch_at-s in
     let l = c.loop-r in
-    order_fails _ l.left _ l.r _ l.invariant.2 a.result (omega arith) a.ensures
-    (order_away _ l.left w.result _ _ l.invariant.1 w.ensures.value (omega arith) (omega arith) c.if-left-x.true
+    order_fails _ l.left _ l.r _ l.invariant.rest a.result (omega arith) a.ensures
+    (order_away _ l.left w.result _ _ l.invariant.most w.ensures.value (omega arith) (omega arith) c.if-left-x.true
     c.if-s-ne0.true)
 
 pub returns-then-core-x : goal.returns-then-core-x
@@ -24,41 +25,36 @@ returns-then-core-x c =
     let w = c.wrapping_sub_u64-x in
     let a = c.stretch_at-s in
     let l = c.loop-r in
-    order_fails _ l.left _ l.r _ l.invariant.2 a.result (omega arith) a.ensures
-    (order_past _ l.left w.result _ _ l.invariant.1 w.ensures.value (omega arith) (omega arith) c.if-core-x.true)
-
-pub loop-r-preserved-else-core-x : goal.loop-r-preserved-else-core-x
-loop-r-preserved-else-core-x c =
-    let w = c.wrapping_sub_u64-x in
-    let a = c.stretch_at-s in
-    let l = c.loop-r in (
-      omega arith,
-      l.invariant.1,
-      order_more _ l.left _ l.r _ l.invariant.2 l.left a.result (omega arith) a.ensures
-          (order_skip _ l.left w.result _ _ l.invariant.1 w.ensures.value (omega arith) (omega arith)
-          c.if-left-x.true c.if-s-ne0.false c.if-core-x.false),
-    )
+    order_fails _ l.left _ l.r _ l.invariant.rest a.result (omega arith) a.ensures
+    (order_past _ l.left w.result _ _ l.invariant.most w.ensures.value (omega arith) (omega arith) c.if-core-x.true)
 
 pub returns-then-x-s : goal.returns-then-x-s
 returns-then-x-s c =
     let w = c.wrapping_sub_u64-x in
     let a = c.stretch_at-s in
     let l = c.loop-r in
-    order_fails _ l.left _ l.r _ l.invariant.2 a.result (omega arith) a.ensures
-    (order_long _ l.left w.result _ _ l.invariant.1 w.ensures.value (omega arith) (omega arith) c.if-left-x.false
+    order_fails _ l.left _ l.r _ l.invariant.rest a.result (omega arith) a.ensures
+    (order_long _ l.left w.result _ _ l.invariant.most w.ensures.value (omega arith) (omega arith) c.if-left-x.false
     c.if-x-s.true)
 
 pub loop-r-preserved : goal.loop-r-preserved
 loop-r-preserved c =
-    let w = c.wrapping_sub_u64-x in
+    let x = c.wrapping_sub_u64-x in
     let a = c.stretch_at-s in
     let l = c.loop-r in
-    let e = c.if-left-x.false in (
-      omega arith,
-      omega arith,
-      order_more _ l.left _ l.r _ l.invariant.2 _ a.result (omega arith) a.ensures
-          (order_next _ l.left w.result _ _ l.invariant.1 w.ensures.value (omega arith) (omega arith) e c.if-x-s.false),
-    )
+    elim c.if-left-x.branch [
+      | then-left-x+else-s-ne0+else-core-x w ↦ rw w.left-is (record {
+        most = l.invariant.most;
+        rest = order_more _ l.left _ l.r _ l.invariant.rest l.left a.result (omega arith) a.ensures
+            (order_skip _ l.left x.result _ _ l.invariant.most x.ensures.value (omega arith) (omega arith)
+            w.if-left-x.true w.if-s-ne0.false w.if-core-x.false);
+      })
+      | else-left-x+else-x-s w ↦ let e = w.if-left-x.false in rw w.left-is (record {
+        most = omega arith;
+        rest = order_more _ l.left _ l.r _ l.invariant.rest _ a.result (omega arith) a.ensures
+            (order_next _ l.left x.result _ _ l.invariant.most x.ensures.value (omega arith) (omega arith) e w.if-x-s.false);
+      })
+    ]
 
 pub returns : goal.returns
-returns c = order_ends _ c.loop-r.left _ c.loop-r.r _ c.loop-r.invariant.2 (omega arith)
+returns c = order_ends _ c.loop-r.left _ c.loop-r.r _ c.loop-r.invariant.rest (omega arith)

@@ -5,7 +5,7 @@ use Rattle.map.specs.HowOrder.{in_order}
 use Rattle.map.proofs.in_order.Given as goal
 
 abbrev pub invariant-loop-r : goal.invariant-loop-r
-invariant-loop-r l = (l.r ≤ 8) × (l.left ≤ l.core) × (in_order l.core 0 (map_of l.numbers) ≡ in_order l.core (l.core - l.left) (drop l.r (map_of l.numbers)))
-
-abbrev pub decreases-loop-r : goal.decreases-loop-r
-decreases-loop-r l = 8 - l.r
+invariant-loop-r l = record {
+  most : l.left ≤ l.core;
+  rest : in_order l.core 0 (map_of l.numbers) ≡ in_order l.core (l.core - l.left) (drop l.r (map_of l.numbers));
+}

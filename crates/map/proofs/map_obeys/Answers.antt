@@ -7,6 +7,6 @@ pub returns-then-all_in_core : goal.returns-then-all_in_core
 unfolding map_obeys
 returns-then-all_in_core c = rw (sym c.all_in_core.ensures ∙ c.if-all_in_core.true) c.all_apart.ensures
 
-pub returns : goal.returns
+pub returns-else-all_in_core : goal.returns-else-all_in_core
 unfolding map_obeys
-returns c = rw (sym c.all_in_core.ensures ∙ c.if-all_in_core.false)
+returns-else-all_in_core c = rw (c.if-all_in_core.false, sym c.all_in_core.ensures ∙ c.if-all_in_core.false)

@@ -5,16 +5,14 @@ use Rattle.word.proofs.Fill.{filled_none, filled_more, filled-all}
 use Rattle.map.proofs.read_map.Goals as goal
 
 pub loop-r-init : goal.loop-r-init
-loop-r-init c = (omega arith, refl, filled_none _ _)
+loop-r-init c = record { rooms = refl; told = filled_none _ _ }
 
 pub loop-r-preserved : goal.loop-r-preserved
-loop-r-preserved c = (
-  omega arith,
-  simp length-set (omega arith),
-  filled_more _ _ _ _ _ (omega arith) c.stretch_of-s.ensures
-      c.loop-r.invariant.2,
-)
+loop-r-preserved c = record {
+  rooms = simp length-set c.loop-r.invariant.rooms;
+  told = filled_more _ _ _ _ _ (omega arith) c.stretch_of.ensures c.loop-r.invariant.told;
+}
 
 pub returns : goal.returns
 unfolding map_of
-returns c = filled-all _ _ 8 _ _ (omega arith) refl c.loop-r.invariant.2
+returns c = filled-all _ _ 8 _ _ (omega arith) refl c.loop-r.invariant.told

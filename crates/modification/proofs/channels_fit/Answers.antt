@@ -1,23 +1,17 @@
--- `modification::channels_fit` meets its contract: by the loop's invariant.
-use mathlib.Core.Path.{refl}
-use native.Mathlib.Omega.{arith}
-use Rattle.modification.proofs.Channels.{channels_more, channels_fails, channels_ends}
+-- `modification::channels_fit` meets its contract: `all` tries the numbers in order.
+use Rattle.std.proofs.Common.{refl, ◌∙◌, ℕ, arith}
+use Rattle.std.proofs.lemmas.Iterator.{YieldsList-from_range}
+use Rattle.std.proofs.lemmas.Iterator.Search.{all_from_yields_List}
+use Rattle.lists.specs.HowKept.{number_in}
+use Rattle.word.proofs.Tests.{tests}
+use Rattle.modification.specs.Assignments.{is_channel}
+use Rattle.modification.proofs.Channels.{channels_all}
 use Rattle.modification.proofs.channels_fit.Goals as goal
-
-pub loop-k-init : goal.loop-k-init
-loop-k-init c = (omega arith, refl)
-
-pub returns-then-io_number-gt-CHANNEL_MOST : goal.returns-then-io_number-gt-CHANNEL_MOST
-returns-then-io_number-gt-CHANNEL_MOST c =
-    let l = c.loop-k in
-    channels_fails _ _ l.k _ _ (omega arith) c.io_number.ensures c.if-io_number-gt-CHANNEL_MOST.true l.invariant.1
-
-pub loop-k-preserved : goal.loop-k-preserved
-loop-k-preserved c =
-    let l = c.loop-k in
-    (omega arith, channels_more _ _ l.k _ _ (omega arith) c.io_number.ensures c.if-io_number-gt-CHANNEL_MOST.false l.invariant.1)
 
 pub returns : goal.returns
 returns c =
-    let l = c.loop-k in
-    channels_ends _ _ l.k _ (omega arith) l.invariant.1
+    let ws = c.args.ios.now in
+    all_from_yields_List (λ (k : ℕ). is_channel (number_in ws k)) _ _ _ c.all.ensures.ran
+    (YieldsList-from_range 0 c.args.m c.args.m refl (omega arith))
+    (λ x b q k. search tests)
+    ∙ channels_all ws c.args.m

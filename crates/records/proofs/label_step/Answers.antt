@@ -1,5 +1,6 @@
--- `records::label_step` meets its contract: each return by the tests that led to it.
+-- `records::label_step` meets its contract: a label that is read is within the house's limits.
 use mathlib.Core.Path.{sym, ◌∙◌}
+use Rattle.std.proofs.Common.{rules}
 use Rattle.label.proofs.Carried.{label-carried}
 use Rattle.records.specs.Label.{label_step, with_label}
 use Rattle.records.proofs.label_step.Goals as goal
@@ -7,14 +8,12 @@ use Rattle.records.proofs.label_step.Goals as goal
 pub take_label-requires : goal.take_label-requires
 take_label-requires c =
     let p = c.requires in
-    (p.0, label-carried _ _ (sym c.read_label.ensures ∙ c.in-Good.is))
+    (p.0, label-carried _ _ (sym c.read_label.ensures ∙ c.in_ok-l.was))
 
-pub returns-in-Good : goal.returns-in-Good
+pub returns : goal.returns
 unfolding label_step
-returns-in-Good c =
-    rw (sym c.read_label.ensures ∙ c.in-Good.is)
-    c.take_label.ensures
+returns c = search rules
 
-pub returns-in-Bad : goal.returns-in-Bad
+pub returns-in_err-l : goal.returns-in_err-l
 unfolding label_step with_label
-returns-in-Bad c = rw (sym c.read_label.ensures ∙ c.in-Bad.is)
+returns-in_err-l c = search rules

@@ -5,7 +5,4 @@ use Rattle.records.proofs.Turns.{PassedTo}
 use Rattle.records.proofs.read_entries.Given as goal
 
 abbrev pub invariant-loop-t : goal.invariant-loop-t
-invariant-loop-t l = (l.t ≤ l.g.tables) × PassedTo l.g.io (core_tables l.g l.lists) l.exact l.b l.block l.t
-
-abbrev pub decreases-loop-t : goal.decreases-loop-t
-decreases-loop-t l = l.g.tables - l.t
+invariant-loop-t l = PassedTo l.g.io (core_tables l.g l.lists) l.exact l.b l.block l.t

@@ -1,23 +1,16 @@
--- `rooms::lowest_free` meets its contract: the lowest free place is among those not yet looked at.
-use native.Mathlib.Omega.{arith}
-use Rattle.rooms.proofs.Count.{lowest_more, lowest_found, lowest_end}
+-- `rooms::lowest_free` meets its contract: std's search goes as the definition does.
+use Rattle.std.proofs.Common.{arith, rules, tests, ◌≡◌, eqb, position, length}
+use Rattle.std.specs.Option.{unwrap_or}
+use Rattle.std.proofs.lemmas.Iterator.{YieldsList-from_slice}
+use Rattle.std.proofs.lemmas.Iterator.Search.{position_from_yields_List}
+use Rattle.rooms.specs.Rooms.{lowest_free}
+use Rattle.rooms.proofs.Count.{lowest_is}
 use Rattle.rooms.proofs.lowest_free.Goals as goal
 
-pub loop-p-init : goal.loop-p-init
-loop-p-init c = (omega arith, omega arith)
-
-pub returns-then-holders-p-eq0 : goal.returns-then-holders-p-eq0
-returns-then-holders-p-eq0 c =
-    let l = c.loop-p in
-    lowest_found _ l.p _ (omega arith) c.if-holders-p-eq0.true l.invariant.1
-
-pub loop-p-preserved : goal.loop-p-preserved
-loop-p-preserved c =
-    let l = c.loop-p in (
-      omega arith,
-      lowest_more c.args.holders.now l.p _ (omega arith) c.if-holders-p-eq0.false
-          l.invariant.1,
-    )
-
 pub returns : goal.returns
-returns c = lowest_end _ c.loop-p.p _ (omega arith) c.loop-p.invariant.1
+returns c =
+    let l = c.args.holders.now in
+    let e : c.position.result ≡ position (λ a. eqb a 0) l = position_from_yields_List (λ a. eqb a 0) _ _ c.position.result
+    c.position.ensures.ran (YieldsList-from_slice l cc) (λ x b q k. search (rules, tests)) in
+    let n : unwrap_or c.position.result (length l) ≡ lowest_free l = rw e (lowest_is l) in
+    omega arith

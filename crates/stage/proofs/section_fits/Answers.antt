@@ -1,19 +1,15 @@
--- `stage::section_fits` meets its contract: each return by the tests that led to it.
+-- `stage::section_fits` meets its contract: core table number k is entry k of the definition's list.
 use borrow.Author.Tests.{lt-ltb}
 use Rattle.word.proofs.Tests.{tests}
 use Rattle.lists.proofs.Reading.{core-length, core_at_lem}
 use Rattle.stage.specs.Ranges.{section_fits}
 use Rattle.stage.proofs.section_fits.Goals as goal
 
-pub returns-then-g-number : goal.returns-then-g-number
+pub returns-then-t-g : goal.returns-then-t-g
 unfolding section_fits
-returns-then-g-number c = search (tests, core-length)
-
-pub returns : goal.returns
-unfolding section_fits
-returns c =
+returns-then-t-g c =
     let a = c.args in
-    let n = c.if-g-number.false in
+    let n = c.if-t-g.true in
     rw (
       core-length a.g a.lists.now c.requires,
       lt-ltb _ _ n,
@@ -21,3 +17,9 @@ returns c =
           c.requires _ _ n,
       ← c.core_table.ensures,
     )
+
+pub returns-else-t-g : goal.returns-else-t-g
+unfolding section_fits
+returns-else-t-g c =
+    let e = core-length c.args.g c.args.lists.now c.requires in
+    rw e (search tests)

@@ -1,23 +1,27 @@
--- `book::records::read_record` meets its contract: a record of a book has its digits.
-use native.Mathlib.Omega.{arith}
-use Rattle.book.specs.Book.{assignment_of}
-use Rattle.book.proofs.Record.{length_record, record_digits, book_record}
+-- `book::records::read_record` meets its contract: a record of a book has its letter and its digits.
+use mathlib.Core.Path.{◌≡◌}
+use Rattle.word.specs.Lists.{range}
+use Rattle.book.specs.Book.{record_at, kind_of, assignment_of}
+use Rattle.book.proofs.Record.{kind_is, digits_spell, tag_spelled, number_spelled, book_record}
 use Rattle.book.proofs.records.read_record.Goals as goal
+use lib.ListN.{get_or}
 
-pub bounds-bytes-0 : goal.bounds-bytes-0
-bounds-bytes-0 c = rw c.record_at-bytes.ensures (omega (arith, length_record c.args.book.now c.args.i c.requires.1))
-
-pub read_tag-requires : goal.read_tag-requires
-read_tag-requires c = rw c.record_at-bytes.ensures (length_record _ _ c.requires.1)
-
-pub read_number-requires : goal.read_number-requires
-read_number-requires c =
+pub unwrap-requires : goal.unwrap-requires
+unwrap-requires c =
     let p = c.requires in
-    rw c.record_at-bytes.ensures
-    (length_record _ _ p.1, record_digits _ (book_record _ _ p.0 p.1))
+    rw (c.kind_of.ensures, c.record_at-bytes.ensures.bytes, kind_is _ (book_record _ _ p.0 p.1))
+
+pub spelled-requires-2 : goal.spelled-requires-2
+unfolding range
+spelled-requires-2 c =
+    let p = c.requires in
+    rw c.record_at-bytes.ensures.bytes (digits_spell _ (book_record _ _ p.0 p.1))
 
 pub returns : goal.returns
-unfolding assignment_of
+unfolding assignment_of range
 returns c =
-    let r = c.record_at-bytes.ensures in
-    rw (c.read_number.ensures, c.read_tag.ensures, c.kind_of.ensures, r)
+    let p = c.requires in
+    let r = c.record_at-bytes.ensures.bytes in
+    let k : c.unwrap.result ≡ kind_of (get_or (record_at c.args.book.now c.args.i) 0 0) =
+    cc (c.unwrap.ensures, rw r at c.kind_of.ensures, kind_is _ (book_record _ _ p.0 p.1)) in
+    rw (k, c.spelled.ensures, c.spelled-2.ensures, r, tag_spelled, number_spelled)

@@ -6,10 +6,10 @@ use Rattle.calls.proofs.Made.{freed-none, freed_more}
 use Rattle.calls.proofs.make.clear_places.Goals as goal
 
 pub loop-p-init : goal.loop-p-init
-loop-p-init c = (omega arith, omega arith, freed-none _)
+loop-p-init c = (omega arith, freed-none _)
 
 pub loop-p-preserved : goal.loop-p-preserved
-loop-p-preserved c = (omega arith, simp length-set (omega arith), freed_more _ _ _ c.loop-p.invariant.2)
+loop-p-preserved c = (simp length-set (omega arith), freed_more _ _ _ c.loop-p.invariant.1)
 
 pub returns : goal.returns
-returns c = let e : c.loop-p.p ≡ 12 = omega arith in rw e at c.loop-p.invariant.2
+returns c = let e : c.loop-p.p ≡ 12 = omega arith in rw e at c.loop-p.invariant.1

@@ -1,36 +1,20 @@
--- `calls::open::all_beside` meets its contract: by the loop's invariant.
-use Rattle.desk.proofs.Tested.{places_more, places_fail, places_end}
-use mathlib.Core.Path.{refl, sym, ◌∙◌}
-use native.Mathlib.Omega.{arith}
+-- `calls::open::all_beside` meets its contract: `all` tries the places in order.
+use Rattle.std.proofs.Common.{refl, ℕ, arith, rules, tests}
+use Rattle.std.proofs.iter.Serving.{serving}
+use Rattle.std.proofs.lemmas.Iterator.{YieldsList-from_range}
+use Rattle.std.proofs.lemmas.Iterator.Search.{all_from_yields_List}
+use Rattle.word.specs.Lists.{every, tab}
+use Rattle.layout.specs.Layout.{place_in, places}
 use Rattle.layout.proofs.Places.{place-length}
+use Rattle.calls.specs.Open.{beside_own}
 use Rattle.calls.proofs.open.all_beside.Goals as goal
 
-pub loop-p-init : goal.loop-p-init
-loop-p-init c = (omega arith, refl)
-
-pub place_at-requires : goal.place_at-requires
-place_at-requires c = (omega arith, omega arith)
-
-pub beside_own-requires : goal.beside_own-requires
-beside_own-requires c = (
-  rw c.place_at.ensures
-      (place-length c.args.desk.now c.requires.0 c.loop-p.p (omega arith)),
-  c.requires.1,
-)
-
-pub returns-then-not-beside_own : goal.returns-then-not-beside_own
-returns-then-not-beside_own c =
-    let l = c.loop-p in
-    places_fail _ _ l.p _ _ (omega arith) c.place_at.ensures
-    (sym c.beside_own.ensures ∙ c.if-not-beside_own.true) l.invariant.1
-
-pub loop-p-preserved : goal.loop-p-preserved
-loop-p-preserved c =
-    let l = c.loop-p in (
-      omega arith,
-      places_more _ _ l.p _ _ (omega arith) c.place_at.ensures
-          (sym c.beside_own.ensures ∙ c.if-not-beside_own.false) l.invariant.1,
-    )
+pub all-requires-clause-callable : goal.all-requires-clause-callable
+all-requires-clause-callable c = grind (serving, place-length)
 
 pub returns : goal.returns
-returns c = let l = c.loop-p in places_end _ _ l.p _ (omega arith) l.invariant.1
+unfolding places every tab
+returns c =
+    all_from_yields_List (λ (p : ℕ). beside_own c.args.room c.args.area (place_in c.args.desk.now p)) _ _ _ c.all.ensures.ran
+    (YieldsList-from_range 0 12 12 refl (omega arith))
+    (λ x b q k. search (rules, tests))

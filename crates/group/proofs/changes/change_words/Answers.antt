@@ -19,25 +19,24 @@ change_next-requires c =
 
 pub loop-k-smaller : goal.loop-k-smaller
 loop-k-smaller c =
-    let r = c.change_next.ensures.goes c.in-At.d c.in-At.j c.in-At.is in
+    let r = c.change_next.ensures.goes _ c.in_ok-p.was in
     omega (arith, r.0, r.1.most, many _ _ _ _ _ c.requires)
 
 pub loop-k-preserved : goal.loop-k-preserved
 loop-k-preserved c =
-    (c.change_next.ensures.goes c.in-At.d c.in-At.j c.in-At.is).1
+    (c.change_next.ensures.goes _ c.in_ok-p.was).1
 
-pub shape_of-out-in-Stop : goal.shape_of-out-in-Stop
-shape_of-out-in-Stop c =
+pub shape_of-out-in_err-p : goal.shape_of-out-in_err-p
+shape_of-out-in_err-p c =
     omega (
       arith,
       c.change_next.ensures.long,
       c.requires.room,
     )
 
-pub returns-in-Stop : goal.returns-in-Stop
-returns-in-Stop c =
-    turn_stops _ _ _ _ _ _ c.requires.program
-    c.change_next.ensures c.in-Stop.is
+pub returns-in_err-p : goal.returns-in_err-p
+returns-in_err-p c =
+    rw c.from_residual.ensures (turn_stops _ _ _ _ _ _ c.requires.program c.change_next.ensures c.in_err-p.was)
 
 pub place-requires : goal.place-requires
 place-requires c = turn_place _ _ _ _ _ c.requires _ _ _ _ c.loop-k.invariant

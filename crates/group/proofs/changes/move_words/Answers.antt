@@ -45,7 +45,7 @@ shape_of-out-then-d-le-FEW c =
     omega (
       arith,
       length-set c.loop-c.out c.loop-c.k
-          c.in-Next.moved,
+          c.in_ok-moved.moved,
       c.loop-c.invariant.3.long,
       c.requires.0.reached.long,
     )
@@ -59,7 +59,7 @@ returns-then-d-le-FEW c =
       c.if-n-k.false,
     )) c.loop-c.invariant.1 _
     c.moved_word.ensures c.loop-c-test.true _ _
-    c.in-Next.is)
+    c.in_ok-moved.was)
 
 pub loop-c-smaller : goal.loop-c-smaller
 loop-c-smaller c = fewer_left _ _ (omega (arith, c.if-n-k.false))
@@ -75,18 +75,18 @@ loop-c-preserved c = (
     c.if-n-k.false,
   )) c.loop-c.invariant.1 _
       c.moved_word.ensures c.loop-c-test.true _ _
-      c.in-Next.is,
+      c.in_ok-moved.was,
 )
 
-pub returns-in-Stop : goal.returns-in-Stop
+pub returns-in_err-moved : goal.returns-in_err-moved
 unfolding assigned_by
-returns-in-Stop c =
-    run_stop _ _ _ _ _ (c.loop-c.invariant.3.long ∙ turn_many _ _ _ _ _ _ _
+returns-in_err-moved c =
+    rw c.from_residual.ensures (run_stop _ _ _ _ _ (c.loop-c.invariant.3.long ∙ turn_many _ _ _ _ _ _ _
     c.requires.0)
     (run_stops _ _ _ _ _ _ _ c.requires.0 _ _ _ c.loop-c.invariant.3 (omega
     (arith, c.if-n-k.false)) c.loop-c.invariant.1 _
     c.moved_word.ensures c.loop-c-test.true
-    c.in-Stop.is)
+    c.in_err-moved.was))
 
 pub returns : goal.returns
 returns c =

@@ -3,10 +3,10 @@ use mathlib.Core.Path.{refl}
 use Rattle.group.specs.HowWords.{stored_step}
 use Rattle.group.proofs.changes.store_word.Goals as goal
 
-pub returns-in-Next : goal.returns-in-Next
+pub returns : goal.returns
 unfolding stored_step
-returns-in-Next c = rw c.in-Next.is (record { told = refl; left = refl })
+returns c = rw c.in_ok-v.was (record { told = refl; left = refl })
 
-pub returns-in-Stop : goal.returns-in-Stop
+pub returns-in_err-v : goal.returns-in_err-v
 unfolding stored_step
-returns-in-Stop c = rw c.in-Stop.is (record { told = refl; left = refl })
+returns-in_err-v c = rw (c.in_err-v.was, c.from_residual.ensures) (record { told = refl; left = refl })

@@ -9,23 +9,21 @@ use Rattle.group.specs.HowHalves.{both_of}
 use Rattle.group.proofs.Both.{half_fits, half_reach}
 use Rattle.group.proofs.halves.change_word.Goals as goal
 
-pub right_half-requires : goal.right_half-requires
-right_half-requires c =
+pub half-requires-2 : goal.half-requires-2
+half-requires-2 c =
     let a = c.args in
     let k = assigned_by a.s a.lists.now in
-    let e = sym c.left_half.ensures ∙ c.in-Next.is in
+    let e = sym c.half.ensures ∙ c.in_ok-v.was in
     record {
       lists = c.requires.lists;
       word = half_fits k Left a.w a.c _ _ c.requires.word e;
       near = rw (half_reach k Left a.w a.c _ _ e) (omega (arith, past_left a.c (field_of Left a.w), c.requires.near));
     }
 
-pub returns-in-Next : goal.returns-in-Next
+pub returns : goal.returns
 unfolding both_of
-returns-in-Next c =
-    rw (sym c.left_half.ensures, c.in-Next.is)
-    c.right_half.ensures
+returns c = rw (sym c.half.ensures, c.in_ok-v.was) c.half-2.ensures
 
-pub returns-in-Stop : goal.returns-in-Stop
+pub returns-in_err-v : goal.returns-in_err-v
 unfolding both_of
-returns-in-Stop c = rw (sym c.left_half.ensures, c.in-Stop.is)
+returns-in_err-v c = rw (c.from_residual.ensures, sym c.half.ensures, c.in_err-v.was)

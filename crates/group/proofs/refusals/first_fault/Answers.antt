@@ -30,21 +30,21 @@ pub loop-k-preserved : goal.loop-k-preserved
 loop-k-preserved c =
     rw c.pass_word-c.ensures (look_on _ _ _ _ _ c.requires _ _ c.loop-k.invariant
     c.loop-k-test.true _ c.refill-full.ensures _
-    (rw (← c.place-bit.ensures) c.word_step.ensures) _ c.in-Word.is)
+    (rw (← c.place-bit.ensures) c.word_step.ensures) _ c.in-Ok.is)
 
 pub further-requires : goal.further-requires
 further-requires c =
     let p = c.requires in
     let h = c.loop-k-test.true in
     let w = look_word _ _ _ _ _ p _ _ c.loop-k.invariant h _ c.refill-full.ensures _
-    (rw (← c.place-bit.ensures) c.word_step.ensures) _ c.in-Refused.is in
+    (rw (← c.place-bit.ensures) c.word_step.ensures) _ c.in-Err.is in
     omega (arith, w, h, p.program, p.few)
 
-pub returns-in-Refused : goal.returns-in-Refused
-returns-in-Refused c =
+pub returns-in-Err : goal.returns-in-Err
+returns-in-Err c =
     rw c.further.ensures (look_stops _ _ _ _ _ c.requires _ _ c.loop-k.invariant
     c.loop-k-test.true _ c.refill-full.ensures _
-    (rw (← c.place-bit.ensures) c.word_step.ensures) _ c.in-Refused.is)
+    (rw (← c.place-bit.ensures) c.word_step.ensures) _ c.in-Err.is)
 
 pub returns : goal.returns
 returns c = looks_end _ _ _ _ _ c.loop-k.invariant c.loop-k-test.false

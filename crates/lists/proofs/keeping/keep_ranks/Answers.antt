@@ -4,24 +4,24 @@ use Rattle.std.proofs.Common.{sym, ap, ◌∙◌, arith}
 use Rattle.lists.specs.HowKeep.{ranked}
 use Rattle.lists.proofs.Lent.{lent_length}
 use Rattle.lists.proofs.Ranking.{ranking_below, ranking_kept, ranking_full}
+use Rattle.lists.proofs.keeping.keep_ranks.Goals.{then-words-tables, else-words-tables}
 use Rattle.lists.proofs.keeping.keep_ranks.Goals as goal
-
-pub rank_words-requires : goal.rank_words-requires
-rank_words-requires c = ranking_below _ _ c.args.ranks.now c.requires _ c.requires.ranks
-
-pub returns-then-words-tables : goal.returns-then-words-tables
-returns-then-words-tables c = c.rank_words.ensures ∙ ranking_full _ _ _ c.requires (c.if-words-tables.true ∙ sym (lent_length c.args.tables.now))
 
 pub away_ranks-requires : goal.away_ranks-requires
 away_ranks-requires c =
     let n = lent_length c.args.tables.now in
     (c.requires.room, omega (arith, c.requires.ranks))
 
-pub rank_words-requires-2 : goal.rank_words-requires-2
-rank_words-requires-2 c = ranking_below _ _ c.args.ranks.now c.requires _ (omega (arith, c.requires.ranks))
+pub rank_words-requires : goal.rank_words-requires
+rank_words-requires c = ranking_below _ _ c.args.ranks.now c.requires _ (omega (arith, c.requires.ranks))
 
 pub returns : goal.returns
 returns c =
-    c.rank_words-2.ensures
-    ∙ ap (ranked 0 c.args.words.now) c.away_ranks.ensures
-    ∙ ranking_kept _ _ _ c.requires
+    c.rank_words.ensures
+    ∙ elim c.if-words-tables.branch [
+      | then-words-tables w ↦
+          ap (ranked 0 c.args.words.now) (w.ranks-is ∙ w.away_ranks.ensures) ∙ ranking_kept _ _ _ c.requires
+      | else-words-tables w ↦
+          ap (ranked 0 c.args.words.now) w.ranks-is
+          ∙ ranking_full _ _ _ c.requires (w.if-words-tables.false ∙ sym (lent_length c.args.tables.now))
+    ]

@@ -15,6 +15,6 @@ pub returns-then-k-g : goal.returns-then-k-g
 unfolding io_numbers ios_in range
 returns-then-k-g c = c.io_number.ensures ∙ sym (numbers-at _ _ _ c.if-k-g.true)
 
-pub returns : goal.returns
+pub returns-else-k-g : goal.returns-else-k-g
 unfolding io_numbers
-returns c = sym (numbers_past _ _ _ c.if-k-g.false)
+returns-else-k-g c = sym (numbers_past _ _ _ c.if-k-g.false)

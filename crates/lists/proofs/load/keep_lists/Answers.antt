@@ -1,5 +1,5 @@
 -- `lists::load::keep_lists` meets its contract: the parts are written one after the other (`lists_written`).
-use Rattle.std.proofs.Common.{ℕ, ◌+◌, ◌/◌, List, length, ap, ◌∙◌, arith}
+use Rattle.std.proofs.Common.{◌≡◌, ℕ, ◌+◌, ◌/◌, List, length, ap, ◌∙◌, arith}
 use Rattle.lists.specs.HowKeep.{fours_kept}
 use Rattle.lists.specs.Obey.{tables_of}
 use Rattle.lists.proofs.Keep.{lists_obey_lem, tables_ranking}
@@ -32,9 +32,10 @@ pub returns : goal.returns
 returns c =
     let ios = c.args.ios.now in
     let o = lists_obey_lem c.args.area ios c.args.tables.now c.requires.obey in
+    let n : c.div_ceil.result ≡ (length ios + 3) / 4 = omega arith in
     lists_written c.args.area ios c.args.tables.now c.args.lists.now c.requires.small c.requires.obey
     c.requires.long _ _ _ _ _ c.requires.words
     (ap (λ (l : List ℕ). fours_kept l ((length ios + 3) / 4))
     c.copy_in.ensures ∙ filled_fours 128 ios o.ios_few)
-    c.keep_numbers.ensures
+    (rw n at c.keep_numbers.ensures)
     c.copy_in-2.ensures c.keep_ranks.ensures

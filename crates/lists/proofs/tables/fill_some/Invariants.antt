@@ -1,16 +1,11 @@
 -- `lists::tables::fill_some` meets its contract: at every turn what is written and the words of the tables that are left are all of
 -- them.
-use Rattle.std.proofs.Common.{◌≡◌, ◌-◌, ◌/◌, ◌≤◌, ◌++◌, length, take, drop}
+use Rattle.std.proofs.Common.{◌≡◌, ◌≤◌, ◌++◌, take, drop}
 use Rattle.lists.specs.Obey.{tables_of}
 use Rattle.lists.specs.HowKeep.{words_from}
 use Rattle.lists.proofs.tables.fill_some.Given as goal
 
 abbrev pub invariant-loop-k : goal.invariant-loop-k
-invariant-loop-k l = (l.k ≤ length l.tables / 2)
-    × (l.n ≤ l.k)
-    × (length l.words ≡ length l.initial.words)
+invariant-loop-k l = (l.n ≤ l.k)
     × (words_from 0 (tables_of l.tables) ≡ take l.n l.words ++ words_from l.k (drop l.k (tables_of l.tables)))
     × (drop l.n l.words ≡ drop l.n l.initial.words)
-
-abbrev pub decreases-loop-k : goal.decreases-loop-k
-decreases-loop-k l = length l.tables / 2 - l.k
