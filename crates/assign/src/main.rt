@@ -36,7 +36,8 @@ const USAGE: &str = "usage: assign BOOK <FILE";
 fn say_list(rt: &impl Print, text: &str, list: &[u64]) -> io::Result<()> {
     print!(rt; "{text}")?;
     for n in list {
-        print!(rt; " {n}")?;
+        print!(rt; " ")?;
+        print!(rt; "{n}")?;
     }
     println!(rt)
 }
@@ -85,7 +86,7 @@ fn say_lists(
             say_list(rt, "io", io)?;
             say_list(rt, "tables", tables)
         }
-        Err(f) => println!(rt; "refused {}", f.number),
+        Err(f) => console::say_line(rt, "refused ", f.number),
     }
 }
 
@@ -147,7 +148,8 @@ fn assign_input(rt: &(impl io::Input + Print), book: &[u8]) -> io::Result<()> {
 fn assign_named(rt: &(impl Files + io::Input + Print), name: &[u8]) -> io::Result<()> {
     let mut book = [0u8; BOOK_ROOM];
     let Some(n) = console::read_file(rt, name, &mut book) else {
-        print!(rt; "{USAGE}; cannot read ")?;
+        print!(rt; "{USAGE}")?;
+        print!(rt; "; cannot read ")?;
         rt.write_all(name)?;
         return println!(rt);
     };
@@ -165,7 +167,8 @@ fn has_argument(rt: &impl Env, i: usize) -> bool {
 // Argument 0 is the program's own name. A name that is longer than any path is taken for an empty one, which no file has.
 fn main(rt: HostRuntime) -> io::Result<()> {
     if !has_argument(&rt, 1) || has_argument(&rt, 2) {
-        return println!(rt; "{USAGE}");
+        print!(rt; "{USAGE}")?;
+        return println!(rt);
     }
     let mut name = [0u8; NAME_ROOM];
     let n = rt.arg(1, &mut name).unwrap_or(0);

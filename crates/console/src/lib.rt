@@ -2,7 +2,7 @@
 // name. A function that prints answers an error where not all of it was written.
 #![tactic(auto)]
 
-ghost use Rattle.std.specs.Prelude.{◌≡◌, length};
+ghost use Rattle.std.specs.Prelude.{◌≡◌, ◌≤◌, length, IfOk, IfErr};
 ghost use Rattle.word.specs.Limits.{words_in_block};
 
 use std::io::Read;
@@ -15,6 +15,13 @@ pub enum Input {
     End,
     Block,
     Bad,
+}
+
+// The end of a line, a text and a number: a write for each, and one for the newline.
+pub fn say_line(rt: &impl Print, text: &str, n: u64) -> io::Result<()> {
+    print!(rt; "{text}")?;
+    print!(rt; "{n}")?;
+    println!(rt)
 }
 
 // What every program says of a bad line or a part of a block.
@@ -41,8 +48,12 @@ pub fn read_block(rt: &impl io::Input, block: &mut [u64]) -> Input
     }
 }
 
-// Reads until there is no more room, the input ends or a read fails. How many bytes came: an error, if a read failed.
-fn read_full(from: &mut impl Read, bytes: &mut [u8]) -> Result<usize, usize> {
+// Reads until there is no more room, the input ends or a read fails. How many bytes came, no more than there is room for: an error, if
+// a read failed.
+fn read_full(from: &mut impl Read, bytes: &mut [u8]) -> Result<usize, usize>
+    ensures read { IfOk result (λ n. n ≤ length bytes.new) }
+    ensures failed { IfErr result (λ n. n ≤ length bytes.new) }
+{
     let mut n: usize = 0;
     // Stays a while loop: each read says how far it came.
     while n < bytes.len() {

@@ -50,7 +50,7 @@ fn holders_fit(desk: &[u64]) -> bool
 
 // Whether each held place is in order, and no two held areas share a word. Stretches share none, so that only areas of the same
 // room can; and no room holds over two places, so that an area is compared with the last one of its room. That place is held as one
-// more than its number, 0 for none: the pass is in every call, and an Option would take two numbers for each room.
+// more than its number, 0 for none; an Option in its place was not tried.
 fn places_fit(desk: &[u64], held: &[usize]) -> bool
     requires { HeldNamed desk.now held.now }
     ensures { result ≡ places_fit desk.now }

@@ -18,12 +18,14 @@ const TABLES_UNIT: u64 = 1 << 10;
 
 const BLOCKS_UNIT: u64 = 1 << 20;
 
-// A label that is lent alone.
+// A label that is lent alone. Stays a match: with `?` the verdict has room of its own on the stack of needs and assign, 80 bytes.
 pub fn read_label_block(block: &[u64]) -> Result<Label, Fault>
     ensures { result ≡ label_block block.now }
 {
-    block::check_block(block, Record::Label)?;
-    label::read_label(block)
+    match block::check_block(block, Record::Label) {
+        Ok(()) => label::read_label(block),
+        Err(f) => Err(f),
+    }
 }
 
 // The label of a front whose blocks are all there and right, or the first fault.

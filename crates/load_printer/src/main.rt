@@ -3,7 +3,7 @@
 #![tactic(auto)]
 
 use calls::Answer;
-use console::{Input, read_block};
+use console::{Input, read_block, say_line};
 use layout::DESK_WORDS;
 use std::io;
 use word::limits::MAP_WORDS;
@@ -18,11 +18,12 @@ const AREA_WORDS: u64 = 64;
 
 // The block's index and what feed answers; the other answers are of the other calls.
 fn say_answer(rt: &impl Print, index: u64, a: Answer) -> io::Result<()> {
+    print!(rt; "{index}")?;
     match a {
-        Answer::More => println!(rt; "{index} more"),
-        Answer::Done(start) => println!(rt; "{index} done {}", start.0),
-        Answer::Refused(f) => println!(rt; "{index} refused {}", f.number),
-        _ => println!(rt; "{index}"),
+        Answer::More => println!(rt; " more"),
+        Answer::Done(start) => say_line(rt, " done ", start.0),
+        Answer::Refused(f) => say_line(rt, " refused ", f.number),
+        _ => println!(rt),
     }
 }
 

@@ -19,7 +19,8 @@ fn reseal_block(rt: &impl Print, words: &mut [u64], index: u64) -> io::Result<bo
             Ok(true)
         }
         Err(f) => {
-            println!(rt; "{index} refused {}", f.number)?;
+            print!(rt; "{index}")?;
+            console::say_line(rt, " refused ", f.number)?;
             Ok(false)
         }
     }

@@ -52,7 +52,7 @@ pub fn fair(holders: &[u64]) -> bool
 {
     let mut n = [0u64; ROOMS];
     let mut seconds: u64 = 0;
-    // Stays a while loop: tried as a for, this one and the other, the test of a desk took 337 instructions, and takes 266.
+    // Stays a while loop: as a for, this one and the other, the test of a desk took more (docs/DESIGN-PASS.md, "Still to do").
     let mut i: usize = 0;
     while i < holders.len() {
         let h = holders[i];
@@ -80,7 +80,7 @@ pub fn held_places(holders: &[u64], out: &mut [usize]) -> usize
         × (out.new ≡ splice out.old 0 (held_places 0 holders.now)) }
 {
     let mut n: usize = 0;
-    // Stays a while loop: tried as a for, this one and the other, the test of a desk took 337 instructions, and takes 266.
+    // Stays a while loop: as a for, this one and the other, the test of a desk took more (docs/DESIGN-PASS.md, "Still to do").
     let mut i: usize = 0;
     while i < holders.len() {
         let h = holders[i];
@@ -129,10 +129,13 @@ fn tally(holders: &[u64]) -> [u64; SLOTS]
     n
 }
 
-// How often x stands among the numbers.
-#[tactic(auto, using(crate::proofs::Count::count_is))]
+// How often x stands among the numbers. A loop: `filter(..).count()` took open some 150 to 300 instructions more.
 fn how_many(numbers: &[u64], x: u64) -> u64
     ensures { result ≡ count x numbers.now }
 {
-    numbers.iter().filter(|&&n| n == x).count() as u64
+    let mut n: u64 = 0;
+    for &a in numbers {
+        n += u64::from(a == x);
+    }
+    n
 }

@@ -10,7 +10,7 @@ use word::{Fault, Reference};
 
 // What stands at a place of a program block leads to what is due at another place; past the last section's last group, with the IBANK
 // where the start must lie; or to a fault, whose word counts from that place. What the three hold is numbers at the same offsets, so
-// that the compiler keeps each in one register. Stays with a fault of its own: in a Result round it they stand at other offsets.
+// that the compiler keeps each in one register. Stays with a fault of its own; a Result round it was not tried.
 #[derive(Clone, Copy)]
 pub enum Item {
     Go(LabelCounts, Due, usize),
@@ -19,7 +19,7 @@ pub enum Item {
 }
 
 // The same, with the commonest case apart: after a group that is not its section's last, what was due is due again. So nothing but
-// the place is handed round the loop from group to group. Stays with a fault of its own, for the same offsets.
+// the place is handed round the loop from group to group. Stays with a fault of its own, as `Item`.
 #[derive(Clone, Copy)]
 pub enum Turn {
     Same(usize),

@@ -5,11 +5,11 @@ use mathlib.Core.Bool.{Bool, true, false}
 use mathlib.Core.List.{List, ◌++◌, append_assoc, append-nil, [], ◌∷◌}
 use native.Mathlib.Omega.{arith}
 use native.Mathlib.Numerals.{add-one}
-use native.Mathlib.Nat.{zero-add, add-sub_of_le, add-sub_cancel_left}
+use native.Mathlib.Nat.{zero-add, add-zero, add-sub_of_le, add-sub_cancel_left}
 use lib.ListN.{length, length-take, set, get_or, take, drop, length-drop, take-append-drop, drop_of_length-le, length-append}
 use lib.ListN.{get_or-append}
 use lib.Seq.{paste, paste-zero, paste-suc, length-paste, drop-paste, drop-cons, drop-length, take-length, take_at, drop_at}
-use lib.Seq.{take-append-le, drop-append-le, length-take-le, drop-drop, get_or-take, get_or-drop, get_or_at}
+use lib.Seq.{take-add, take-paste, take-append-le, drop-append-le, length-take-le, drop-drop, get_or-take, get_or-drop, get_or_at}
 use lib.Seq.{take_all, ext_get_or}
 use lib.Seq.{set_split, append_snoc}
 use Rattle.word.proofs.Cases.{by-lt}
@@ -246,3 +246,32 @@ copied_next l s i e v h k w q = rw zero-add at (copied_more l 0 s i e v (omega a
 pub copied_all : (l : List ℕ) (a : ℕ) (s : List ℕ) (i : ℕ) (e : List ℕ) → length s ≡ i → e ≡ copied l a s i → e ≡ splice l a s
 unfolding copied splice
 copied_all l a s i e h q = rw (q, ← h)
+
+-- a stretch of s number by number, to the same places of l
+module _ (l s : List ℕ) (a n : ℕ) (into : a + n ≤ length l) (from : a + n ≤ length s) where
+  pub copied_at : (k : ℕ) (e : List ℕ) → k < n → e ≡ copied l a (range s a n) k
+      → set e (a + k) (get_or s (a + k) 0) ≡ copied l a (range s a n) (k + 1)
+  copied_at k e h q =
+      let r = length-range s a n from in
+      copied_more l a (range s a n) k e _ (omega arith) (omega arith) (sym (get_d_range s a n k h)) q
+
+  pub copied-first : 0 < n → set l a (get_or s a 0) ≡ copied l a (range s a n) 1
+  copied-first h = rw (add-zero a) at (copied_at 0 l h (copied_none l a (range s a n)))
+
+  -- what was alike up to the stretch is alike past it
+  pub alike_more : take a l ≡ take a s → take (a + n) (splice l a (range s a n)) ≡ take (a + n) s
+  unfolding splice range
+  alike_more q =
+      let r : length (range s a n) ≡ n = length-range s a n from in
+      rw r
+      (take-paste l a (range s a n) n (omega arith) (omega arith) ∙ rw (take-add a n s, q, take_all n (range s a n) (omega arith)))
+
+pub alike_all : (l s : List ℕ) (a : ℕ) → a ≤ length s → length l ≡ length s → take a l ≡ take a s
+    → splice l a (range s a (length s - a)) ≡ s
+alike_all l s a h e q =
+    let n = length s - a in
+    let r : length (range s a n) ≡ n = length-range s a n (omega arith) in
+    let w : length (splice l a (range s a n)) ≡ length l = length-splice l a (range s a n) (omega arith) in
+    sym (take_all (a + n) (splice l a (range s a n)) (omega arith))
+    ∙ alike_more l s a n (omega arith) (omega arith) q
+    ∙ take_all (a + n) s (omega arith)

@@ -12,12 +12,12 @@ pub fn copy_in(dst: &mut [u64], a: usize, src: &[u64])
     }
 }
 
-// All numbers of src, in dst, which is as long.
+// All numbers of src, in dst, which is as long. A loop too: `copy_from_slice` would have the archive ask its host for memmove.
 pub fn copy_whole(dst: &mut [u64], src: &[u64])
     requires { length dst.old ≡ length src.now }
     ensures { dst.new ≡ src.now }
 {
-    dst.copy_from_slice(src);
+    copy_in(dst, 0, src);
 }
 
 // n zeros, in dst from place a on.

@@ -6,12 +6,12 @@ use Rattle.front.proofs.Blocks.{passed_long}
 use Rattle.front.proofs.read_label_block.Goals as goal
 
 pub read_label-requires : goal.read_label-requires
-read_label-requires c = passed_long _ _ (sym c.check_block.ensures ∙ c.in_ok-check_block.was)
+read_label-requires c = passed_long _ _ (sym c.check_block.ensures ∙ c.in-Ok.is)
 
-pub returns-in_err-check_block : goal.returns-in_err-check_block
+pub returns-in-Err : goal.returns-in-Err
 unfolding label_block
-returns-in_err-check_block c = search rules
+returns-in-Err c = search rules
 
-pub returns : goal.returns
+pub returns-in-Ok : goal.returns-in-Ok
 unfolding label_block
-returns c = search rules
+returns-in-Ok c = search rules
