@@ -79,7 +79,7 @@
    loads, and bring both back together: a load that goes on over another core ends in another image, and no call can tell. A desk
    is for the library that made it: save CLAMP_VERSION_STRING beside it.
 
-   Stack. Measured, the most of many calls: 6,432 bytes in assign, 2,736 in open, 840 in feed, 400 in release, 160 in needs, 128 in
+   Stack. Measured, the most of many calls: 6,432 bytes in assign, 2,688 in open, 840 in feed, 400 in release, 160 in needs, 128 in
    make, 16 in reseal (docs/PERFORMANCE.md). The tests fail where assign takes over 8,192, open over 3,072 or another call over
    1,024. The first call that copies or clears memory may take some 3 KB more, where the dynamic linker then looks for memcpy or
    memset. No call is recursive.

@@ -1,7 +1,6 @@
 -- `rooms::how_many` meets its contract: after so many turns n counts the numbers before.
 use mathlib.Core.Path.{refl, ◌∙◌, ap}
 use native.Mathlib.Omega.{arith}
-use lib.ListN.{get_or}
 use lib.Seq.{take_all}
 use Rattle.rooms.specs.Rooms.{count, hit}
 use Rattle.rooms.proofs.Count.{count-take, count-take_most}
